@@ -1,0 +1,10 @@
+pub mod Sets
+pub mod Change
+pub mod Keep
+pub mod ChangeOrder
+pub mod Sync
+pub mod Check
+pub mod Rows
+pub mod Delta
+pub mod Present
+pub mod Profile
