@@ -32,8 +32,8 @@ fn cmp_lowercase(a: &[u8], b: &[u8]) -> Ordering
     a.len().cmp(&b.len())
 }
 
-/// The bytes from the first on that is no space.
-pub fn without_leading_spaces(mut text: &[u8]) -> &[u8]
+// The bytes from the first on that is no space.
+pub(crate) fn without_leading_spaces(mut text: &[u8]) -> &[u8]
     ensures { result.now ≡ without_leading_spaces text.entry.now }
 {
     while let [b' ', rest @ ..] = text {
