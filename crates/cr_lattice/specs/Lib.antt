@@ -1,8 +1,10 @@
 pub mod Sets
 pub mod Change
 pub mod Keep
+pub mod Merge
 pub mod ChangeOrder
 pub mod Sync
+pub mod Faults
 pub mod Check
 pub mod Rows
 pub mod Delta

@@ -12,11 +12,15 @@ use std::marker::Model;
 #[derive(Debug, Drop)]
 pub struct ColumnDef {
     pub name: Text,
+    /// What the column makes of a value, by its declared type ("Datatypes In SQLite", "Type Affinity").
     pub affinity: Affinity,
+    /// The name of the collation by which the column compares, folded to lower case.
     pub collation: Text,
+    /// Whether the column wants a value: a NULL that is kept for it shows as the default.
     pub not_null: bool,
-    /// The place in the primary key, from 1.
+    /// The place in the primary key, from 1; `None` outside the key.
     pub key: Option<u8>,
+    /// The DEFAULT before or after the affinity, which shows it alike; NULL where there is none.
     pub default: Value,
 }
 
@@ -49,18 +53,21 @@ impl<T> Model for Items<T> {
 }
 
 impl<T> Items<T> {
+    /// The items of a `Vec`.
     pub fn new(items: Vec<T>) -> Items<T>
         ensures { result ≡ items.items }
     {
         Items { items }
     }
 
+    /// The items, in place.
     pub fn as_slice(&self) -> &[T]
         ensures { result.now ≡ self.now }
     {
         self.items.as_slice()
     }
 
+    /// The items as a `Vec`, which takes no memory.
     pub fn into_vec(self) -> Vec<T>
         ensures { result.items ≡ self }
     {
@@ -68,15 +75,28 @@ impl<T> Items<T> {
     }
 }
 
-/// A table.
+/// The values of a row, in the order of the columns.
+pub type Row = Items<Value>;
+
+impl Items<Value> {
+    /// The same row in memory of its own.
+    pub fn copy(&self, alloc: Global) -> Result<Row, AllocError>
+        ensures { IfOk result (λ r. r ≡ self.now) }
+    {
+        let mut values = Vec::new(alloc);
+        for value in self.as_slice() {
+            values.push(value.copy(alloc)?)?;
+        }
+        Ok(Items::new(values))
+    }
+}
+
+/// The definition of a table: its name and its columns, in their order.
 #[derive(Debug, Drop)]
 pub struct TableDef {
     pub name: Text,
     pub columns: Items<ColumnDef>,
 }
-
-/// The values of a row, in the order of the columns.
-pub type Row = Items<Value>;
 
 impl TableDef {
     /// The same definition in memory of its own.

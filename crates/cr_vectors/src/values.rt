@@ -1,6 +1,9 @@
 //! Values: affinities, casts, collations, literals and packed keys. The answers are the format's vectors, and, where
 //! the rules are SQLite's, those of SQLite 3.40.
 
+ghost use Rattle.std.specs.Prelude.{IfOk};
+ghost use Rattle.cr_value.specs.Packing.{IsNotNull};
+
 use cr_value::affinity::{Affinity, int_of_text};
 use cr_value::cast::{CastError, CastTo, cast, integer_prefix};
 use cr_value::collation::Collation;
@@ -13,11 +16,15 @@ use std::alloc::{AllocError, Global};
 use std::cmp::Ordering;
 use std::test::Fail;
 
-fn text(alloc: Global, s: &str) -> Result<Value, AllocError> {
+fn text(alloc: Global, s: &str) -> Result<Value, AllocError>
+    ensures { IfOk result IsNotNull }
+{
     Ok(Value::Text(Text::from_str(alloc, s)?))
 }
 
-fn blob(alloc: Global, bytes: &[u8]) -> Result<Value, AllocError> {
+fn blob(alloc: Global, bytes: &[u8]) -> Result<Value, AllocError>
+    ensures { IfOk result IsNotNull }
+{
     Ok(Value::Blob(Bytes::from_slice(alloc, bytes)?))
 }
 

@@ -1,0 +1,54 @@
+//! The names that a statement can use.
+
+ghost use Rattle.std.specs.Prelude.{◌≡◌, IfOk};
+
+use crate::change::Site;
+use crate::table::{Items, Table, TableDef};
+use std::alloc::{AllocError, Global};
+
+/// What a replica offers to a statement.
+#[derive(Debug, Drop)]
+pub struct Catalog {
+    /// The tables of the replica's store.
+    pub tables: Items<Table>,
+    /// The name and the columns of each module.
+    pub modules: Items<TableDef>,
+    /// The replica's own site.
+    pub site: Site,
+    /// The version of the replica's last commit that changed a kept change, 0 before the first.
+    pub db_version: i64,
+}
+
+fn copy_tables(alloc: Global, tables: &[Table]) -> Result<Items<Table>, AllocError>
+    ensures { IfOk result (λ ts. ts ≡ tables.now) }
+{
+    let mut copies = Vec::new(alloc);
+    for table in tables {
+        copies.push(table.copy(alloc)?)?;
+    }
+    Ok(Items::new(copies))
+}
+
+fn copy_definitions(alloc: Global, definitions: &[TableDef]) -> Result<Items<TableDef>, AllocError>
+    ensures { IfOk result (λ ds. ds ≡ definitions.now) }
+{
+    let mut copies = Vec::new(alloc);
+    for definition in definitions {
+        copies.push(definition.copy(alloc)?)?;
+    }
+    Ok(Items::new(copies))
+}
+
+impl Catalog {
+    /// The same catalog in memory of its own.
+    pub fn copy(&self, alloc: Global) -> Result<Catalog, AllocError>
+        ensures { IfOk result (λ c. c ≡ self.now) }
+    {
+        Ok(Catalog {
+            tables: copy_tables(alloc, self.tables.as_slice())?,
+            modules: copy_definitions(alloc, self.modules.as_slice())?,
+            site: self.site,
+            db_version: self.db_version,
+        })
+    }
+}

@@ -1,0 +1,215 @@
+//! Which definitions of tables are accepted. The rules are this project's own profile of SQLite's CREATE TABLE.
+
+ghost use Rattle.std.specs.Prelude.{◌≡◌, ℕ, ◌||◌, ◌==◌, nat_eq, None, Some, count_by, length, position, MatchResult, IfSome, IfNone};
+ghost use Rattle.std.specs.List.{list_any};
+ghost use Rattle.std.specs.Option.{is_some};
+ghost use Rattle.cr_value.specs.declared.value.Value.TheVariants.{Text};
+ghost use Rattle.cr_value.specs.Affinity.{int_of_text};
+ghost use Rattle.cr_lattice.specs.Check.{same_bytes, is_null, stands_at};
+ghost use Rattle.cr_lattice.specs.Profile.{key_count, has_key, is_collated_key, is_named_row, has_row_cid, is_too_long, is_default_too_long, is_reserved, profile_fault, HasDistinctNames, IsFirstRepeat, lacks_default};
+
+use crate::check::{key_len, same_bytes, stands_at};
+use crate::order::ROW_CID;
+use crate::table::{ColumnDef, TableDef};
+use cr_value::affinity::Affinity;
+use cr_value::packing::SIZE_LIMIT;
+use cr_value::value::Value;
+
+/// The greatest number of columns of a table.
+pub const COLUMN_LIMIT: usize = 100;
+
+/// The greatest number of columns of a table's key.
+pub const KEY_COLUMN_LIMIT: usize = 8;
+
+/// The collation that compares texts byte by byte, which every key column has.
+pub const BINARY: &str = "binary";
+
+// A text or a blob that is packed alone stands after the count of values, its tag and its length in four bytes.
+const LONGEST_IN_KEY: usize = SIZE_LIMIT - 6;
+
+/// The first rule that a definition breaks, in the order in which the rules are tested.
+#[derive(Clone, Copy, Debug, PartialEq, Eq)]
+pub enum ProfileFault {
+    /// No column is in the key, or the places in the key are not 1 up to their number, each once.
+    PrimaryKey,
+    /// A key column has another collation than `binary`.
+    Collation,
+    /// A column has the name `-1`, which speaks of the row itself.
+    RowCid,
+    /// A default, after the column's affinity, makes a packed key of over 1,000,000 bytes.
+    Default,
+    /// There are over 100 columns.
+    Columns,
+    /// There are over 8 key columns.
+    KeyColumns,
+    /// The table's name is empty, or begins with `sqlite_` or `crsql_`.
+    Name,
+}
+
+fn count_at(columns: &[ColumnDef], place: usize) -> usize
+    ensures { result ≡ count_by (stands_at place) columns.now }
+{
+    columns
+        .iter()
+        .filter(|column| stands_at(place, column))
+        .count()
+}
+
+#[tactic(auto, unfolding(crate::specs::Profile::has_key))]
+fn has_key(def: &TableDef) -> bool
+    ensures { result ≡ has_key def.now }
+{
+    let columns = def.columns.as_slice();
+    let count = key_len(columns);
+    for before in 0..count {
+        if count_at(columns, before + 1) != 1 {
+            return false;
+        }
+    }
+    count > 0
+}
+
+fn is_collated_key(column: &ColumnDef) -> bool
+    ensures { result ≡ is_collated_key column.now }
+{
+    column.key.is_some() && !same_bytes(column.collation.as_str().as_bytes(), BINARY.as_bytes())
+}
+
+fn has_collated_key(columns: &[ColumnDef]) -> bool
+    ensures { result ≡ list_any is_collated_key columns.now }
+{
+    columns.iter().any(|column| is_collated_key(column))
+}
+
+fn is_named_row(column: &ColumnDef) -> bool
+    ensures { result ≡ is_named_row column.now }
+{
+    same_bytes(column.name.as_str().as_bytes(), ROW_CID.as_bytes())
+}
+
+fn has_named_row(columns: &[ColumnDef]) -> bool
+    ensures { result ≡ list_any is_named_row columns.now }
+{
+    columns.iter().any(|column| is_named_row(column))
+}
+
+// Whether an affinity for integers makes an integer of the text.
+fn is_integer(text: &str) -> bool
+    ensures { result ≡ is_some (int_of_text text.now) }
+{
+    text.parse::<i64>().is_ok()
+}
+
+fn is_text_too_long(affinity: Affinity, text: &str) -> bool
+    ensures { result ≡ is_too_long affinity (Text text.now) }
+{
+    match affinity {
+        Affinity::Integer | Affinity::Numeric => text.len() > LONGEST_IN_KEY && !is_integer(text),
+        Affinity::Text | Affinity::Blob => text.len() > LONGEST_IN_KEY,
+    }
+}
+
+fn is_default_too_long(column: &ColumnDef) -> bool
+    ensures { result ≡ is_default_too_long column.now }
+{
+    match &column.default {
+        Value::Null => false,
+        // An integer of 64 bits has 19 digits at most.
+        Value::Int(number) => {
+            let _number = *number;
+            false
+        }
+        Value::Text(text) => is_text_too_long(column.affinity, text.as_str()),
+        Value::Blob(blob) => blob.as_slice().len() > LONGEST_IN_KEY,
+    }
+}
+
+fn has_default_too_long(columns: &[ColumnDef]) -> bool
+    ensures { result ≡ list_any is_default_too_long columns.now }
+{
+    columns.iter().any(|column| is_default_too_long(column))
+}
+
+fn is_reserved(name: &[u8]) -> bool
+    ensures { result ≡ is_reserved name.now }
+{
+    name.is_empty() || name.starts_with(b"sqlite_") || name.starts_with(b"crsql_")
+}
+
+/// Whether a definition is accepted, or the first rule that it breaks. Whether its names are folded is the caller's.
+/// Takes no memory.
+#[tactic(auto, unfolding(crate::specs::Profile::profile_fault, crate::specs::Profile::has_row_cid))]
+pub fn profile(def: &TableDef) -> Result<(), ProfileFault>
+    ensures { MatchResult result (λ _. profile_fault def.now ≡ None) (λ fault. profile_fault def.now ≡ Some fault) }
+{
+    let columns = def.columns.as_slice();
+    if !has_key(def) {
+        return Err(ProfileFault::PrimaryKey);
+    }
+    if has_collated_key(columns) {
+        return Err(ProfileFault::Collation);
+    }
+    if has_named_row(columns) {
+        return Err(ProfileFault::RowCid);
+    }
+    if has_default_too_long(columns) {
+        return Err(ProfileFault::Default);
+    }
+    if columns.len() > COLUMN_LIMIT {
+        return Err(ProfileFault::Columns);
+    }
+    if key_len(columns) > KEY_COLUMN_LIMIT {
+        return Err(ProfileFault::KeyColumns);
+    }
+    if is_reserved(def.name.as_str().as_bytes()) {
+        return Err(ProfileFault::Name);
+    }
+    Ok(())
+}
+
+fn has_name(column: &ColumnDef, name: &[u8]) -> bool
+    ensures { result ≡ same_bytes column.now.name name.now }
+{
+    same_bytes(column.name.as_str().as_bytes(), name)
+}
+
+fn some_has_name(columns: &[ColumnDef], name: &[u8]) -> bool
+    ensures { result ≡ list_any (λ c. same_bytes c.name name.now) columns.now }
+{
+    columns.iter().any(|column| has_name(column, name))
+}
+
+/// The place, from 0, of the first column whose name a column before it has; `None` where all names differ.
+/// Takes no memory.
+pub fn duplicate(def: &TableDef) -> Option<usize>
+    ensures repeated { IfSome result (IsFirstRepeat def.now) }
+    ensures distinct { IfNone result (HasDistinctNames def.now) }
+{
+    let columns = def.columns.as_slice();
+    for (i, column) in columns.iter().enumerate() {
+        if some_has_name(&columns[..i], column.name.as_str().as_bytes()) {
+            return Some(i);
+        }
+    }
+    None
+}
+
+fn lacks_default(column: &ColumnDef) -> bool
+    ensures { result ≡ lacks_default column.now }
+{
+    column.key.is_none() && column.not_null && matches!(&column.default, Value::Null)
+}
+
+fn first_without_default(columns: &[ColumnDef]) -> Option<usize>
+    ensures { result ≡ position lacks_default columns.now }
+{
+    columns.iter().position(|column| lacks_default(column))
+}
+
+/// The place, from 0, of the first NOT NULL column outside the key whose default is NULL, which keeps a table from
+/// being replicated; `None` where there is none. Takes no memory.
+pub fn no_default(def: &TableDef) -> Option<usize>
+    ensures { result ≡ position lacks_default def.now.columns }
+{
+    first_without_default(def.columns.as_slice())
+}
