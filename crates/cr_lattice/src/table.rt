@@ -6,6 +6,7 @@ use cr_value::affinity::Affinity;
 use cr_value::text::Text;
 use cr_value::value::Value;
 use std::alloc::{AllocError, Global};
+use std::cmp::Ordering;
 use std::marker::Model;
 
 /// A column of a table.
@@ -130,5 +131,61 @@ impl Table {
             definition: self.definition.copy(alloc)?,
             is_replicated: self.is_replicated,
         })
+    }
+}
+
+impl<T: Ord> PartialEq for Items<T> {
+    ghost use Rattle.std.specs.Ordering.{eq_by_cmp};
+    ghost use Rattle.std.specs.Cmp.{partial_equiv_from_equiv, eq_by_cmp_equiv};
+    ghost use Rattle.std.specs.Cmp.Lexicographic.{slice_cmp};
+    ghost use Rattle.std.proofs.lemmas.Cmp.{lists_total};
+
+    ghost eq = { eq_by_cmp (slice_cmp T.cmp) };
+
+    ghost laws = { partial_equiv_from_equiv (eq_by_cmp_equiv (lists_total T.total)) };
+
+    fn eq(&self, other: &Items<T>) -> bool {
+        self.as_slice().cmp(other.as_slice()).is_eq()
+    }
+}
+
+impl<T: Ord> Eq for Items<T> {
+    ghost use Rattle.std.specs.Cmp.{eq_by_cmp_equiv};
+    ghost use Rattle.std.proofs.lemmas.Cmp.{lists_total};
+
+    ghost laws = { eq_by_cmp_equiv (lists_total T.total) };
+}
+
+impl<T: Ord> PartialOrd for Items<T> {
+    ghost use Rattle.std.specs.Ordering.{as_partial_cmp};
+    ghost use Rattle.std.specs.Cmp.{po};
+    ghost use Rattle.std.specs.Cmp.Lexicographic.{slice_cmp};
+    ghost use Rattle.std.proofs.Common.{refl};
+    ghost use Rattle.std.proofs.lemmas.Cmp.{lists_total};
+
+    ghost partial_cmp = { as_partial_cmp (slice_cmp T.cmp) };
+
+    ghost laws = { po (lists_total T.total) (λ _ _. refl) };
+
+    fn partial_cmp(&self, other: &Items<T>) -> Option<Ordering> {
+        Some(self.as_slice().cmp(other.as_slice()))
+    }
+}
+
+impl<T: Ord> Ord for Items<T> {
+    ghost use Rattle.std.specs.Cmp.Lexicographic.{slice_cmp};
+    ghost use Rattle.std.proofs.Common.{refl};
+    ghost use Rattle.std.proofs.lemmas.Cmp.{lists_total};
+
+    ghost cmp = { slice_cmp T.cmp };
+
+    ghost total = { lists_total T.total };
+
+    ghost matches_partial_cmp = { λ _ _. refl };
+
+    ghost matches_eq = { λ _ _. refl };
+
+    fn cmp(&self, other: &Items<T>) -> Ordering {
+        self.as_slice().cmp(other.as_slice())
     }
 }

@@ -1,0 +1,39 @@
+-- What the calls of a store answer and leave. Source: this project's own.
+use Rattle.std.specs.Prelude.{◌≡◌, ℤ, Bool, true, false, ◌&&◌, List, Option, Result, Ok, Err, MatchResult}
+use Rattle.std.specs.Ordering.{int_eq}
+use Rattle.cr_lattice.specs.declared.change.Change.{Change}
+use Rattle.cr_cells.specs.declared.store.CellsError.{CellsError}
+use Rattle.cr_cells.specs.declared.store.CellsError.TheVariants as error
+use Rattle.cr_cells.specs.declared.store.StoreFault.TheVariants as fault
+use Rattle.cr_cells.specs.Marks.{Mark}
+use Rattle.cr_cells.specs.Holding.{Holding, kept_of}
+use Rattle.cr_cells.specs.Commit.{is_changed, greatest_version, committed}
+
+-- want of memory, or the store refuses the call
+abbrev pub IsRefusal : CellsError → Type 0
+IsRefusal error.Memory = Unit {0}
+IsRefusal (error.Store f) = f ≡ fault.Refused
+IsRefusal error.VersionLimit = ⊥
+
+-- a reading leaves what the store holds, and its answer meets P, or it is refused
+pub record Reads {T : Type 0} (old new : Holding) (answer : Result T CellsError) (P : T → Type 0) : Type 0 where
+  pub same : new ≡ old
+  pub answers : MatchResult answer P IsRefusal
+
+-- a change of the tables leaves what is wanted, or it is refused and changes nothing
+abbrev pub Defines : Holding → Holding → Result (Unit {0}) CellsError → Holding → Type 0
+Defines old new (Ok u) wanted = new ≡ wanted
+Defines old new (Err e) wanted = (new ≡ old) × IsRefusal e
+
+-- the commit would need a version above the greatest
+abbrev pub is_past_limit : Holding → List Change → Bool
+is_past_limit h more = is_changed (kept_of h) more && int_eq h.version greatest_version
+
+-- A commit leaves what is committed, and tells whether the kept changes are others than before. Past the greatest
+-- version, and only there, it is refused for that; refused it changes nothing.
+abbrev pub Commits : Holding → Holding → List Change → Option Mark → Result Bool CellsError → Type 0
+Commits old new more peer (Ok changed) =
+    (new ≡ committed old more peer) × (changed ≡ is_changed (kept_of old) more) × (is_past_limit old more ≡ false)
+Commits old new more peer (Err error.Memory) = new ≡ old
+Commits old new more peer (Err (error.Store f)) = (new ≡ old) × (f ≡ fault.Refused)
+Commits old new more peer (Err error.VersionLimit) = (new ≡ old) × (is_past_limit old more ≡ true)

@@ -1,0 +1,7 @@
+pub mod Holding
+pub mod Tables
+pub mod Marks
+pub mod Commit
+pub mod Calls
+pub mod Plain
+pub mod Advance

@@ -1,0 +1,92 @@
+-- The tables of a store, and which changes are well formed for one of them. Source: this project's own profile.
+use Rattle.std.specs.Prelude.{◌≡◌, ℕ, Bool, true, false, not, ◌&&◌, ◌||◌, nat_lt, List, [], ◌∷◌, ◌++◌, map, find, position, Option, Some, None, is_some}
+use Rattle.std.specs.List.{list_any, list_all, AllByRecursion}
+use Rattle.std.specs.Option.{option_map}
+use Rattle.cr_lattice.specs.declared.change.Change.{Change}
+use Rattle.cr_lattice.specs.declared.check.BadChange.{BadChange}
+use Rattle.cr_lattice.specs.declared.table.ColumnDef.{ColumnDef}
+use Rattle.cr_lattice.specs.declared.table.Table.{Table}
+use Rattle.cr_lattice.specs.declared.table.TableDef.{TableDef}
+use Rattle.cr_lattice.specs.Check.{same_bytes, is_key_column, is_null, fault_of}
+use Rattle.cr_lattice.specs.Profile.{has_key, has_row_cid, HasDistinctNames}
+
+-- ---- definitions
+
+-- no ASCII capital letter
+abbrev pub is_folded : List ℕ → Bool
+is_folded name = list_all (λ b. not (nat_lt 64 b && nat_lt b 91)) name
+
+-- the names of the table, its columns and their collations are folded
+unfoldable pub has_folded_names : TableDef → Bool
+has_folded_names def = is_folded def.name && list_all (λ col. is_folded col.name && is_folded col.collation) def.columns
+
+-- a NOT NULL column outside the key whose default is NULL
+abbrev pub lacks_default : ColumnDef → Bool
+lacks_default col = not (is_key_column col) && (col.not_null && is_null col.default)
+
+-- each column outside the key that wants a value has a default
+unfoldable pub has_defaults : TableDef → Bool
+has_defaults def = not (is_some (position lacks_default def.columns))
+
+-- the definition is one that a store takes
+pub record IsFit (def : TableDef) : Type 0 where
+  pub folded : has_folded_names def ≡ true
+  pub key : has_key def ≡ true
+  pub no_row_cid : has_row_cid def ≡ false
+  pub names : HasDistinctNames def
+
+-- ---- tables
+
+abbrev pub is_named : List ℕ → Table → Bool
+is_named name t = same_bytes t.definition.name name
+
+abbrev pub same_name : Table → Table → Bool
+same_name a b = is_named a.definition.name b
+
+-- the table's definition is fit, and a replicated table has its defaults
+pub record IsStored (t : Table) : Type 0 where
+  pub fit : IsFit t.definition
+  pub defaults : (not t.is_replicated || has_defaults t.definition) ≡ true
+
+-- the definition is fit, and no table has its name
+pub record IsNewTable (tables : List Table) (def : TableDef) : Type 0 where
+  pub fit : IsFit def
+  pub unused : list_any (is_named def.name) tables ≡ false
+
+-- a table of that name is there, and has its defaults
+unfoldable pub is_markable : List ℕ → List Table → Bool
+is_markable name tables = list_any (λ t. is_named name t && has_defaults t.definition) tables
+
+abbrev pub marked : List ℕ → Table → Table
+marked name t = record t { is_replicated = t.is_replicated || is_named name t }
+
+-- the tables, of which the one of that name is replicated
+unfoldable pub with_replicated : List ℕ → List Table → List Table
+with_replicated name tables = map (marked name) tables
+
+-- the tables and a new one
+abbrev pub with_table : List Table → TableDef → Bool → List Table
+with_table tables def is_replicated = tables ++ record { definition = def; is_replicated = is_replicated } ∷ []
+
+-- ---- changes
+
+-- t is replicated, and c is a change of a table of that name
+abbrev pub is_table_of : Change → Table → Bool
+is_table_of c t = t.is_replicated && is_named c.table t
+
+-- why c is not well formed for a replicated table, if it is not
+unfoldable pub fault_in : List Table → Change → Option BadChange
+fault_in tables c = fault_of c (option_map (λ t. t.definition) (find (is_table_of c) tables))
+
+-- each change is well formed for a replicated table
+abbrev pub AreWellFormed : List Table → List Change → Type 0
+AreWellFormed tables cs = AllByRecursion (λ c. fault_in tables c ≡ None) cs
+
+abbrev pub earlier : Option BadChange → Option BadChange → Option BadChange
+earlier None later = later
+earlier (Some b) later = Some b
+
+-- why the first change that is not well formed is not, if there is one
+abbrev pub first_fault : List Table → List Change → Option BadChange
+first_fault tables [] = None
+first_fault tables (c ∷ cs) = earlier (fault_in tables c) (first_fault tables cs)

@@ -1,0 +1,55 @@
+//! What follows of any store from the contract alone.
+
+ghost use Rattle.std.specs.Prelude.{◌≡◌, ◌++◌, List, IfOk, OnOk};
+ghost use Rattle.std.specs.List.{flat_map, AllByRecursion};
+ghost use Rattle.cr_lattice.specs.Keep.{join, SameMembers};
+ghost use Rattle.cr_cells.specs.Tables.{AreWellFormed};
+ghost use Rattle.cr_cells.specs.Holding.{kept_of, changes_of, IsSound};
+
+use crate::store::{Cells, CellsError};
+use cr_lattice::change::Change;
+use cr_lattice::stamped::Stamped;
+use cr_lattice::table::Items;
+use std::alloc::Global;
+
+/// Commits changes in several commits: what is kept then is what all of them together with what was kept keep.
+///
+/// # Errors
+/// Those of `commit`; the commits before it stand.
+pub fn commit_all<C: Cells>(
+    alloc: Global,
+    cells: &mut C,
+    batches: &[Items<Change>],
+) -> Result<(), CellsError>
+    requires { C.is_clean cells.old → AllByRecursion (λ batch. AreWellFormed (C.holding cells.old).tables batch) batches.now }
+    ensures was_clean { C.is_clean cells.new → C.is_clean cells.old }
+    ensures kept { C.is_clean cells.new → OnOk result (kept_of (C.holding cells.new)
+        ≡ join (kept_of (C.holding cells.old)) (flat_map (λ batch. batch) batches.now)) }
+{
+    let _ = cells.db_version();
+    for batch in batches {
+        cells.commit(alloc, batch.as_slice(), None)?;
+    }
+    Ok(())
+}
+
+/// Commits twice and lists every cell: those of what both commits together with what was kept keep.
+///
+/// # Errors
+/// Those of `commit` and `since`; a commit that was made stands.
+pub fn commit_twice<C: Cells>(
+    alloc: Global,
+    cells: &mut C,
+    first: &[Change],
+    second: &[Change],
+) -> Result<Vec<Stamped>, CellsError>
+    requires first { C.is_clean cells.old → AreWellFormed (C.holding cells.old).tables first.now }
+    requires second { C.is_clean cells.old → AreWellFormed (C.holding cells.old).tables second.now }
+    ensures { C.is_clean cells.new → IfOk result (λ listed. SameMembers (changes_of listed.items)
+        (join (kept_of (C.holding cells.old)) (first.now ++ second.now))) }
+{
+    let _ = cells.db_version();
+    cells.commit(alloc, first, None)?;
+    cells.commit(alloc, second, None)?;
+    cells.since(alloc, 0)
+}

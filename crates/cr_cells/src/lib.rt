@@ -1,0 +1,11 @@
+//! What a store of cells is, and the plain one in memory.
+#![tactic(auto)]
+
+mod bytes;
+pub mod callers;
+mod cells;
+pub mod laws;
+mod marks;
+pub mod plain;
+pub mod store;
+pub mod tables;

@@ -1,0 +1,168 @@
+//! What a store of cells is.
+
+ghost use Rattle.std.specs.Prelude.{◌≡◌, ◌≤ℤ◌, pos, true, false};
+ghost use Rattle.std.specs.Option.{ForSome};
+ghost use Rattle.cr_cells.specs.Tables.{IsNewTable, has_defaults, is_markable, with_replicated, with_table, AreWellFormed};
+ghost use Rattle.cr_cells.specs.Marks.{seen_of};
+ghost use Rattle.cr_cells.specs.Holding.{since, cells_of, IsSound};
+ghost use Rattle.cr_cells.specs.Calls.{Reads, Defines, Commits};
+
+use cr_lattice::change::{Change, Site};
+use cr_lattice::stamped::Stamped;
+use cr_lattice::table::{Table, TableDef};
+use std::alloc::{AllocError, Global};
+
+/// How a store itself refuses a call.
+#[derive(Clone, Copy, Debug, PartialEq, Eq)]
+pub enum StoreFault {
+    /// Where a store is made, a table of it is there already.
+    Taken,
+    /// What is opened as a store is none that this project's stores write.
+    Damaged,
+    /// Any other cause, as a device that fails.
+    Refused,
+}
+
+/// Why a call of a store is refused.
+#[derive(Clone, Copy, Debug, PartialEq, Eq, Drop)]
+pub enum CellsError {
+    Memory,
+    Store(StoreFault),
+    /// The commit would change a kept change, and the version is the greatest that there is.
+    VersionLimit,
+}
+
+impl From<AllocError> for CellsError {
+    ghost use Rattle.std.specs.Prelude.{◌≡◌};
+    ghost use Rattle.cr_cells.specs.declared.store.CellsError.TheVariants.{Memory};
+
+    ghost from_gives = { λ _ e. e ≡ Memory };
+
+    fn from(_e: AllocError) -> CellsError {
+        CellsError::Memory
+    }
+}
+
+/// A store of cells: tables, the kept changes of what was committed, each with the stamp of the commit at which it came
+/// in, the store's site and version, and for each peer the version up to which its changes were taken.
+///
+/// What a call promises it promises where the store is clean after it: its device gave back what was written, and is
+/// still there. Then the store was clean before the call, too.
+pub trait Cells: Drop {
+    ghost use Rattle.cr_cells.specs.Holding.{Holding};
+
+    /// What the store holds.
+    ghost holding: { Self → Holding };
+
+    /// The device gave back what was written up to here, and is still there.
+    ghost is_clean: { Self → Type 0 };
+
+    /// The tables in the order in which they came.
+    ///
+    /// # Errors
+    /// `Memory`, or `Store(Refused)`.
+    fn tables(&mut self, alloc: Global) -> Result<Vec<Table>, CellsError>
+        ensures was_clean { is_clean self.new → is_clean self.old }
+        ensures sound { is_clean self.new → IsSound (holding self.new) }
+        ensures reads { is_clean self.new → Reads (holding self.old) (holding self.new) result
+            (λ tables. tables.items ≡ (holding self.old).tables) };
+
+    /// Adds a table that is not replicated. Its names are in ASCII lower case, it fits the profile, and its name is new.
+    ///
+    /// # Errors
+    /// `Memory`, or `Store(Refused)`; then nothing is changed.
+    fn add_table(&mut self, alloc: Global, def: &TableDef) -> Result<(), CellsError>
+        requires { is_clean self.old → IsNewTable (holding self.old).tables def.now }
+        ensures was_clean { is_clean self.new → is_clean self.old }
+        ensures sound { is_clean self.new → IsSound (holding self.new) }
+        ensures defines { is_clean self.new → Defines (holding self.old) (holding self.new) result
+            (record (holding self.old) { tables = with_table (holding self.old).tables def.now false }) };
+
+    /// Makes the table of that name replicated. It is there, and each of its columns outside the key that wants a value
+    /// has a default. On a replicated table it changes nothing.
+    ///
+    /// # Errors
+    /// `Memory`, or `Store(Refused)`; then nothing is changed.
+    fn mark_crr(&mut self, alloc: Global, name: &str) -> Result<(), CellsError>
+        requires { is_clean self.old → is_markable name.now (holding self.old).tables ≡ true }
+        ensures was_clean { is_clean self.new → is_clean self.old }
+        ensures sound { is_clean self.new → IsSound (holding self.new) }
+        ensures defines { is_clean self.new → Defines (holding self.old) (holding self.new) result
+            (record (holding self.old) { tables = with_replicated name.now (holding self.old).tables }) };
+
+    /// Adds a replicated table: what `add_table` and `mark_crr` do, at once.
+    ///
+    /// # Errors
+    /// `Memory`, or `Store(Refused)`; then nothing is changed.
+    fn add_replicated(&mut self, alloc: Global, def: &TableDef) -> Result<(), CellsError>
+        requires is_new { is_clean self.old → IsNewTable (holding self.old).tables def.now }
+        requires defaults { has_defaults def.now ≡ true }
+        ensures was_clean { is_clean self.new → is_clean self.old }
+        ensures sound { is_clean self.new → IsSound (holding self.new) }
+        ensures defines { is_clean self.new → Defines (holding self.old) (holding self.new) result
+            (record (holding self.old) { tables = with_table (holding self.old).tables def.now true }) };
+
+    /// The cells that are stamped above a version, by version, then by place.
+    ///
+    /// # Errors
+    /// `Memory`, or `Store(Refused)`.
+    fn since(&mut self, alloc: Global, version: i64) -> Result<Vec<Stamped>, CellsError>
+        ensures was_clean { is_clean self.new → is_clean self.old }
+        ensures sound { is_clean self.new → IsSound (holding self.new) }
+        ensures reads { is_clean self.new → Reads (holding self.old) (holding self.new) result
+            (λ cells. cells.items ≡ since (holding self.old).cells version) };
+
+    /// The cells of one row, the row's own first, then by the bytes of the columns' names.
+    ///
+    /// # Errors
+    /// `Memory`, or `Store(Refused)`.
+    fn cells_of(
+        &mut self,
+        alloc: Global,
+        table: &str,
+        pk: &[u8],
+    ) -> Result<Vec<Stamped>, CellsError>
+        ensures was_clean { is_clean self.new → is_clean self.old }
+        ensures sound { is_clean self.new → IsSound (holding self.new) }
+        ensures reads { is_clean self.new → Reads (holding self.old) (holding self.new) result
+            (λ cells. cells.items ≡ cells_of (holding self.old).cells table.now pk.now) };
+
+    /// Takes changes, each well formed for a replicated table, and with them the mark of a peer: its site, and its
+    /// version, at least 0, up to which its changes were taken. Answers whether a kept change is another than before.
+    /// What comes in gets the next version, and places from 0 on in the order of table, key, `-1` first, column. The
+    /// mark is kept where nothing comes in, too.
+    ///
+    /// # Errors
+    /// `VersionLimit` where a kept change would change and the version is 9223372036854775807, `Memory`, or
+    /// `Store(Refused)`; then nothing is changed, and the mark neither.
+    fn commit(
+        &mut self,
+        alloc: Global,
+        changes: &[Change],
+        peer: Option<(Site, i64)>,
+    ) -> Result<bool, CellsError>
+        requires well_formed { is_clean self.old → AreWellFormed (holding self.old).tables changes.now }
+        requires from_0 { ForSome peer (λ mark. pos 0 ≤ℤ mark.1) }
+        ensures was_clean { is_clean self.new → is_clean self.old }
+        ensures sound { is_clean self.new → IsSound (holding self.new) }
+        ensures commits { is_clean self.new → Commits (holding self.old) (holding self.new) changes.now peer result };
+
+    /// The version up to which the changes of a peer were taken, by the peer's site: 0 where it has no mark.
+    ///
+    /// # Errors
+    /// `Memory`, or `Store(Refused)`.
+    fn seen(&mut self, alloc: Global, site: Site) -> Result<i64, CellsError>
+        ensures was_clean { is_clean self.new → is_clean self.old }
+        ensures sound { is_clean self.new → IsSound (holding self.new) }
+        ensures reads { is_clean self.new → Reads (holding self.old) (holding self.new) result
+            (λ version. version ≡ seen_of (holding self.old).marks site) };
+
+    /// The version: how many commits changed a kept change.
+    fn db_version(&self) -> i64
+        ensures sound { is_clean self.now → IsSound (holding self.now) }
+        ensures version { is_clean self.now → result ≡ (holding self.now).version };
+
+    /// The store's site.
+    fn site(&self) -> Site
+        ensures { is_clean self.now → result ≡ (holding self.now).site };
+}

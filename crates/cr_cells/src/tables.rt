@@ -1,0 +1,174 @@
+//! Tables of a store: which may be added, which be replicated, and which changes are well formed for one of them.
+
+ghost use Rattle.std.specs.Prelude.{◌≡◌, map, find, position, IfOk, OnOk, OnErr, not, ◌||◌, ◌&&◌, nat_lt};
+ghost use Rattle.std.specs.List.{list_all, list_any};
+ghost use Rattle.std.specs.Option.{option_copied};
+ghost use Rattle.cr_lattice.specs.Check.{Checks};
+ghost use Rattle.cr_cells.specs.Tables.{is_folded, has_folded_names, lacks_default, has_defaults, is_named, is_markable, marked, with_replicated, with_table, is_table_of, fault_in, first_fault, AreWellFormed};
+
+use crate::bytes::same_bytes;
+use cr_lattice::change::Change;
+use cr_lattice::check::{CheckError, check};
+use cr_lattice::table::{ColumnDef, Table, TableDef};
+use cr_value::value::Value;
+use std::alloc::{AllocError, Global};
+
+/// Whether a name has no ASCII capital letter.
+pub fn is_folded(name: &str) -> bool
+    ensures { result ≡ is_folded name.now }
+{
+    name.as_bytes()
+        .iter()
+        .all(|byte| !(*byte > 64 && *byte < 91))
+}
+
+fn has_folded_columns(columns: &[ColumnDef]) -> bool
+    ensures { result ≡ list_all (λ col. is_folded col.name && is_folded col.collation) columns.now }
+{
+    columns.iter().all(|column| is_folded(column.name.as_str())
+        && is_folded(column.collation.as_str()))
+}
+
+/// Whether the names of a table, its columns and their collations are in ASCII lower case.
+#[tactic(auto, unfolding(crate::specs::Tables::has_folded_names))]
+pub fn has_folded_names(def: &TableDef) -> bool
+    ensures { result ≡ has_folded_names def.now }
+{
+    is_folded(def.name.as_str()) && has_folded_columns(def.columns.as_slice())
+}
+
+fn lacks_default(column: &ColumnDef) -> bool
+    ensures { result ≡ lacks_default column.now }
+{
+    column.key.is_none() && column.not_null && matches!(&column.default, Value::Null)
+}
+
+fn first_without_default(columns: &[ColumnDef]) -> Option<usize>
+    ensures { result ≡ position lacks_default columns.now }
+{
+    columns.iter().position(|column| lacks_default(column))
+}
+
+/// Whether each column outside the key that wants a value has a default.
+#[tactic(auto, unfolding(crate::specs::Tables::has_defaults))]
+pub fn has_defaults(def: &TableDef) -> bool
+    ensures { result ≡ has_defaults def.now }
+{
+    first_without_default(def.columns.as_slice()).is_none()
+}
+
+fn is_named(table: &Table, name: &str) -> bool
+    ensures { result ≡ is_named name.now table.now }
+{
+    same_bytes(table.definition.name.as_str().as_bytes(), name.as_bytes())
+}
+
+/// The table of that name.
+pub fn table_named<'a>(tables: &'a [Table], name: &str) -> Option<&'a Table>
+    ensures { option_copied result ≡ find (is_named name.now) tables.now }
+{
+    tables.iter().find(|table| is_named(table, name))
+}
+
+/// Whether a table of that name is there, and each of its columns outside the key that wants a value has a default.
+#[tactic(auto, unfolding(crate::specs::Tables::is_markable))]
+pub fn is_markable(tables: &[Table], name: &str) -> bool
+    ensures { result ≡ is_markable name.now tables.now }
+{
+    tables.iter().any(|table| is_named(table, name) && has_defaults(&table.definition))
+}
+
+fn is_table_of(table: &Table, change: &Change) -> bool
+    ensures { result ≡ is_table_of change.now table.now }
+{
+    table.is_replicated && is_named(table, change.table.as_str())
+}
+
+/// The replicated table of a change's table name.
+pub fn table_of<'a>(tables: &'a [Table], change: &Change) -> Option<&'a Table>
+    ensures { option_copied result ≡ find (is_table_of change.now) tables.now }
+{
+    tables.iter().find(|table| is_table_of(table, change))
+}
+
+/// Whether a change is well formed for a replicated table of its name.
+///
+/// # Errors
+/// `Bad` with the first reason why it is not, or `Memory`.
+#[tactic(auto, unfolding(crate::specs::Tables::fault_in))]
+pub fn check_in(alloc: Global, tables: &[Table], change: &Change) -> Result<(), CheckError>
+    ensures { Checks result (fault_in tables.now change.now) }
+{
+    match table_of(tables, change) {
+        Some(table) => check(alloc, change, Some(&table.definition)),
+        None => check(alloc, change, None),
+    }
+}
+
+/// Whether each change is well formed for a replicated table of its name.
+///
+/// # Errors
+/// `Bad` with the reason why the first that is not well formed is not, or `Memory`.
+pub fn check_all(alloc: Global, tables: &[Table], changes: &[Change]) -> Result<(), CheckError>
+    ensures first { Checks result (first_fault tables.now changes.now) }
+    ensures each { OnOk result (AreWellFormed tables.now changes.now) }
+{
+    for change in changes {
+        check_in(alloc, tables, change)?;
+    }
+    Ok(())
+}
+
+/// Copies of tables.
+pub(crate) fn copies(alloc: Global, tables: &[Table]) -> Result<Vec<Table>, AllocError>
+    ensures { IfOk result (λ v. v.items ≡ tables.now) }
+{
+    let mut out = Vec::new(alloc);
+    for table in tables {
+        out.push(table.copy(alloc)?)?;
+    }
+    Ok(out)
+}
+
+/// Adds a table.
+pub(crate) fn add(
+    alloc: Global,
+    tables: &mut Vec<Table>,
+    def: &TableDef,
+    is_replicated: bool,
+) -> Result<(), AllocError>
+    ensures ok { OnOk result (tables.new.items ≡ with_table tables.old.items def.now is_replicated) }
+    ensures err { OnErr result (tables.new.items ≡ tables.old.items) }
+{
+    tables.push(Table {
+        definition: def.copy(alloc)?,
+        is_replicated,
+    })?;
+    Ok(())
+}
+
+// A copy of a table, replicated if it is or has that name.
+fn marked(alloc: Global, table: &Table, name: &str) -> Result<Table, AllocError>
+    ensures { IfOk result (λ t. t ≡ marked name.now table.now) }
+{
+    Ok(Table {
+        definition: table.definition.copy(alloc)?,
+        is_replicated: table.is_replicated || is_named(table, name),
+    })
+}
+
+/// Copies of tables, of which the one of that name is replicated.
+#[tactic(auto, unfolding(crate::specs::Tables::with_replicated))]
+pub(crate) fn with_replicated(
+    alloc: Global,
+    tables: &[Table],
+    name: &str,
+) -> Result<Vec<Table>, AllocError>
+    ensures { IfOk result (λ v. v.items ≡ with_replicated name.now tables.now) }
+{
+    let mut out = Vec::new(alloc);
+    for table in tables {
+        out.push(marked(alloc, table, name)?)?;
+    }
+    Ok(out)
+}

@@ -1,0 +1,105 @@
+//! Which tables a replica defines.
+
+ghost use Rattle.std.specs.Prelude.{◌≡◌, position, MatchResult};
+ghost use Rattle.cr_replica.specs.Definition.{has_unknown_collation, is_taken, IsAccepted, IsRefusal, IsRefusedFor};
+
+use cr_cells::store::{CellsError, StoreFault};
+use cr_cells::tables::table_named;
+use cr_lattice::profile::{ProfileFault, duplicate, no_default, profile};
+use cr_lattice::table::{ColumnDef, Table, TableDef};
+use cr_value::order::cmp_bytes;
+use std::alloc::AllocError;
+
+/// Why a table is not defined. Of several causes the first of this order is told: the profile, the table's name, its
+/// columns' names, their collations, their defaults.
+#[derive(Clone, Copy, Debug, PartialEq, Eq, Drop)]
+pub enum DefineError {
+    /// Memory ran out.
+    Memory,
+    /// The store refused.
+    Store(StoreFault),
+    /// The definition breaks a rule of the profile.
+    Profile(ProfileFault),
+    /// A table has the name.
+    TableExists,
+    /// The column at this place, from 0, has the name of one before it.
+    Duplicate(usize),
+    /// The column at this place has a collation that there is not.
+    NoSuchCollation(usize),
+    /// The column at this place is NOT NULL, outside the key, and has no default.
+    NoDefault(usize),
+}
+
+impl From<AllocError> for DefineError {
+    ghost use Rattle.std.specs.Prelude.{◌≡◌};
+    ghost use Rattle.cr_replica.specs.declared.definition.DefineError.TheVariants.{Memory};
+
+    ghost from_gives = { λ _ e. e ≡ Memory };
+
+    fn from(_e: AllocError) -> DefineError {
+        DefineError::Memory
+    }
+}
+
+fn has_unknown_collation(column: &ColumnDef) -> bool
+    ensures { result ≡ has_unknown_collation column.now }
+{
+    let name = column.collation.as_str().as_bytes();
+    !(cmp_bytes(name, b"binary").is_eq()
+        || cmp_bytes(name, b"nocase").is_eq()
+        || cmp_bytes(name, b"rtrim").is_eq())
+}
+
+fn first_unknown_collation(columns: &[ColumnDef]) -> Option<usize>
+    ensures { result ≡ position has_unknown_collation columns.now }
+{
+    columns.iter().position(|column| has_unknown_collation(column))
+}
+
+// Whether a table has the definition's name.
+fn is_taken(tables: &[Table], def: &TableDef) -> bool
+    ensures { result ≡ is_taken tables.now def.now }
+{
+    table_named(tables, def.name.as_str()).is_some()
+}
+
+/// What stands against a definition, if anything does, among tables that are there.
+///
+/// # Errors
+/// The first that stands against it. Takes no memory.
+pub fn accept(tables: &[Table], def: &TableDef) -> Result<(), DefineError>
+    ensures { MatchResult result (λ _. IsAccepted tables.now def.now) (λ e. IsRefusal e × IsRefusedFor tables.now def.now e) }
+{
+    if let Err(fault) = profile(def) {
+        return Err(DefineError::Profile(fault));
+    }
+    if is_taken(tables, def) {
+        return Err(DefineError::TableExists);
+    }
+    if let Some(at) = duplicate(def) {
+        return Err(DefineError::Duplicate(at));
+    }
+    if let Some(at) = first_unknown_collation(def.columns.as_slice()) {
+        return Err(DefineError::NoSuchCollation(at));
+    }
+    match no_default(def) {
+        Some(at) => Err(DefineError::NoDefault(at)),
+        None => Ok(()),
+    }
+}
+
+impl From<CellsError> for DefineError {
+    ghost use Rattle.std.specs.Prelude.{◌≡◌};
+    ghost use Rattle.cr_replica.specs.Definition.{of_store};
+
+    ghost from_gives = { λ e d. d ≡ of_store e };
+
+    fn from(e: CellsError) -> DefineError {
+        match e {
+            CellsError::Memory => DefineError::Memory,
+            CellsError::Store(fault) => DefineError::Store(fault),
+            // A store tells it of commits alone.
+            CellsError::VersionLimit => DefineError::Store(StoreFault::Refused),
+        }
+    }
+}

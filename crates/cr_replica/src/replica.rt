@@ -1,0 +1,235 @@
+//! A replica without SQL.
+
+ghost use Rattle.std.specs.Prelude.{◌≡◌, IfOk};
+ghost use Rattle.cr_cells.specs.Holding.{changes_of};
+
+use crate::definition::{DefineError, accept};
+use crate::sorting::in_order;
+use cr_cells::store::{Cells, CellsError, StoreFault};
+use cr_cells::tables::{check_all, table_named};
+use cr_lattice::change::{Change, Site};
+use cr_lattice::check::{BadChange, CheckError};
+use cr_lattice::merge::merge;
+use cr_lattice::rows::rows;
+use cr_lattice::stamped::Stamped;
+use cr_lattice::table::{Items, Row, TableDef};
+use std::alloc::{AllocError, Global};
+use std::marker::Model;
+
+/// Why changes are not taken. Nothing of them is taken then.
+#[derive(Clone, Copy, Debug, PartialEq, Eq, Drop)]
+pub enum TakeError {
+    /// Memory ran out.
+    Memory,
+    /// A store refused.
+    Store(StoreFault),
+    /// The first change that is not well formed, and why.
+    Bad(BadChange),
+    /// A kept change would change at the greatest version.
+    VersionLimit,
+    /// The peer's site is the taker's own.
+    SameSite,
+}
+
+/// Why rows are not shown.
+#[derive(Clone, Copy, Debug, PartialEq, Eq, Drop)]
+pub enum RowsError {
+    /// Memory ran out.
+    Memory,
+    /// The store refused.
+    Store(StoreFault),
+    /// No table has the name.
+    NoSuchTable,
+}
+
+impl From<AllocError> for RowsError {
+    ghost use Rattle.std.specs.Prelude.{◌≡◌};
+    ghost use Rattle.cr_replica.specs.declared.replica.RowsError.TheVariants.{Memory};
+
+    ghost from_gives = { λ _ e. e ≡ Memory };
+
+    fn from(_e: AllocError) -> RowsError {
+        RowsError::Memory
+    }
+}
+
+impl From<CellsError> for RowsError {
+    ghost use Rattle.std.specs.Prelude.{◌≡◌};
+    ghost use Rattle.cr_replica.specs.Showing.{of_store};
+
+    ghost from_gives = { λ e r. r ≡ of_store e };
+
+    fn from(e: CellsError) -> RowsError {
+        match e {
+            CellsError::Memory => RowsError::Memory,
+            CellsError::Store(fault) => RowsError::Store(fault),
+            // A store tells it of commits alone.
+            CellsError::VersionLimit => RowsError::Store(StoreFault::Refused),
+        }
+    }
+}
+
+impl From<CellsError> for TakeError {
+    ghost use Rattle.std.specs.Prelude.{◌≡◌};
+    ghost use Rattle.cr_replica.specs.Taking.{of_store};
+
+    ghost from_gives = { λ e t. t ≡ of_store e };
+
+    fn from(e: CellsError) -> TakeError {
+        match e {
+            CellsError::Memory => TakeError::Memory,
+            CellsError::Store(fault) => TakeError::Store(fault),
+            CellsError::VersionLimit => TakeError::VersionLimit,
+        }
+    }
+}
+
+// The changes of the cells.
+fn changes_of(alloc: Global, cells: Vec<Stamped>) -> Result<Vec<Change>, AllocError>
+    ensures { IfOk result (λ changes. changes.items ≡ changes_of cells.items) }
+{
+    cells.into_iter().map(|cell| cell.change).collect(alloc)
+}
+
+/// A replica over a store of cells.
+#[derive(Drop)]
+pub struct Replica<C: Drop> {
+    cells: C,
+}
+
+impl<C: Drop> Model for Replica<C> {
+    ghost Value = { C };
+
+    ghost view = { λ r. r.cells };
+}
+
+impl<C: Cells> Replica<C> {
+    ghost use Rattle.std.specs.Prelude.{◌≡◌, ◌++◌, List, find, true, OnOk};
+    ghost use Rattle.cr_lattice.specs.declared.change.Change.{Change};
+    ghost use Rattle.cr_cells.specs.Tables.{is_named, has_folded_names};
+    ghost use Rattle.cr_cells.specs.Holding.{since};
+    ghost use Rattle.cr_cells.specs.Calls.{Reads};
+    ghost use Rattle.cr_replica.specs.Definition.{DefinesTable};
+    ghost use Rattle.cr_replica.specs.Taking.{Stands, Takes};
+    ghost use Rattle.cr_replica.specs.Showing.{Shows};
+
+    /// A replica over the store, which may hold something already.
+    pub fn new(cells: C) -> Replica<C>
+        ensures { result ≡ cells }
+    {
+        Replica { cells }
+    }
+
+    /// The store as it stands.
+    pub fn into_cells(self) -> C
+        ensures { result ≡ self }
+    {
+        self.cells
+    }
+
+    /// Defines a replicated table. Its names are in ASCII lower case.
+    ///
+    /// # Errors
+    /// The first cause in `DefineError`'s order that stands against the definition, or `Memory`, or `Store`; then
+    /// nothing is changed.
+    pub fn define(&mut self, alloc: Global, def: &TableDef) -> Result<(), DefineError>
+        requires { has_folded_names def.now ≡ true }
+        ensures was_clean { C.is_clean self.new → C.is_clean self.old }
+        ensures defines { C.is_clean self.new → DefinesTable (C.holding self.old) (C.holding self.new) def.now result }
+    {
+        let tables = match self.cells.tables(alloc) {
+            Ok(tables) => tables,
+            Err(error) => return Err(DefineError::from(error)),
+        };
+        accept(&tables, def)?;
+        match self.cells.add_replicated(alloc, def) {
+            Ok(()) => Ok(()),
+            Err(error) => Err(DefineError::from(error)),
+        }
+    }
+
+    /// Takes changes, all in one commit or none. Those that lose change nothing.
+    ///
+    /// # Errors
+    /// `Bad` with the reason why the first change that is not well formed is not; `VersionLimit` where a kept change
+    /// would change at the greatest version; `Memory`, or `Store`. Then nothing is changed.
+    pub fn take(&mut self, alloc: Global, changes: &[Change]) -> Result<(), TakeError>
+        ensures was_clean { C.is_clean self.new → C.is_clean self.old }
+        ensures takes { C.is_clean self.new → Takes (C.holding self.old) (C.holding self.new) changes.now result }
+        ensures joins { C.is_clean self.new → OnOk result ((held : List Change) → Stands held (C.holding self.old)
+            → Stands (held ++ changes.now) (C.holding self.new)) }
+    {
+        let tables = match self.cells.tables(alloc) {
+            Ok(tables) => tables,
+            Err(error) => return Err(TakeError::from(error)),
+        };
+        match check_all(alloc, &tables, changes) {
+            Ok(()) => {}
+            Err(CheckError::Bad(reason)) => return Err(TakeError::Bad(reason)),
+            Err(CheckError::Memory) => return Err(TakeError::Memory),
+        }
+        match self.cells.commit(alloc, changes, None) {
+            Ok(_) => Ok(()),
+            Err(error) => Err(TakeError::from(error)),
+        }
+    }
+
+    /// The rows of the table of that name, in ascending order: none where it isn't replicated.
+    ///
+    /// # Errors
+    /// `NoSuchTable` where no table has the name; `Memory`, or `Store`.
+    pub fn rows_of(&mut self, alloc: Global, name: &str) -> Result<Items<Row>, RowsError>
+        ensures was_clean { C.is_clean self.new → C.is_clean self.old }
+        ensures same { C.is_clean self.new → C.holding self.new ≡ C.holding self.old }
+        ensures shows { C.is_clean self.new → Shows (C.holding self.old) (find (is_named name.now) (C.holding self.old).tables) result }
+    {
+        let tables = match self.cells.tables(alloc) {
+            Ok(tables) => tables,
+            Err(error) => return Err(RowsError::from(error)),
+        };
+        let Some(table) = table_named(&tables, name) else {
+            return Err(RowsError::NoSuchTable);
+        };
+        if !table.is_replicated {
+            return Ok(Items::new(Vec::new(alloc)));
+        }
+        let cells = match self.cells.since(alloc, 0) {
+            Ok(cells) => cells,
+            Err(error) => return Err(RowsError::from(error)),
+        };
+        let changes = changes_of(alloc, cells)?;
+        let kept = merge(alloc, &changes, &[])?;
+        let rows = in_order(rows(alloc, &kept, &table.definition)?)?;
+        Ok(Items::new(rows))
+    }
+
+    /// The kept changes that are stamped above a version, by version, then by place.
+    ///
+    /// # Errors
+    /// `Memory`, or `Store(Refused)`.
+    pub fn changes_since(
+        &mut self,
+        alloc: Global,
+        version: i64,
+    ) -> Result<Vec<Stamped>, CellsError>
+        ensures was_clean { C.is_clean self.new → C.is_clean self.old }
+        ensures reads { C.is_clean self.new → Reads (C.holding self.old) (C.holding self.new) result
+            (λ cells. cells.items ≡ since (C.holding self.old).cells version) }
+    {
+        self.cells.since(alloc, version)
+    }
+
+    /// How many commits changed a kept change.
+    pub fn db_version(&self) -> i64
+        ensures { C.is_clean self.now → result ≡ (C.holding self.now).version }
+    {
+        self.cells.db_version()
+    }
+
+    /// The site that the replica was made with.
+    pub fn site_id(&self) -> Site
+        ensures { C.is_clean self.now → result ≡ (C.holding self.now).site }
+    {
+        self.cells.site()
+    }
+}
