@@ -18,6 +18,7 @@ use Rattle.cr_lattice.specs.declared.table.TableDef.{TableDef}
 use Rattle.cr_lattice.specs.Check.{same_bytes}
 use Rattle.cr_lattice.specs.Rows.{is_of_row, is_under, is_below, is_below_or_under, has_lesser_key, SameByRow, is_cell, kept_change, cell, row, rows, alive_keys}
 use Rattle.cr_lattice.proofs.Filters.{find-filter, filter-filter, filter-part}
+use Rattle.cr_lattice.proofs.Tested.{and_true}
 
 -- ---- an order and a bound
 
@@ -152,10 +153,6 @@ sorted_by_row table kept xs ys made stable = λ pk. (
     ∙ row_of_table table pk kept)
 
 -- ---- rows
-
-and_true : (a b : Bool) → (a && b) ≡ true → (a ≡ true) × (b ≡ true)
-and_true true b e = (refl, e)
-and_true false b e = absurd cc
 
 cell_same : (ks xs : List Change) (table pk : List ℕ) (col : ColumnDef) → kept_change ks table pk col.name ≡ kept_change xs table pk col.name → cell ks table pk col ≡ cell xs table pk col
 cell_same ks xs table pk col e = simp e

@@ -1,5 +1,5 @@
 -- Long defaults, the places of a key, and distinct names.
-use Rattle.std.proofs.Common.{◌≡◌, ℕ, zero, suc, ◌≤◌, ◌<◌, ◌^◌, eqb, Bool, true, false, ◌&&◌, not, List, [], ◌∷◌, ◌++◌, length, ℤ, None, is_some, Result, Ok, Err, refl, sym, ap, ◌∙◌, arith}
+use Rattle.std.proofs.Common.{◌≡◌, ℕ, zero, suc, ◌≤◌, ◌<◌, ◌^◌, eqb, Bool, true, false, List, [], ◌∷◌, ◌++◌, length, ℤ, None, is_some, Result, Ok, Err, refl, sym, ap, ◌∙◌, arith}
 use Rattle.std.specs.Prelude.{count_by, is_ok}
 use Rattle.std.specs.List.{AllByRecursion}
 use Rattle.std.specs.Int.Signed.{mag}
@@ -17,10 +17,7 @@ use Rattle.cr_lattice.specs.declared.table.TableDef.{TableDef}
 use Rattle.cr_lattice.specs.Check.{stands_at}
 use Rattle.cr_lattice.specs.Faults.{first_failed}
 use Rattle.cr_lattice.specs.Profile.{is_too_long, key_count, places_once, has_key, has_row_cid, rules_of, profile_fault}
-
-pub and_false : (b : Bool) → (b && false) ≡ false
-and_false true = refl
-and_false false = refl
+use Rattle.cr_lattice.proofs.Tested.{and_false, not_true}
 
 pub is_ok-is_some : {T E : Type 0} (r : Result T E) → is_ok r ≡ is_some (result_ok r)
 is_ok-is_some (Ok x) = refl
@@ -63,10 +60,6 @@ all_passed : {F : Type 0} (ts : List (Bool × F)) → first_failed ts ≡ None �
 all_passed [] e = tt
 all_passed ((true, f) ∷ ts) e = (refl, all_passed ts e)
 all_passed ((false, f) ∷ ts) e = absurd cc
-
-not_true : (b : Bool) → not b ≡ true → b ≡ false
-not_true true e = absurd cc
-not_true false e = refl
 
 pub accepted_key : (def : TableDef) → profile_fault def ≡ None → has_key def ≡ true
 unfolding profile_fault

@@ -7,6 +7,5 @@ pub mod Sync
 pub mod Faults
 pub mod Check
 pub mod Rows
-pub mod Delta
 pub mod Present
 pub mod Profile

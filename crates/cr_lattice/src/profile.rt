@@ -4,14 +4,14 @@ ghost use Rattle.std.specs.Prelude.{◌≡◌, ℕ, ◌||◌, ◌==◌, nat_eq, 
 ghost use Rattle.std.specs.List.{list_any};
 ghost use Rattle.std.specs.Option.{is_some};
 ghost use Rattle.cr_value.specs.declared.value.Value.TheVariants.{Text};
-ghost use Rattle.cr_value.specs.Affinity.{int_of_text};
 ghost use Rattle.cr_lattice.specs.Check.{same_bytes, is_null, stands_at};
 ghost use Rattle.cr_lattice.specs.Profile.{key_count, has_key, is_collated_key, is_named_row, has_row_cid, is_too_long, is_default_too_long, is_reserved, profile_fault, HasDistinctNames, IsFirstRepeat, lacks_default};
 
-use crate::check::{key_len, same_bytes, stands_at};
+use crate::check::{key_len, stands_at};
 use crate::order::ROW_CID;
 use crate::table::{ColumnDef, TableDef};
-use cr_value::affinity::Affinity;
+use cr_value::affinity::{Affinity, int_of_text};
+use cr_value::order::same_bytes;
 use cr_value::packing::SIZE_LIMIT;
 use cr_value::value::Value;
 
@@ -93,18 +93,12 @@ fn has_named_row(columns: &[ColumnDef]) -> bool
     columns.iter().any(|column| is_named_row(column))
 }
 
-// Whether an affinity for integers makes an integer of the text.
-fn is_integer(text: &str) -> bool
-    ensures { result ≡ is_some (int_of_text text.now) }
-{
-    text.parse::<i64>().is_ok()
-}
-
 fn is_text_too_long(affinity: Affinity, text: &str) -> bool
     ensures { result ≡ is_too_long affinity (Text text.now) }
 {
     match affinity {
-        Affinity::Integer | Affinity::Numeric => text.len() > LONGEST_IN_KEY && !is_integer(text),
+        Affinity::Integer | Affinity::Numeric => text.len() > LONGEST_IN_KEY
+            && int_of_text(text).is_none(),
         Affinity::Text | Affinity::Blob => text.len() > LONGEST_IN_KEY,
     }
 }

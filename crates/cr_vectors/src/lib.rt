@@ -2,4 +2,6 @@
 #![tactic(auto)]
 
 #[cfg(test)]
+mod lattice;
+#[cfg(test)]
 mod values;

@@ -2,7 +2,8 @@ use Rattle.std.proofs.Common.{◌≡◌, ◌+◌, suc, false, eqb, refl, sym, ap
 use Rattle.std.specs.Prelude.{count_by}
 use Rattle.cr_lattice.specs.Check.{is_key_column, stands_at}
 use Rattle.cr_lattice.specs.Profile.{has_key, key_count}
-use Rattle.cr_lattice.proofs.ProfileLemmas.{not_once, and_false}
+use Rattle.cr_lattice.proofs.ProfileLemmas.{not_once}
+use Rattle.cr_lattice.proofs.Tested.{and_false}
 use Rattle.std.proofs.lemmas.Bool.{ne_eqb}
 use Rattle.cr_lattice.proofs.profile.has_key.Goals as goal
 
