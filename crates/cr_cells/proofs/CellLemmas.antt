@@ -1,9 +1,9 @@
 -- Cells in the order of changes and in that of stamps, and the cell of a change.
-use Rattle.std.proofs.Common.{◌≡◌, ◌⊎◌, inl, inr, Bool, true, false, ◌||◌, ◌&&◌, List, [], ◌∷◌, ◌++◌, map, Option, Some, None, refl, sym, ap, ◌∙◌, subst, Ordering, Less, Equal, Greater, int_cmp, ℤ}
-use Rattle.std.specs.Prelude.{filter, find, int_lt}
+use Rattle.std.proofs.Common.{◌≡◌, inl, inr, Bool, true, false, ◌||◌, ◌&&◌, List, [], ◌∷◌, refl, sym, ap, ◌∙◌, subst, Ordering, Less, Equal, Greater, int_cmp, ℤ}
+use Rattle.std.specs.Prelude.{filter, int_lt}
 use Rattle.std.specs.List.{list_any, AllByRecursion, IsDistinct}
 use Rattle.std.specs.List.Sorted.{IsStrictlySortedBy, IsSorted, IsPermutation}
-use Rattle.std.specs.Ordering.{eq_by_cmp, is_eq, int_eq, on, then_cmp, ordering_then, ordering_reverse}
+use Rattle.std.specs.Ordering.{eq_by_cmp, is_eq, int_eq, ordering_then, ordering_reverse}
 use Rattle.std.specs.Cmp.{IsTotalOrder, tied_itself}
 use Rattle.std.specs.FinMap.{IsAntisymmetric}
 use Rattle.std.specs.FinSet.{int_cmp-IsAntisymmetric}
@@ -14,7 +14,7 @@ use Rattle.cr_lattice.specs.Change.{change_cmp}
 use Rattle.cr_lattice.specs.ChangeOrder.{change_total, change_exact}
 use Rattle.cr_lattice.specs.Keep.{has}
 use Rattle.cr_cells.specs.Holding.{changes_of, cell_cmp, stamp_cmp, same_stamp, since}
-use Rattle.cr_cells.proofs.MemberLemmas.{split, Among, any_gives, any_from, all_at, all_from, find_gives, find_none, apart-weaker, apart-filter, sort_is}
+use Rattle.cr_cells.proofs.MemberLemmas.{split, Among, any_from, all_at, all_from, apart-weaker, apart-filter, sort_is}
 
 -- ---- the orders
 

@@ -1,5 +1,5 @@
 -- The cells after a commit: their changes, their stamps, and that nothing changes where nothing comes in.
-use Rattle.std.proofs.Common.{◌≡◌, ◌⊎◌, inl, inr, ℤ, pos, ◌+ℤ◌, ◌≤ℤ◌, Bool, true, false, not, cond, List, [], ◌∷◌, ◌++◌, map, Option, Some, None, refl, sym, ap, ◌∙◌, subst, arith, SFits, w64, Bor, is_some, ℕ, ◌+◌, ◌<◌, length, get_or, drop, append_assoc, add-one, drop-cons, ◌≤◌}
+use Rattle.std.proofs.Common.{◌≡◌, ◌⊎◌, inl, inr, ℤ, pos, ◌+ℤ◌, ◌≤ℤ◌, Bool, true, false, not, List, [], ◌∷◌, ◌++◌, Option, Some, None, refl, sym, ap, ◌∙◌, subst, arith, SFits, w64, Bor, is_some, ℕ, ◌+◌, ◌<◌, length, get_or, drop, append_assoc, add-one, drop-cons, ◌≤◌}
 use Rattle.std.proofs.lemmas.List.{append-nil, drop_all}
 use Rattle.std.proofs.lemmas.Int.{ints}
 use Rattle.std.specs.Prelude.{filter, find}
@@ -15,12 +15,12 @@ use Rattle.cr_lattice.specs.Change.{change_cmp}
 use Rattle.cr_lattice.specs.Keep.{has, keep, join}
 use Rattle.cr_lattice.specs.Sets.{set_of}
 use Rattle.cr_lattice.proofs.SortedSets.{IsStrictlySortedBy-set_of}
-use Rattle.cr_lattice.proofs.KeepLaws.{In, In-head, In-tail, In-cons, not_In-nil, In-append, In-left, any_gives as any_gives_change, any_from as any_from_change, sorted-keep, keep_keep, keep_between, kept_from}
+use Rattle.cr_lattice.proofs.KeepLaws.{In, In-head, In-tail, In-cons, not_In-nil, In-left, any_gives as any_gives_change, any_from as any_from_change, sorted-keep, keep_between}
 use Rattle.cr_cells.specs.Holding.{changes_of, cell_cmp, same_stamp, IsStampedTo}
 use Rattle.cr_cells.specs.Commit.{newly_kept, is_changed, stamped, still_kept, greatest_version, cells_after}
-use borrow.Author.Differences.{fits_in, fits_out}
+use borrow.Author.Differences.{fits_in}
 use Rattle.cr_cells.proofs.MemberLemmas.{split, Among, any_from, all_at, all_from, Among-filter, filter-Among, Among-append, append-left, append-right, find_gives, find_none, apart_one, set_is, Among-set_of}
-use Rattle.cr_cells.proofs.CellLemmas.{cell_total, cell_exact, eq_true, strict_cells, one_cell, is_cell_of, has-changes, same_change, is_cell_of-itself, has_from, same_stamp-flips, same_stamp-parts, stamps_distinct}
+use Rattle.cr_cells.proofs.CellLemmas.{cell_total, cell_exact, eq_true, strict_cells, one_cell, is_cell_of, has-changes, same_change, has_from, same_stamp-flips, same_stamp-parts, stamps_distinct}
 
 -- ---- change by change
 

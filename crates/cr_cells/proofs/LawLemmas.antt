@@ -1,10 +1,10 @@
 -- Laws of what a store holds.
-use Rattle.std.proofs.Common.{◌≡◌, ◌⊎◌, inl, inr, ℕ, ℤ, pos, ◌≤ℤ◌, ◌+ℤ◌, Bool, true, false, not, ◌&&◌, cond, List, [], ◌∷◌, ◌++◌, map, Option, Some, None, refl, sym, ap, ◌∙◌, subst, append_assoc, arith, Ordering, Less, Equal, Greater}
+use Rattle.std.proofs.Common.{◌≡◌, inl, inr, ℕ, ℤ, pos, ◌≤ℤ◌, ◌+ℤ◌, Bool, true, false, not, ◌&&◌, List, [], ◌∷◌, ◌++◌, Option, Some, None, refl, sym, ap, ◌∙◌, subst, append_assoc, arith, Ordering, Less, Equal, Greater}
 use Rattle.std.proofs.lemmas.Int.{ints}
 use Rattle.std.proofs.lemmas.List.{append-nil}
 use Rattle.std.specs.Prelude.{filter, find, int_lt}
-use Rattle.std.specs.List.{list_any, flat_map, AllByRecursion}
-use Rattle.std.specs.Ordering.{eq_by_cmp, is_eq, is_lt, ordering_reverse, on}
+use Rattle.std.specs.List.{list_any, AllByRecursion}
+use Rattle.std.specs.Ordering.{eq_by_cmp, is_eq, is_lt, ordering_reverse}
 use Rattle.std.specs.Option.{option_map_or}
 use Rattle.std.specs.Cmp.{tied_itself}
 use Rattle.cr_value.specs.Order.{bytes_cmp}
@@ -13,15 +13,14 @@ use Rattle.cr_lattice.specs.declared.change.Change.{Change}
 use Rattle.cr_lattice.specs.declared.stamped.Stamped.{Stamped}
 use Rattle.cr_lattice.specs.Check.{same_bytes}
 use Rattle.cr_lattice.specs.Keep.{has, keep, join, SameMembers}
-use Rattle.cr_lattice.proofs.SortedSets.{has-filter, list_any-set_of}
-use Rattle.cr_lattice.proofs.KeepLaws.{keep_keep, join_assoc, join_same, join_keeps_first, join_keeps_second, sorted-keep, In, In-right, kept_from, keep-nil}
-use Rattle.cr_cells.specs.Tables.{AreWellFormed}
+use Rattle.cr_lattice.proofs.SortedSets.{has-filter}
+use Rattle.cr_lattice.proofs.KeepLaws.{keep_keep, join_assoc, join_same, join_keeps_first, join_keeps_second, sorted-keep, keep-nil}
 use Rattle.cr_cells.specs.Marks.{Mark, mark_cmp, seen_of, with_mark}
-use Rattle.cr_cells.specs.Holding.{Holding, changes_of, kept_of, cell_cmp, stamp_cmp, has_cell, since, IsStampedTo, IsSound, empty_holding}
+use Rattle.cr_cells.specs.Holding.{Holding, changes_of, kept_of, cell_cmp, has_cell, since, IsStampedTo, IsSound, empty_holding}
 use Rattle.cr_cells.specs.Commit.{newly_kept, is_changed, stamped, cells_after, committed, Batch, after_all, all_changes}
-use Rattle.cr_cells.proofs.MemberLemmas.{split, both_ways, Among, any_gives, any_from, all_at, same_any, Among-filter, filter-Among, Among-set_of, set_of-Among, find_none}
+use Rattle.cr_cells.proofs.MemberLemmas.{split, Among, any_gives, any_from, same_any, Among-filter, Among-set_of, set_of-Among}
 use Rattle.cr_cells.proofs.CellLemmas.{cell_total, cell_exact, stamp_total, stamp_exact, is_cell_of, has-changes, eq_true}
-use Rattle.cr_cells.proofs.CommitLemmas.{is_new, restamped, restamped_is, after-from, changes_of-cells_after, unchanged_kept, unchanged_cells, changed_kept, sorted_kept, look, none_passes}
+use Rattle.cr_cells.proofs.CommitLemmas.{is_new, restamped, restamped_is, after-from, changes_of-cells_after, changed_kept, sorted_kept, look}
 
 -- ---- all commits
 

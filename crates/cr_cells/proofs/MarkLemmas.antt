@@ -1,16 +1,16 @@
 -- Marks stay one per site, by their sites.
-use Rattle.std.proofs.Common.{◌≡◌, ◌⊎◌, inl, inr, ℕ, ℤ, pos, ◌≤ℤ◌, Bool, true, false, List, [], ◌∷◌, ◌++◌, Option, Some, None, refl, sym, ap, ◌∙◌, Ordering, Less, Equal, Greater}
+use Rattle.std.proofs.Common.{◌≡◌, inl, inr, pos, ◌≤ℤ◌, true, List, [], ◌∷◌, ◌++◌, Option, Some, None, refl, ap, ◌∙◌, Ordering, Less, Equal, Greater}
 use Rattle.std.specs.Prelude.{filter}
 use Rattle.std.specs.List.{AllByRecursion}
 use Rattle.std.specs.List.Sorted.{IsStrictlySortedBy}
 use Rattle.std.specs.Option.{ForSome}
-use Rattle.std.specs.Ordering.{is_lt, on}
+use Rattle.std.specs.Ordering.{is_lt}
 use Rattle.std.specs.Cmp.{IsTotalOrder}
 use Rattle.std.proofs.lemmas.Cmp.{on_total}
 use Rattle.std.proofs.lemmas.List.Kept.{IsStrictlySortedBy-filter}
 use Rattle.cr_value.specs.OrderLaws.{bytes_total}
 use Rattle.cr_cells.specs.Marks.{Mark, mark_cmp, with_mark, marks_after, AreMarks}
-use Rattle.cr_cells.proofs.MemberLemmas.{Among, all_at, all_from, Among-filter, Among-append}
+use Rattle.cr_cells.proofs.MemberLemmas.{all_at, all_from, Among-filter, Among-append}
 
 mark_total : IsTotalOrder mark_cmp
 mark_total = on_total (λ m. m.0) bytes_total

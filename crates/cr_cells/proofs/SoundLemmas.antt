@@ -1,5 +1,5 @@
 -- What a store holds stays sound.
-use Rattle.std.proofs.Common.{◌≡◌, ◌⊎◌, inl, inr, ℕ, ℤ, pos, ◌+ℤ◌, ◌≤ℤ◌, Bool, true, false, not, ◌||◌, List, [], ◌∷◌, ◌++◌, Option, Some, None, refl, sym, ap, ◌∙◌, subst, Ordering, arith}
+use Rattle.std.proofs.Common.{◌≡◌, inl, inr, ℕ, ℤ, pos, ◌+ℤ◌, ◌≤ℤ◌, Bool, true, false, not, ◌||◌, List, ◌++◌, Option, None, refl, sym, ap, ◌∙◌, subst, Ordering, arith}
 use Rattle.std.proofs.lemmas.Int.{ints}
 use Rattle.std.specs.List.{AllByRecursion, IsDistinct}
 use Rattle.std.specs.List.Sorted.{IsStrictlySortedBy}
@@ -13,9 +13,9 @@ use Rattle.cr_lattice.specs.Change.{change_cmp}
 use Rattle.cr_lattice.specs.ChangeOrder.{change_total, change_exact}
 use Rattle.cr_lattice.specs.Keep.{has, keep, join}
 use Rattle.cr_lattice.proofs.KeepLaws.{In, In-append, kept_from, keep_keep, keep-nil}
-use Rattle.cr_cells.specs.Tables.{has_defaults, IsNewTable, is_markable, with_replicated, with_table, same_name, AreWellFormed, fault_in}
-use Rattle.cr_cells.specs.Marks.{Mark, marks_after, mark_cmp, AreMarks}
-use Rattle.cr_cells.specs.Holding.{Holding, changes_of, kept_of, same_stamp, IsSound, empty_holding}
+use Rattle.cr_cells.specs.Tables.{has_defaults, IsNewTable, is_markable, with_replicated, with_table, AreWellFormed, fault_in}
+use Rattle.cr_cells.specs.Marks.{Mark, marks_after, AreMarks}
+use Rattle.cr_cells.specs.Holding.{Holding, changes_of, kept_of, IsSound, empty_holding}
 use Rattle.cr_cells.specs.Commit.{is_changed, cells_after, committed}
 use Rattle.cr_cells.specs.Calls.{is_past_limit}
 use Rattle.cr_cells.specs.declared.cells.Advance.{Advance}

@@ -1,9 +1,16 @@
 -- Tables that are added or marked: their names stay distinct, and what was well formed stays so.
-use Rattle.std.proofs.Common.{◌≡◌, ◌⊎◌, inl, inr, ℕ, Bool, true, false, not, ◌&&◌, ◌||◌, List, [], ◌∷◌, ◌++◌, map, Option, Some, None, refl, sym, ap, ◌∙◌, subst, Ordering}
+use Rattle.std.proofs.Common.{◌≡◌, ◌⊎◌, inl, inr, ℕ, Bool, true, false, not, ◌&&◌, ◌||◌, List, [], ◌∷◌, ◌++◌, map, Option, Some, None, refl, sym, ap, ◌∙◌, ◌<◌, length, get_or, take, length-take, arith, Bor, is_some}
+use Rattle.std.specs.Option.{option_copied}
+use Rattle.std.proofs.lemmas.List.{get_or-take, get_or_default}
+use Rattle.std.proofs.lemmas.List.Folds.{Any-from_list_any}
+use Rattle.cr_value.specs.declared.affinity.Affinity.TheVariants as affinity
+use Rattle.cr_value.specs.declared.value.Value.TheVariants as value
+use Rattle.cr_lattice.specs.declared.table.ColumnDef.{ColumnDef}
+use Rattle.cr_lattice.specs.Profile.{IsFirstRepeat}
 use Rattle.std.specs.Prelude.{find}
 use Rattle.std.specs.List.{list_any, AllByRecursion, IsDistinct}
 use Rattle.std.specs.Option.{option_map}
-use Rattle.std.specs.Ordering.{eq_by_cmp, is_eq, on}
+use Rattle.std.specs.Ordering.{eq_by_cmp, on}
 use Rattle.std.specs.Cmp.{IsEquivalence, eq_by_cmp_equiv}
 use Rattle.std.proofs.lemmas.Cmp.{on_total}
 use Rattle.std.proofs.lemmas.Map.Keys.{IsDistinct-push}
@@ -12,9 +19,9 @@ use Rattle.cr_value.specs.OrderLaws.{bytes_total}
 use Rattle.cr_lattice.specs.declared.change.Change.{Change}
 use Rattle.cr_lattice.specs.declared.table.Table.{Table}
 use Rattle.cr_lattice.specs.declared.table.TableDef.{TableDef}
-use Rattle.cr_lattice.specs.Check.{is_too_big, fault_of}
+use Rattle.cr_lattice.specs.Check.{is_too_big, fault_of, same_bytes}
 use Rattle.cr_cells.specs.Tables.{has_defaults, is_named, same_name, IsFit, IsStored, IsNewTable, is_markable, marked, with_replicated, with_table, is_table_of, fault_in, AreWellFormed}
-use Rattle.cr_cells.proofs.MemberLemmas.{split, Among, any_gives, all_at, all_from, find_gives, apart_one}
+use Rattle.cr_cells.proofs.MemberLemmas.{split, Among, any_gives, all_at, any_from, find_gives, find_none, apart_one}
 
 and_true : (a b : Bool) → (a && b) ≡ true → (a ≡ true) × (b ≡ true)
 and_true true b e = (refl, e)
@@ -177,3 +184,36 @@ stored-with_replicated name ts distinct all e =
           let one : t ≡ r.0 = apart_one same_name same_name-equiv.symm ts t r.0 distinct a r.1 (one_named name t r.0 named p.0) in
           ap (λ (u : Table). has_defaults u.definition) one ∙ p.1);
     }))
+
+-- ---- definitions that are not new
+
+some_column : ColumnDef
+some_column = record { name = []; affinity = affinity.Blob; collation = []; not_null = false; key = None; default = value.Null }
+
+pub repeat_not_new : (ts : List Table) (def : TableDef) (i : ℕ) → IsFirstRepeat def i → IsNewTable ts def → ⊥
+repeat_not_new ts def i repeated new =
+    let cols = def.columns in
+    let name : List ℕ = (get_or cols i some_column).name in
+    let r = Any-from_list_any (λ c. same_bytes c.name name) (take i cols) (repeated.repeats some_column) in
+    let k : ℕ = r.0 in
+    let x : ColumnDef = r.1 in
+    let short : k < length (take i cols) = r.2 in
+    let below : k < i = omega (arith, length-take i cols) in
+    let is : get_or cols k x ≡ x = sym (get_or-take i cols k x below) ∙ r.3 in
+    let at : get_or cols i x ≡ get_or cols i some_column = get_or_default cols i x some_column repeated.within in
+    let apart : same_bytes (get_or cols k x).name (get_or cols i x).name ≡ false = new.fit.names k i x below repeated.within in
+    let same : same_bytes x.name name ≡ true = r.4 in
+    let apart' : same_bytes x.name name ≡ false = ap (λ (c : ColumnDef). same_bytes c.name name) (sym is) ∙ ap (λ (c : ColumnDef). same_bytes (get_or cols k x).name c.name) (sym at) ∙ apart in
+    absurd cc
+
+pub found_not_new : (ts : List Table) (def : TableDef) (o : Option (Bor Table)) → option_copied o ≡ find (is_named def.name) ts → is_some o ≡ true → IsNewTable ts def → ⊥
+found_not_new ts def None e some' new = absurd cc
+found_not_new ts def (Some t) e some' new =
+    let r = find_gives (is_named def.name) ts t.now (sym e) in
+    let yes' : list_any (is_named def.name) ts ≡ true = any_from (is_named def.name) ts t.now r.0 r.1 in
+    let no : list_any (is_named def.name) ts ≡ false = new.unused in
+    absurd cc
+
+pub none_unused : (ts : List Table) (name : List ℕ) (o : Option (Bor Table)) → option_copied o ≡ find (is_named name) ts → is_some o ≡ false → list_any (is_named name) ts ≡ false
+none_unused ts name None e none = find_none (is_named name) ts (sym e)
+none_unused ts name (Some t) e none = absurd cc

@@ -1,5 +1,5 @@
 -- What the calls of a store answer and leave. Source: this project's own.
-use Rattle.std.specs.Prelude.{◌≡◌, ℤ, Bool, true, false, ◌&&◌, List, Option, Result, Ok, Err, MatchResult}
+use Rattle.std.specs.Prelude.{◌≡◌, Bool, true, false, ◌&&◌, List, Option, Result, Ok, Err, MatchResult}
 use Rattle.std.specs.Ordering.{int_eq}
 use Rattle.cr_lattice.specs.declared.change.Change.{Change}
 use Rattle.cr_cells.specs.declared.store.CellsError.{CellsError}
@@ -14,6 +14,12 @@ abbrev pub IsRefusal : CellsError → Type 0
 IsRefusal error.Memory = Unit {0}
 IsRefusal (error.Store f) = f ≡ fault.Refused
 IsRefusal error.VersionLimit = ⊥
+
+-- so may a commit be refused, and for want of versions
+abbrev pub IsCommitRefusal : CellsError → Type 0
+IsCommitRefusal error.Memory = Unit {0}
+IsCommitRefusal (error.Store f) = f ≡ fault.Refused
+IsCommitRefusal error.VersionLimit = Unit {0}
 
 -- a reading leaves what the store holds, and its answer meets P, or it is refused
 pub record Reads {T : Type 0} (old new : Holding) (answer : Result T CellsError) (P : T → Type 0) : Type 0 where

@@ -10,6 +10,7 @@ use Rattle.cr_lattice.specs.Change.{change_cmp}
 use Rattle.cr_lattice.specs.Keep.{keep}
 use Rattle.cr_lattice.specs.Rows.{is_of_row}
 use Rattle.cr_lattice.specs.Sets.{set_of}
+pub use Rattle.cr_lattice.specs.Sync.{changes_of}
 use Rattle.cr_cells.specs.Tables.{same_name, IsStored, AreWellFormed}
 use Rattle.cr_cells.specs.Marks.{Mark, AreMarks}
 
@@ -21,9 +22,6 @@ pub record Holding : Type 0 where
   pub version : ℤ
   pub cells : List Stamped
   pub marks : List Mark
-
-abbrev pub changes_of : List Stamped → List Change
-changes_of cells = map (λ s. s.change) cells
 
 -- the kept changes, in the order of changes
 abbrev pub kept_of : Holding → List Change

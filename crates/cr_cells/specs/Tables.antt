@@ -4,11 +4,10 @@ use Rattle.std.specs.List.{list_any, list_all, AllByRecursion}
 use Rattle.std.specs.Option.{option_map}
 use Rattle.cr_lattice.specs.declared.change.Change.{Change}
 use Rattle.cr_lattice.specs.declared.check.BadChange.{BadChange}
-use Rattle.cr_lattice.specs.declared.table.ColumnDef.{ColumnDef}
 use Rattle.cr_lattice.specs.declared.table.Table.{Table}
 use Rattle.cr_lattice.specs.declared.table.TableDef.{TableDef}
-use Rattle.cr_lattice.specs.Check.{same_bytes, is_key_column, is_null, fault_of}
-use Rattle.cr_lattice.specs.Profile.{has_key, has_row_cid, HasDistinctNames}
+use Rattle.cr_lattice.specs.Check.{same_bytes, fault_of}
+use Rattle.cr_lattice.specs.Profile.{profile_fault, HasDistinctNames, lacks_default}
 
 -- ---- definitions
 
@@ -20,10 +19,6 @@ is_folded name = list_all (λ b. not (nat_lt 64 b && nat_lt b 91)) name
 unfoldable pub has_folded_names : TableDef → Bool
 has_folded_names def = is_folded def.name && list_all (λ col. is_folded col.name && is_folded col.collation) def.columns
 
--- a NOT NULL column outside the key whose default is NULL
-abbrev pub lacks_default : ColumnDef → Bool
-lacks_default col = not (is_key_column col) && (col.not_null && is_null col.default)
-
 -- each column outside the key that wants a value has a default
 unfoldable pub has_defaults : TableDef → Bool
 has_defaults def = not (is_some (position lacks_default def.columns))
@@ -31,8 +26,7 @@ has_defaults def = not (is_some (position lacks_default def.columns))
 -- the definition is one that a store takes
 pub record IsFit (def : TableDef) : Type 0 where
   pub folded : has_folded_names def ≡ true
-  pub key : has_key def ≡ true
-  pub no_row_cid : has_row_cid def ≡ false
+  pub profile : profile_fault def ≡ None
   pub names : HasDistinctNames def
 
 -- ---- tables

@@ -1,10 +1,11 @@
 //! What follows of any store from the contract alone.
 
-ghost use Rattle.std.specs.Prelude.{◌≡◌, ◌++◌, List, IfOk, OnOk};
+ghost use Rattle.std.specs.Prelude.{◌≡◌, ◌++◌, List, IfOk, OnOk, IfErr};
 ghost use Rattle.std.specs.List.{flat_map, AllByRecursion};
 ghost use Rattle.cr_lattice.specs.Keep.{join, SameMembers};
 ghost use Rattle.cr_cells.specs.Tables.{AreWellFormed};
-ghost use Rattle.cr_cells.specs.Holding.{kept_of, changes_of, IsSound};
+ghost use Rattle.cr_cells.specs.Holding.{kept_of, changes_of};
+ghost use Rattle.cr_cells.specs.Calls.{IsCommitRefusal};
 
 use crate::store::{Cells, CellsError};
 use cr_lattice::change::Change;
@@ -25,6 +26,7 @@ pub fn commit_all<C: Cells>(
     ensures was_clean { C.is_clean cells.new → C.is_clean cells.old }
     ensures kept { C.is_clean cells.new → OnOk result (kept_of (C.holding cells.new)
         ≡ join (kept_of (C.holding cells.old)) (flat_map (λ batch. batch) batches.now)) }
+    ensures refused { C.is_clean cells.new → IfErr result IsCommitRefusal }
 {
     let _ = cells.db_version();
     for batch in batches {
@@ -45,7 +47,8 @@ pub fn commit_twice<C: Cells>(
 ) -> Result<Vec<Stamped>, CellsError>
     requires first { C.is_clean cells.old → AreWellFormed (C.holding cells.old).tables first.now }
     requires second { C.is_clean cells.old → AreWellFormed (C.holding cells.old).tables second.now }
-    ensures { C.is_clean cells.new → IfOk result (λ listed. SameMembers (changes_of listed.items)
+    ensures refused { C.is_clean cells.new → IfErr result IsCommitRefusal }
+    ensures listed { C.is_clean cells.new → IfOk result (λ listed. SameMembers (changes_of listed.items)
         (join (kept_of (C.holding cells.old)) (first.now ++ second.now))) }
 {
     let _ = cells.db_version();

@@ -13,12 +13,12 @@ ghost use Rattle.cr_cells.specs.Holding.{changes_of, cell_cmp, stamp_cmp, same_s
 ghost use Rattle.cr_cells.specs.Commit.{stamped};
 ghost use Rattle.cr_cells.specs.Advance.{Advances};
 
-use crate::bytes::same_bytes;
 use crate::store::CellsError;
 use cr_lattice::change::Change;
 use cr_lattice::merge::merge;
 use cr_lattice::order::cmp_changes;
 use cr_lattice::stamped::Stamped;
+use cr_value::order::same_bytes;
 use std::alloc::{AllocError, Global};
 use std::cmp::Ordering;
 

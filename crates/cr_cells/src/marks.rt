@@ -6,9 +6,8 @@ ghost use Rattle.std.specs.Ordering.{is_lt};
 ghost use Rattle.cr_lattice.specs.Check.{same_bytes};
 ghost use Rattle.cr_cells.specs.Marks.{mark_cmp, seen_of, with_mark, marks_after};
 
-use crate::bytes::same_bytes;
 use cr_lattice::change::Site;
-use cr_value::order::cmp_bytes;
+use cr_value::order::{cmp_bytes, same_bytes};
 use std::alloc::{AllocError, Global};
 
 /// A peer's site and version.

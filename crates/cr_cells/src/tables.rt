@@ -1,16 +1,16 @@
 //! Tables of a store: which may be added, which be replicated, and which changes are well formed for one of them.
 
-ghost use Rattle.std.specs.Prelude.{◌≡◌, map, find, position, IfOk, OnOk, OnErr, not, ◌||◌, ◌&&◌, nat_lt};
+ghost use Rattle.std.specs.Prelude.{◌≡◌, true, false, map, find, IfOk, OnOk, OnErr, not, ◌||◌, ◌&&◌, nat_lt};
 ghost use Rattle.std.specs.List.{list_all, list_any};
 ghost use Rattle.std.specs.Option.{option_copied};
 ghost use Rattle.cr_lattice.specs.Check.{Checks};
-ghost use Rattle.cr_cells.specs.Tables.{is_folded, has_folded_names, lacks_default, has_defaults, is_named, is_markable, marked, with_replicated, with_table, is_table_of, fault_in, first_fault, AreWellFormed};
+ghost use Rattle.cr_cells.specs.Tables.{is_folded, has_folded_names, has_defaults, IsNewTable, is_named, is_markable, marked, with_replicated, with_table, is_table_of, fault_in, first_fault, AreWellFormed};
 
-use crate::bytes::same_bytes;
 use cr_lattice::change::Change;
 use cr_lattice::check::{CheckError, check};
+use cr_lattice::profile::{duplicate, no_default, profile};
 use cr_lattice::table::{ColumnDef, Table, TableDef};
-use cr_value::value::Value;
+use cr_value::order::same_bytes;
 use std::alloc::{AllocError, Global};
 
 /// Whether a name has no ASCII capital letter.
@@ -37,24 +37,12 @@ pub fn has_folded_names(def: &TableDef) -> bool
     is_folded(def.name.as_str()) && has_folded_columns(def.columns.as_slice())
 }
 
-fn lacks_default(column: &ColumnDef) -> bool
-    ensures { result ≡ lacks_default column.now }
-{
-    column.key.is_none() && column.not_null && matches!(&column.default, Value::Null)
-}
-
-fn first_without_default(columns: &[ColumnDef]) -> Option<usize>
-    ensures { result ≡ position lacks_default columns.now }
-{
-    columns.iter().position(|column| lacks_default(column))
-}
-
 /// Whether each column outside the key that wants a value has a default.
 #[tactic(auto, unfolding(crate::specs::Tables::has_defaults))]
 pub fn has_defaults(def: &TableDef) -> bool
     ensures { result ≡ has_defaults def.now }
 {
-    first_without_default(def.columns.as_slice()).is_none()
+    no_default(def).is_none()
 }
 
 fn is_named(table: &Table, name: &str) -> bool
@@ -68,6 +56,26 @@ pub fn table_named<'a>(tables: &'a [Table], name: &str) -> Option<&'a Table>
     ensures { option_copied result ≡ find (is_named name.now) tables.now }
 {
     tables.iter().find(|table| is_named(table, name))
+}
+
+/// Whether a definition may be added beside the tables: its names are in ASCII lower case, it is within the profile, its
+/// columns have distinct names, and no table has its name.
+pub fn is_new_table(tables: &[Table], def: &TableDef) -> bool
+    ensures new { result ≡ true → IsNewTable tables.now def.now }
+    ensures not_new { result ≡ false → ¬ IsNewTable tables.now def.now }
+{
+    if !has_folded_names(def) {
+        return false;
+    }
+    match profile(def) {
+        Ok(()) => {}
+        Err(_) => return false,
+    }
+    match duplicate(def) {
+        None => {}
+        Some(_) => return false,
+    }
+    table_named(tables, def.name.as_str()).is_none()
 }
 
 /// Whether a table of that name is there, and each of its columns outside the key that wants a value has a default.

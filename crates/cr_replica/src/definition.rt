@@ -7,7 +7,7 @@ use cr_cells::store::{CellsError, StoreFault};
 use cr_cells::tables::table_named;
 use cr_lattice::profile::{ProfileFault, duplicate, no_default, profile};
 use cr_lattice::table::{ColumnDef, Table, TableDef};
-use cr_value::order::cmp_bytes;
+use cr_value::order::same_bytes;
 use std::alloc::AllocError;
 
 /// Why a table is not defined. Of several causes the first of this order is told: the profile, the table's name, its
@@ -45,9 +45,7 @@ fn has_unknown_collation(column: &ColumnDef) -> bool
     ensures { result ≡ has_unknown_collation column.now }
 {
     let name = column.collation.as_str().as_bytes();
-    !(cmp_bytes(name, b"binary").is_eq()
-        || cmp_bytes(name, b"nocase").is_eq()
-        || cmp_bytes(name, b"rtrim").is_eq())
+    !(same_bytes(name, b"binary") || same_bytes(name, b"nocase") || same_bytes(name, b"rtrim"))
 }
 
 fn first_unknown_collation(columns: &[ColumnDef]) -> Option<usize>

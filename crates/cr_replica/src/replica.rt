@@ -13,6 +13,7 @@ use cr_lattice::merge::merge;
 use cr_lattice::rows::rows;
 use cr_lattice::stamped::Stamped;
 use cr_lattice::table::{Items, Row, TableDef};
+use cr_value::order::same_bytes;
 use std::alloc::{AllocError, Global};
 use std::marker::Model;
 
@@ -110,7 +111,7 @@ impl<C: Cells> Replica<C> {
     ghost use Rattle.cr_cells.specs.Holding.{since};
     ghost use Rattle.cr_cells.specs.Calls.{Reads};
     ghost use Rattle.cr_replica.specs.Definition.{DefinesTable};
-    ghost use Rattle.cr_replica.specs.Taking.{Stands, Takes};
+    ghost use Rattle.cr_replica.specs.Taking.{Stands, Takes, Pulls};
     ghost use Rattle.cr_replica.specs.Showing.{Shows};
 
     /// A replica over the store, which may hold something already.
@@ -171,6 +172,33 @@ impl<C: Cells> Replica<C> {
         match self.cells.commit(alloc, changes, None) {
             Ok(_) => Ok(()),
             Err(error) => Err(TakeError::from(error)),
+        }
+    }
+
+    /// Takes all changes that a peer keeps, in one commit. The peer stays as it is.
+    ///
+    /// # Errors
+    /// `SameSite` where the peer's site is this replica's own; else those of `take`. Then nothing is changed.
+    pub fn pull<D: Cells>(&mut self, alloc: Global, peer: &mut Replica<D>) -> Result<(), TakeError>
+        ensures was_clean { C.is_clean self.new → C.is_clean self.old }
+        ensures peer_was_clean { D.is_clean peer.new → D.is_clean peer.old }
+        ensures peer_stays { D.is_clean peer.new → D.holding peer.new ≡ D.holding peer.old }
+        ensures pulls { C.is_clean self.new → D.is_clean peer.new
+            → Pulls (D.holding peer.old) (C.holding self.old) (C.holding self.new) result }
+        ensures joins { C.is_clean self.new → D.is_clean peer.new → OnOk result ((mine theirs : List Change)
+            → Stands mine (C.holding self.old) → Stands theirs (D.holding peer.old)
+            → Stands (mine ++ theirs) (C.holding self.new)) }
+    {
+        if same_bytes(&peer.site_id(), &self.site_id()) {
+            return Err(TakeError::SameSite);
+        }
+        let cells = match peer.changes_since(alloc, 0) {
+            Ok(cells) => cells,
+            Err(error) => return Err(TakeError::from(error)),
+        };
+        match changes_of(alloc, cells) {
+            Ok(changes) => self.take(alloc, &changes),
+            Err(AllocError) => Err(TakeError::Memory),
         }
     }
 

@@ -1,10 +1,9 @@
 use Rattle.std.proofs.Common.{None}
-use Rattle.cr_lattice.specs.Keep.{join}
 use Rattle.cr_cells.proofs.CallerLemmas.{match_ok, kept-once_more, kept-first, listed-all}
 use Rattle.cr_cells.proofs.callers.commit_twice.Goals as goal
 
-pub returns : goal.returns
-returns g c = λ clean.
+pub returns-clause-listed : goal.returns-clause-listed
+returns-clause-listed g c = λ clean.
     let clean_2 : g.C.Cells.is_clean c.commit-2.new.self = c.since.ensures.was_clean clean in
     let clean_1 : g.C.Cells.is_clean c.commit.new.self = c.in_ok-commit-2.ensures.was_clean clean_2 in
     let clean_0 : g.C.Cells.is_clean c.args.cells.now = c.in_ok-commit.ensures.was_clean clean_1 in

@@ -1,4 +1,3 @@
-use Rattle.std.proofs.Common.{◌≡◌, ap, ◌∙◌, sym, not}
 use Rattle.cr_cells.proofs.CommitLemmas.{none_is_new}
 use Rattle.cr_cells.proofs.cells.comes_in.Goals as goal
 

@@ -1,7 +1,5 @@
-use Rattle.std.proofs.Common.{◌≡◌, ◌+ℤ◌, pos, ℤ, arith, sym, ap, ◌∙◌, SFits, w64, to_z, of_z, to_z-of_z, drop, []}
+use Rattle.std.proofs.Common.{◌≡◌, ◌+ℤ◌, pos, ℤ, arith, ap, ◌∙◌, SFits, w64, to_z, of_z, to_z-of_z}
 use Rattle.std.proofs.lemmas.Int.{ints}
-use Rattle.std.specs.Prelude.{find}
-use Rattle.cr_lattice.specs.declared.stamped.Stamped.{Stamped}
 use Rattle.cr_cells.proofs.cells.restamped.Goals.{in-Some+in_ok-cell-in-Some, in-None+in_ok-change-in-None}
 use Rattle.cr_cells.proofs.CommitLemmas.{cell_for, seq_after, restamped_more, restamped_done}
 use Rattle.cr_cells.proofs.cells.restamped.Goals as goal

@@ -1,9 +1,8 @@
-use Rattle.std.proofs.Common.{◌≡◌, ◌+ℤ◌, pos, Bool, true, arith, sym, ap, ◌∙◌, SFits, w64, to_z, of_z, to_z-of_z}
+use Rattle.std.proofs.Common.{◌≡◌, ◌+ℤ◌, pos, arith, sym, ap, ◌∙◌, SFits, w64, to_z, of_z, to_z-of_z}
 use Rattle.std.proofs.lemmas.Int.{ints}
 use Rattle.std.specs.List.{list_any}
 use Rattle.cr_lattice.specs.Keep.{join}
-use Rattle.cr_cells.specs.Holding.{changes_of}
-use Rattle.cr_cells.specs.Commit.{is_changed, greatest_version, cells_after}
+use Rattle.cr_cells.specs.Commit.{greatest_version, cells_after}
 use Rattle.cr_cells.proofs.CommitLemmas.{is_new, sorted_kept, is_changed-is, sorted_next, cells_after-is, same_int, at_limit, other_int}
 use Rattle.cr_cells.proofs.cells.take_changes.Goals as goal
 

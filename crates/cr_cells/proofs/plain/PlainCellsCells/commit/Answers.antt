@@ -1,5 +1,4 @@
-use Rattle.std.proofs.Common.{◌≡◌, arith, SFits, w64, to_z, of_z, to_z-of_z, rules, ℤ}
-use Rattle.std.proofs.lemmas.Int.{ints}
+use Rattle.std.proofs.Common.{w64, to_z-of_z, rules}
 use Rattle.cr_cells.specs.Plain.{holding_of}
 use Rattle.cr_cells.proofs.SoundLemmas.{sound_some, sound_none, commits_none}
 use Rattle.cr_cells.proofs.plain.PlainCellsCells.commit.Goals as goal

@@ -1,0 +1,11 @@
+use Rattle.std.proofs.Common.{rules}
+use Rattle.std.specs.Ordering.{is_lt}
+use Rattle.std.proofs.lemmas.List.Sorted.{IsPartitionPoint-from_clause}
+use Rattle.cr_delta.specs.Run.{row_order}
+use Rattle.cr_delta.proofs.Runs.{before_is_partitioned}
+use Rattle.cr_delta.proofs.run.row_start.Goals as goal
+
+pub returns-clause-point : goal.returns-clause-point
+returns-clause-point c =
+    IsPartitionPoint-from_clause (λ x. is_lt (row_order c.args.table.now c.args.pk.now x)) _ _ c.partition_point.ensures.partitioned
+    (before_is_partitioned c.args.table.now c.args.pk.now c.args.kept.now c.requires) (λ a r q k. search rules)

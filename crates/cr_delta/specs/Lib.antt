@@ -1,0 +1,6 @@
+pub mod Key
+pub mod Delta
+pub mod Wanted
+pub mod Adds
+pub mod Run
+pub mod Steps

@@ -1,0 +1,34 @@
+//! Why a write has no changes to give.
+
+use std::alloc::{AllocError, AllocFailed};
+
+/// Why the changes of a write are not given.
+#[derive(Debug, Drop)]
+pub enum DeltaError {
+    /// Memory ran out.
+    Memory,
+    /// A version or a causal length would pass 9223372036854775807.
+    VersionLimit,
+}
+
+impl From<AllocError> for DeltaError {
+    ghost use Rattle.std.specs.Prelude.{◌≡◌};
+    ghost use Rattle.cr_delta.specs.declared.error.DeltaError.TheVariants.{Memory};
+
+    ghost from_gives = { λ _ e. e ≡ Memory };
+
+    fn from(_e: AllocError) -> DeltaError {
+        DeltaError::Memory
+    }
+}
+
+impl<T: Drop> From<AllocFailed<T>> for DeltaError {
+    ghost use Rattle.std.specs.Prelude.{◌≡◌};
+    ghost use Rattle.cr_delta.specs.declared.error.DeltaError.TheVariants.{Memory};
+
+    ghost from_gives = { λ _ e. e ≡ Memory };
+
+    fn from(_e: AllocFailed<T>) -> DeltaError {
+        DeltaError::Memory
+    }
+}
