@@ -7,8 +7,8 @@ ghost use Rattle.cr_lattice.specs.Check.{is_odd};
 ghost use Rattle.cr_lattice.specs.Rows.{is_of_row, is_alive, is_cell, kept_change, default_of, shown};
 
 use cr_lattice::change::Change;
-use cr_lattice::check::same_bytes;
 use cr_lattice::table::ColumnDef;
+use cr_value::order::same_bytes;
 use cr_value::value::Value;
 use std::alloc::{AllocError, Global};
 
