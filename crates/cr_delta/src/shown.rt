@@ -49,7 +49,12 @@ fn is_cell(change: &Change, table: &str, pk: &[u8], cid: &str) -> bool
 
 /// What is kept of a column.
 #[tactic(auto, unfolding(cr_lattice::specs::Rows::kept_change))]
-pub(crate) fn kept_change<'a>(kept: &'a [Change], table: &str, pk: &[u8], cid: &str) -> Option<&'a Change>
+pub(crate) fn kept_change<'a>(
+    kept: &'a [Change],
+    table: &str,
+    pk: &[u8],
+    cid: &str,
+) -> Option<&'a Change>
     ensures { option_copied result ≡ kept_change kept.now table.now pk.now cid.now }
 {
     kept.iter().find(|change| is_cell(change, table, pk, cid))

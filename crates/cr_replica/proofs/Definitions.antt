@@ -6,7 +6,6 @@ use Rattle.std.specs.Option.{option_copied}
 use Rattle.std.specs.List.{list_any}
 use Rattle.cr_lattice.specs.declared.table.Table.{Table}
 use Rattle.cr_lattice.specs.declared.table.TableDef.{TableDef}
-use Rattle.cr_lattice.proofs.ProfileLemmas.{accepted_key, accepted_row}
 use Rattle.cr_cells.specs.Tables.{has_folded_names, has_defaults, IsNewTable}
 use Rattle.cr_replica.specs.Definition.{IsAccepted}
 
@@ -26,7 +25,7 @@ is_some-copied (Some x) = refl
 -- an accepted definition is one that a store takes
 pub accepted_is_new : (tables : List Table) (def : TableDef) → has_folded_names def ≡ true → IsAccepted tables def → IsNewTable tables def
 accepted_is_new tables def folded ok = record {
-  fit = record { folded = folded; key = accepted_key def ok.profile; no_row_cid = accepted_row def ok.profile; names = ok.names };
+  fit = record { folded = folded; profile = ok.profile; names = ok.names };
   unused = ok.new;
 }
 

@@ -1,2 +1,3 @@
 pub mod Definitions
 pub mod Shown
+pub mod Pulling

@@ -51,7 +51,9 @@ fn has_unknown_collation(column: &ColumnDef) -> bool
 fn first_unknown_collation(columns: &[ColumnDef]) -> Option<usize>
     ensures { result ≡ position has_unknown_collation columns.now }
 {
-    columns.iter().position(|column| has_unknown_collation(column))
+    columns
+        .iter()
+        .position(|column| has_unknown_collation(column))
 }
 
 // Whether a table has the definition's name.

@@ -108,7 +108,7 @@ impl<C: Cells> Replica<C> {
     ghost use Rattle.std.specs.Prelude.{◌≡◌, ◌++◌, List, find, true, OnOk};
     ghost use Rattle.cr_lattice.specs.declared.change.Change.{Change};
     ghost use Rattle.cr_cells.specs.Tables.{is_named, has_folded_names};
-    ghost use Rattle.cr_cells.specs.Holding.{since};
+    ghost use Rattle.cr_cells.specs.Holding.{IsSound, since};
     ghost use Rattle.cr_cells.specs.Calls.{Reads};
     ghost use Rattle.cr_replica.specs.Definition.{DefinesTable};
     ghost use Rattle.cr_replica.specs.Taking.{Stands, Takes, Pulls};
@@ -235,12 +235,9 @@ impl<C: Cells> Replica<C> {
     ///
     /// # Errors
     /// `Memory`, or `Store(Refused)`.
-    pub fn changes_since(
-        &mut self,
-        alloc: Global,
-        version: i64,
-    ) -> Result<Vec<Stamped>, CellsError>
+    pub fn changes_since(&mut self, alloc: Global, version: i64) -> Result<Vec<Stamped>, CellsError>
         ensures was_clean { C.is_clean self.new → C.is_clean self.old }
+        ensures sound { C.is_clean self.new → IsSound (C.holding self.new) }
         ensures reads { C.is_clean self.new → Reads (C.holding self.old) (C.holding self.new) result
             (λ cells. cells.items ≡ since (C.holding self.old).cells version) }
     {
