@@ -16,8 +16,9 @@ use crate::changes::{column_change, next, row_change};
 use crate::error::DeltaError;
 use crate::key::{in_order, keys_of};
 use crate::run::{has_key, row_run};
-use crate::shown::{default_of, is_alive, kept_change, row_change_of, shown};
+use crate::shown::{is_alive, row_change_of};
 use cr_lattice::change::{Change, Site};
+use cr_lattice::rows::{column_value, is_present, kept_change};
 use cr_lattice::table::{ColumnDef, Row, TableDef};
 use cr_value::order::{cmp_binary, same_bytes};
 use cr_value::text::Bytes;
@@ -43,21 +44,6 @@ fn version_of(kept: &[Change], table: &str, pk: &[u8], cid: &str) -> i64
     match kept_change(kept, table, pk, cid) {
         Some(change) => change.col_version,
         None => 0,
-    }
-}
-
-fn column_value(
-    alloc: Global,
-    kept: &[Change],
-    table: &str,
-    pk: &[u8],
-    column: &ColumnDef,
-) -> Result<Value, AllocError>
-    ensures { IfOk result (λ v. v ≡ column_value kept.now table.now pk.now column.now) }
-{
-    match kept_change(kept, table, pk, column.name.as_str()) {
-        Some(change) => shown(alloc, column, &change.val),
-        None => default_of(alloc, column),
     }
 }
 
@@ -201,13 +187,6 @@ fn add_rows(
         add_row(alloc, out, def, site, kept, pk.as_slice(), row.as_slice())?;
     }
     Ok(())
-}
-
-fn is_present(change: &Change, table: &str) -> bool
-    ensures { result ≡ is_present table.now change.now }
-{
-    same_bytes(change.table.as_str().as_bytes(), table.as_bytes())
-        && change.cl.unsigned_abs() % 2 == 1
 }
 
 // Adds that each row goes that is present and not wanted. What the several changes of a row add is one change.
