@@ -1,5 +1,5 @@
 -- What a store of cells holds. A cell is a kept change with its stamp. Source: this project's own.
-use Rattle.std.specs.Prelude.{◌≡◌, ℕ, ℤ, pos, ◌≤ℤ◌, int_lt, Bool, ◌&&◌, List, [], map, filter}
+use Rattle.std.specs.Prelude.{◌≡◌, ℕ, ℤ, pos, ◌≤ℤ◌, int_lt, Bool, ◌&&◌, List, [], filter}
 use Rattle.std.specs.List.{list_any, AllByRecursion, IsDistinct}
 use Rattle.std.specs.declared.cmp.Ordering.{Ordering}
 use Rattle.std.specs.Ordering.{int_cmp, int_eq, eq_by_cmp, on, then_cmp}

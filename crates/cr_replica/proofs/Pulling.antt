@@ -1,14 +1,14 @@
 -- What a pull takes.
-use Rattle.std.proofs.Common.{◌≡◌, ◌≢◌, ℕ, pos, true, false, Bool, List, [], ◌++◌, Option, None, Result, Ok, Err, refl, sym, ap, subst, ◌∙◌, Ordering, Less, Equal, Greater}
+use Rattle.std.proofs.Common.{◌≡◌, ◌≢◌, ℕ, true, false, List, ◌++◌, Result, Ok, Err, refl, sym, ap, subst, ◌∙◌, Ordering, Less, Equal, Greater}
 use Rattle.std.proofs.lemmas.Cmp.{tied_itself}
 use Rattle.cr_value.specs.OrderLaws.{bytes_total, bytes_exact}
 use Rattle.std.specs.Prelude.{OnOk}
 use Rattle.std.specs.Ordering.{is_eq}
 use Rattle.cr_value.specs.Order.{bytes_cmp}
 use Rattle.cr_lattice.specs.declared.change.Change.{Change}
-use Rattle.cr_lattice.specs.Keep.{keep, join, SameMembers}
+use Rattle.cr_lattice.specs.Keep.{keep, join}
 use Rattle.cr_lattice.proofs.KeepLaws.{keep_members, join_keeps_second}
-use Rattle.cr_cells.specs.Holding.{Holding, IsSound, kept_of, changes_of, since}
+use Rattle.cr_cells.specs.Holding.{Holding, IsSound}
 use Rattle.cr_cells.proofs.LawLemmas.{since-all}
 use Rattle.cr_replica.specs.declared.replica.TakeError.{TakeError}
 use Rattle.cr_replica.specs.declared.replica.TakeError.TheVariants.{Memory, Store, Bad, VersionLimit, SameSite}

@@ -1,5 +1,5 @@
 -- The rows that a store's cells show, however the cells are listed.
-use Rattle.std.proofs.Common.{◌≡◌, pos, true, List, [], ◌++◌, Some, Ok, sym, ap, ◌∙◌, refl}
+use Rattle.std.proofs.Common.{◌≡◌, pos, true, List, [], sym, ap, ◌∙◌, refl}
 use Rattle.std.proofs.lemmas.List.{append-nil}
 use Rattle.cr_value.specs.declared.value.Value.{Value}
 use Rattle.cr_lattice.specs.declared.change.Change.{Change}
@@ -9,7 +9,7 @@ use Rattle.cr_lattice.specs.Rows.{rows}
 use Rattle.cr_lattice.proofs.KeepLaws.{keep_members}
 use Rattle.cr_cells.specs.Holding.{Holding, changes_of, kept_of, since, IsSound}
 use Rattle.cr_cells.proofs.LawLemmas.{since-all}
-use Rattle.cr_replica.specs.Showing.{in_order, shown_of, Shows}
+use Rattle.cr_replica.specs.Showing.{in_order, shown_of}
 
 pub kept_listed : (h : Holding) (changes kept : List Change) → IsSound h → changes ≡ changes_of (since h.cells (pos 0)) → kept ≡ join changes [] → kept ≡ kept_of h
 kept_listed h changes kept sound listed joined =

@@ -1,5 +1,5 @@
 -- Which tables a replica defines. Source: this project's own profile; names of tables are told apart by their bytes.
-use Rattle.std.specs.Prelude.{◌≡◌, ℕ, Bool, true, false, not, ◌||◌, codes, List, position, Option, Some, None, Result, Ok, Err}
+use Rattle.std.specs.Prelude.{◌≡◌, Bool, true, false, not, ◌||◌, codes, List, position, Some, None, Result, Ok, Err}
 use Rattle.std.specs.List.{list_any}
 use Rattle.cr_lattice.specs.declared.table.ColumnDef.{ColumnDef}
 use Rattle.cr_lattice.specs.declared.table.Table.{Table}

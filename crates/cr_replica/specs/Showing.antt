@@ -1,5 +1,5 @@
 -- The rows that a replica shows. Source: this project's own; values stand in the order of SQLite's BINARY collation.
-use Rattle.std.specs.Prelude.{◌≡◌, ℕ, List, [], find, Option, Some, None, Result, Ok, Err, if◌then◌else◌}
+use Rattle.std.specs.Prelude.{◌≡◌, List, [], Option, Some, None, Result, Ok, Err, if◌then◌else◌}
 use Rattle.std.specs.declared.cmp.Ordering.{Ordering}
 use Rattle.std.specs.Cmp.Lexicographic.{slice_cmp}
 use Rattle.cr_value.specs.declared.value.Value.{Value}
@@ -10,7 +10,6 @@ use Rattle.cr_lattice.specs.Rows.{rows}
 use Rattle.cr_cells.specs.declared.store.StoreFault.TheVariants as store
 use Rattle.cr_cells.specs.declared.store.CellsError.{CellsError}
 use Rattle.cr_cells.specs.declared.store.CellsError.TheVariants as cells
-use Rattle.cr_cells.specs.Tables.{is_named}
 use Rattle.cr_cells.specs.Holding.{Holding, kept_of}
 use Rattle.cr_replica.specs.declared.replica.RowsError.{RowsError}
 use Rattle.cr_replica.specs.declared.replica.RowsError.TheVariants.{Memory, Store, NoSuchTable}

@@ -1,6 +1,6 @@
 -- What a taking and a pull leave. The set of all changes that a replica ever held is no data: a replica stands for each
 -- set whose kept changes are its own. Source: this project's own; a taking is a join.
-use Rattle.std.specs.Prelude.{◌≡◌, ◌≢◌, ℤ, pos, true, false, List, ◌++◌, Option, Some, None, Result, Ok, Err}
+use Rattle.std.specs.Prelude.{◌≡◌, ◌≢◌, pos, true, List, Some, None, Result, Ok, Err}
 use Rattle.cr_lattice.specs.declared.change.Change.{Change}
 use Rattle.cr_lattice.specs.Keep.{keep}
 use Rattle.cr_cells.specs.declared.store.StoreFault.TheVariants as store

@@ -1,10 +1,10 @@
 -- Comparing two lists of bytes from the front, and cutting spaces off the end of one.
-use Rattle.std.proofs.Common.{◌≡◌, ℕ, suc, ◌+◌, ◌-◌, ◌==◌, ◌<◌, ◌≤◌, min, Bool, true, false, cond, List, [], ◌∷◌, ◌++◌, length, take, drop, get_or, map, reverse, Ordering, Less, Equal, Greater, nat_cmp, refl, sym, ap, ◌∙◌, subst, arith}
+use Rattle.std.proofs.Common.{◌≡◌, ℕ, suc, ◌+◌, ◌<◌, min, true, false, List, [], ◌∷◌, ◌++◌, length, drop, get_or, map, reverse, Ordering, Less, Equal, Greater, nat_cmp, refl, sym, ap, ◌∙◌, arith}
 use Rattle.std.specs.Ordering.{ordering_then, is_ne}
 use Rattle.std.specs.Cmp.{nat_cmp_is}
 use Rattle.std.proofs.lemmas.List.{drop_more, get_or-map, length-map, length-drop, reverse-append}
 use Rattle.cr_value.specs.Bytes.{bytes_cmp}
-use Rattle.cr_value.specs.Collation.{without_leading_spaces, without_trailing_spaces}
+use Rattle.cr_value.specs.Collation.{without_trailing_spaces}
 
 pub one_more : (f : ℕ → ℕ) (xs ys : List ℕ) (i : ℕ) → i < length xs → i < length ys
     → bytes_cmp (drop i (map f xs)) (drop i (map f ys)) ≡ ordering_then (nat_cmp (f (get_or xs i 0)) (f (get_or ys i 0))) (bytes_cmp (drop (i + 1) (map f xs)) (drop (i + 1) (map f ys)))

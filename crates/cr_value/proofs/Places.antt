@@ -1,11 +1,11 @@
 -- Literals at a place of a text.
-use Rattle.std.proofs.Common.{◌≡◌, ℕ, ◌+◌, ◌-◌, ◌<◌, ◌≤◌, List, ◌++◌, length, take, drop, Option, Some, None, refl, sym, ap, subst, ◌∙◌, arith}
+use Rattle.std.proofs.Common.{◌≡◌, ℕ, ◌+◌, ◌-◌, ◌≤◌, List, ◌++◌, length, take, drop, Some, refl, sym, ap, subst, ◌∙◌, arith}
 use Rattle.std.specs.Prelude.{slice_range}
 use Rattle.std.proofs.lemmas.List.{length-drop, length-append, take_at, drop_at, take-append-drop, drop-drop}
 use Rattle.cr_value.specs.declared.value.Value.{Value}
 use Rattle.cr_value.specs.Literal.{IsLiteral, Begins}
 use Rattle.cr_value.specs.Reading.{literal_at}
-use Rattle.cr_value.proofs.Literals.{Opens, literal_takes, literal_again}
+use Rattle.cr_value.proofs.Literals.{literal_takes, literal_again}
 
 pub opened : (text : List ℕ) (at : ℕ) (v : Value) (t rest : List ℕ) (end : ℕ) → end ≡ at + length t → at ≤ length text → drop at text ≡ t ++ rest → IsLiteral v t rest → Begins text at v end
 opened text at v t rest end e le split is =

@@ -1,15 +1,14 @@
 -- Quoted texts: how one is written, and how it is read again.
-use Rattle.std.proofs.Common.{◌≡◌, ◌≢◌, ◌⊎◌, inl, inr, ℕ, zero, suc, ◌+◌, ◌<◌, ◌≤◌, ◌==◌, Bool, true, false, cond, not, IsTrue, List, [], ◌∷◌, ◌++◌, length, take, drop, get_or, Option, Some, None, refl, sym, ap, ◌∙◌, append_assoc, arith}
+use Rattle.std.proofs.Common.{◌≡◌, ◌≢◌, ℕ, suc, ◌+◌, ◌<◌, ◌≤◌, ◌==◌, Bool, true, false, cond, List, [], ◌∷◌, ◌++◌, length, drop, get_or, Option, Some, None, refl, sym, ap, ◌∙◌, append_assoc, arith}
 use Rattle.std.proofs.lemmas.Bool.{eqb-true}
 use Rattle.std.proofs.lemmas.List.{drop_more, at_drop_all, append-nil}
 use Rattle.std.proofs.lemmas.Str.{IsUtf8-drop}
 use Rattle.std.specs.Char.{len_utf8}
 use Rattle.std.specs.Str.{IsUtf8}
 use Rattle.std.specs.Str.Pattern.{FindsChar}
-use Rattle.cr_value.specs.Literal.{doubled, is_control, is_printable}
+use Rattle.cr_value.specs.Literal.{doubled, is_control}
 use Rattle.cr_value.specs.Reading.{with_byte, closed_at}
 use Rattle.cr_value.specs.Unpacking.{◌>>=◌}
-use Rattle.cr_value.proofs.Fields.{bind_some, some_is, chosen}
 
 -- ---- writing
 

@@ -1,9 +1,9 @@
 -- A text in UTF-8 is a list of bytes.
-use Rattle.std.proofs.Common.{◌≡◌, ◌⊎◌, inl, inr, ℕ, zero, suc, ◌+◌, ◌*◌, ◌/◌, ◌%◌, ◌<◌, ◌≤◌, Bool, true, false, cond, ◌&&◌, List, [], ◌∷◌, ◌++◌, refl, subst, arith}
+use Rattle.std.proofs.Common.{◌≡◌, inl, inr, ℕ, zero, suc, ◌+◌, ◌/◌, ◌%◌, ◌<◌, Bool, true, false, ◌&&◌, List, [], ◌∷◌, ◌++◌, refl, subst, arith}
 use Rattle.std.specs.List.{AllByRecursion}
 use Rattle.std.specs.Str.{IsUtf8}
 use Rattle.std.proofs.lemmas.Bool.{cases_lt, lt-ltb, le-ltb}
-use lib.Utf8.{encode, encodes, scalar, scalars, scalar_fits, scalar_cases}
+use lib.Utf8.{encode, encodes, scalar, scalars, scalar_cases}
 use Rattle.cr_value.specs.Packing.{IsBytes}
 
 all_bytes : (xs : List ℕ) → AllByRecursion (λ b. b < 256) xs → IsBytes xs

@@ -1,23 +1,19 @@
 -- Laws of values.
-use Rattle.std.proofs.Common.{◌≡◌, ◌⊎◌, inl, inr, ℕ, ◌+◌, ◌-◌, ◌≤◌, ◌==◌, ℤ, pos, negsuc, Bool, true, false, cond, not, IsTrue, List, [], ◌∷◌, ◌++◌, length, take, drop, get_or, Option, Some, None, refl, sym, ap, subst, ◌∙◌, append_assoc, arith}
+use Rattle.std.proofs.Common.{◌≡◌, inl, inr, ℕ, ◌+◌, ◌==◌, ℤ, Bool, true, false, List, ◌++◌, length, drop, get_or, Option, Some, None, refl, sym, ap, ◌∙◌, append_assoc, arith}
 use Rattle.std.specs.Option.{option_map_or}
-use Rattle.std.specs.Cmp.{IsTotalOrder}
-use Rattle.std.specs.Ordering.{on}
 use Rattle.std.specs.Str.{IsUtf8, str_to_ascii_lowercase}
 use Rattle.std.proofs.lemmas.Cmp.{on_total}
-use Rattle.std.specs.Char.{is_ascii_digit}
-use Rattle.std.proofs.lemmas.List.{take_at, drop_at, length-append, length-drop}
+use Rattle.std.proofs.lemmas.List.{drop_at, length-append, length-drop}
 use Rattle.hex.proofs.HexLemmas.{decode_of-encode_upper}
 use Rattle.cr_value.specs.declared.value.Value.{Value}
 use Rattle.cr_value.specs.declared.value.Value.TheVariants.{Null, Int, Text, Blob}
 use Rattle.cr_value.specs.declared.affinity.Affinity.TheVariants as affinity
 use Rattle.cr_value.specs.declared.collation.Collation.TheVariants as collation
 use Rattle.cr_value.specs.OrderLaws.{bytes_total}
-use Rattle.cr_value.specs.Affinity.{int_of_text, as_number, applied}
-use Rattle.cr_value.specs.Collation.{without_trailing_spaces, text_cmp}
-use Rattle.cr_value.specs.Packing.{IsBytes, IsValue, Packed}
-use Rattle.cr_value.specs.Unpacking.{unpacked}
-use Rattle.cr_value.specs.Literal.{is_printable, IsBlobLiteral, IsLiteral, literal, Begins}
+use Rattle.cr_value.specs.Affinity.{int_of_text, as_number}
+use Rattle.cr_value.specs.Collation.{without_trailing_spaces}
+use Rattle.cr_value.specs.Packing.{IsBytes}
+use Rattle.cr_value.specs.Literal.{is_printable, IsBlobLiteral, IsLiteral, literal}
 use Rattle.cr_value.specs.Laws.{CollationsAreTotal, AffinityOnceIsEnough, OneSpelling, OneMeaning, OneLiteral, IsWritten, LiteralsAreReadBack}
 use Rattle.cr_value.proofs.Fields.{unpacked_again, some_is}
 use Rattle.cr_value.proofs.TextBytes.{IsBytes-utf8}

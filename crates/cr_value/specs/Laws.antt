@@ -2,11 +2,9 @@
 use Rattle.std.specs.Prelude.{◌≡◌, ℕ, List, ◌++◌, ◌+◌, length, slice_index, ◌==◌, false}
 use Rattle.std.specs.Char.{is_ascii_digit}
 use Rattle.std.specs.Cmp.{IsTotalOrder}
-use Rattle.std.specs.FinSet.{IsAntisymmetric}
 use Rattle.cr_value.specs.declared.value.Value.{Value}
 use Rattle.cr_value.specs.declared.affinity.Affinity.{Affinity}
 use Rattle.cr_value.specs.declared.collation.Collation.{Collation}
-use Rattle.cr_value.specs.Order.{value_cmp}
 use Rattle.cr_value.specs.Affinity.{applied}
 use Rattle.cr_value.specs.Collation.{text_cmp}
 use Rattle.cr_value.specs.Literal.{literal, IsLiteral, Begins}

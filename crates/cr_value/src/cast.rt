@@ -125,10 +125,7 @@ fn to_blob(alloc: Global, value: &Value) -> Result<Value, CastError>
     match value {
         Value::Null => Ok(Value::Null),
         Value::Int(n) => Ok(Value::Blob(Bytes::new(n.to_string(alloc)?.into_bytes()))),
-        Value::Text(text) => Ok(Value::Blob(Bytes::from_slice(
-            alloc,
-            text.as_str().as_bytes(),
-        )?)),
+        Value::Text(text) => Ok(Value::Blob(Bytes::from_slice(alloc, text.as_str().as_bytes())?)),
         Value::Blob(blob) => Ok(Value::Blob(blob.copy(alloc)?)),
     }
 }

@@ -168,7 +168,10 @@ fn the_greatest_version_has_no_next(rt: HostRuntime) -> Result<(), Fail> {
     kept.take(alloc, &[name_change(alloc, 1, "top", i64::MAX, B, 1)?])?;
     let answer = changes(alloc, &table(alloc)?, &kept, &[row(alloc, 1, "z")?]);
     assert!(rt; matches!(answer, Err(DeltaError::VersionLimit)));
-    assert_eq!(rt; changes(alloc, &table(alloc)?, &kept, &[row(alloc, 1, "top")?])?.len(), 0);
+    assert_eq!(rt;
+        changes(alloc, &table(alloc)?, &kept, &[row(alloc, 1, "top")?])?.len(),
+        0
+    );
     Ok(())
 }
 
@@ -176,8 +179,16 @@ fn the_greatest_version_has_no_next(rt: HostRuntime) -> Result<(), Fail> {
 fn keys_that_move_delete_update_and_insert(rt: HostRuntime) -> Result<(), Fail> {
     let alloc = rt.alloc();
     let mut kept = Kept::new(alloc);
-    write(alloc, &mut kept, &[row(alloc, 1, "a")?, row(alloc, 2, "b")?])?;
-    let moved = write(alloc, &mut kept, &[row(alloc, 2, "a")?, row(alloc, 3, "b")?])?;
+    write(
+        alloc,
+        &mut kept,
+        &[row(alloc, 1, "a")?, row(alloc, 2, "b")?],
+    )?;
+    let moved = write(
+        alloc,
+        &mut kept,
+        &[row(alloc, 2, "a")?, row(alloc, 3, "b")?],
+    )?;
     assert_eq!(rt; moved.len(), 4);
     assert!(rt; moved[0] == row_change(alloc, 1, 2)?);
     assert!(rt; moved[1] == name_change(alloc, 2, "a", 2, A, 1)?);

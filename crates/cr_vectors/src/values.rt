@@ -75,7 +75,10 @@ fn affinities_change_what_they_may(rt: HostRuntime) -> Result<(), Fail> {
     assert_eq!(rt; Affinity::Text.apply(alloc, &padded)?, padded);
     let spaced = text(alloc, " 7")?;
     assert_eq!(rt; Affinity::Numeric.apply(alloc, &spaced)?, spaced);
-    assert_eq!(rt; Affinity::Text.apply(alloc, &Value::Int(5))?, text(alloc, "5")?);
+    assert_eq!(rt;
+        Affinity::Text.apply(alloc, &Value::Int(5))?,
+        text(alloc, "5")?
+    );
     assert_eq!(rt; Affinity::Blob.apply(alloc, &Value::Int(5))?, Value::Int(5));
     assert_eq!(rt; Affinity::Text.apply(alloc, &Value::Null)?, Value::Null);
     let digits = blob(alloc, b"7")?;
@@ -236,8 +239,24 @@ fn literals_are_read_where_they_begin(rt: HostRuntime) -> Result<(), Fail> {
 fn what_is_no_literal_is_not_read(rt: HostRuntime) -> Result<(), Fail> {
     let alloc = rt.alloc();
     for source in [
-        "007", "-0", "+1", "", "-", "9223372036854775808", "1.5x", "'a''", "'", "'a\n'", "X'0'",
-        "X'0G'", "X'00", "null", "CAST(X'FF' AS TEXT)", "CAST(X'61' as text)", " 1", "ä",
+        "007",
+        "-0",
+        "+1",
+        "",
+        "-",
+        "9223372036854775808",
+        "1.5x",
+        "'a''",
+        "'",
+        "'a\n'",
+        "X'0'",
+        "X'0G'",
+        "X'00",
+        "null",
+        "CAST(X'FF' AS TEXT)",
+        "CAST(X'61' as text)",
+        " 1",
+        "ä",
     ] {
         let found = read_literal(alloc, source, 0)?.is_some();
         assert_eq!(rt; found, source.starts_with("1.5"), "{source}");
@@ -251,8 +270,9 @@ fn what_is_no_literal_is_not_read(rt: HostRuntime) -> Result<(), Fail> {
 fn keys_are_packed_and_unpacked(rt: HostRuntime) -> Result<(), Fail> {
     let alloc = rt.alloc();
     let key = [Value::Int(-1), text(alloc, "ab")?, blob(alloc, &[])?];
-    let packed = hex::decode(alloc, "0301ffffffffffffffff030000000261620400000000")
-        .map_err(|_| AllocError)?;
+    let packed = hex::decode(alloc, "0301ffffffffffffffff030000000261620400000000").map_err(
+        |_| AllocError,
+    )?;
     match pack(alloc, &key) {
         Ok(bytes) => assert_eq!(rt; bytes.as_slice(), packed.as_slice()),
         Err(PackError::TooBig) => assert!(rt; false, "the key was refused"),

@@ -1,4 +1,4 @@
-use Rattle.std.proofs.Common.{◌≡◌, true, false, List, take, drop, length, ◌-◌, ap, sym, ◌∙◌}
+use Rattle.std.proofs.Common.{◌≡◌, true, false, take, drop, length, ◌-◌, sym, ◌∙◌}
 use Rattle.std.proofs.lemmas.List.{at_drop_all, take_rest}
 use Rattle.cr_value.specs.Affinity.{begins_with_word, has_word}
 use Rattle.cr_value.proofs.Words.{found, not_here}

@@ -1,4 +1,4 @@
-use Rattle.std.proofs.Common.{◌≡◌, ℕ, true, false, List, [], ◌∷◌, ◌++◌, length, take, drop, get_or, Option, Some, sym, ap, subst, ◌∙◌, arith}
+use Rattle.std.proofs.Common.{◌≡◌, ℕ, true, false, List, drop, Some, sym, ap, ◌∙◌}
 use Rattle.std.proofs.lemmas.Bool.{eq-eqb}
 use Rattle.std.proofs.lemmas.List.{take_rest}
 use Rattle.cr_value.specs.Reading.{closed_at}
@@ -34,8 +34,8 @@ loop-at-preserved c =
             rw (w.text-is, w'.text-is, w.after_quote-is, w'.if-after_quote.false) (at_quote front bytes i _ c.loop-at-test.true (eq-eqb _ _ w.if-c-eq39.true) open_so_far))
       ]
       | else-c-eq39+else-after_quote-2+else-is_control+in_ok-push-2 w ↦ (
-        let open_so_far : with_front front (closed_at false (drop i bytes)) ≡ closed_at false bytes = rw w.if-after_quote-2.false at c.loop-at.invariant in
-        rw (w.text-is, w.after_quote-is, w.if-after_quote-2.false, w.in_ok-push-2.ensures.items) (at_byte front bytes i _ c.loop-at-test.true (differs _ w.if-c-eq39.false) (sym w.is_control.ensures ∙ w.if-is_control.false) open_so_far))
+          let open_so_far : with_front front (closed_at false (drop i bytes)) ≡ closed_at false bytes = rw w.if-after_quote-2.false at c.loop-at.invariant in
+          rw (w.text-is, w.after_quote-is, w.if-after_quote-2.false, w.in_ok-push-2.ensures.items) (at_byte front bytes i _ c.loop-at-test.true (differs _ w.if-c-eq39.false) (sym w.is_control.ensures ∙ w.if-is_control.false) open_so_far))
     ]
 
 pub returns-then-not-after_quote : goal.returns-then-not-after_quote

@@ -1,5 +1,4 @@
 use Rattle.std.proofs.Common.{Some, None, arith}
-use Rattle.std.specs.String.{string_bytes}
 use Rattle.std.proofs.lemmas.Str.Pattern.{split_parts}
 use Rattle.cr_value.proofs.Quotes.{next_quote, no_more_quotes, utf8_after}
 use Rattle.cr_value.proofs.literal.push_doubled.Goals as goal

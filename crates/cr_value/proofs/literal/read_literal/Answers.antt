@@ -1,4 +1,4 @@
-use Rattle.std.proofs.Common.{◌≡◌, ◌-◌, length, take, drop, Option, Some, None, arith}
+use Rattle.std.proofs.Common.{◌≡◌, drop, Some, None, arith}
 use Rattle.std.proofs.lemmas.List.{take_rest}
 use Rattle.cr_value.specs.Reading.{literal_at}
 use Rattle.cr_value.proofs.Places.{shorter, begins, begins_read}

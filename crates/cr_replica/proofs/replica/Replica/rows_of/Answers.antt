@@ -1,12 +1,11 @@
-use Rattle.std.proofs.Common.{◌≡◌, List, [], Option, Some, Ok, sym, ap, subst, ◌∙◌}
+use Rattle.std.proofs.Common.{◌≡◌, List, [], Some, ap, ◌∙◌}
 use Rattle.std.specs.Prelude.{find}
-use Rattle.cr_lattice.specs.declared.table.Table.{Table}
 use Rattle.cr_lattice.specs.declared.change.Change.{Change}
 use Rattle.cr_lattice.specs.Keep.{join}
 use Rattle.cr_lattice.specs.Rows.{rows}
 use Rattle.cr_cells.specs.Holding.{Holding, changes_of}
 use Rattle.cr_cells.specs.Tables.{is_named}
-use Rattle.cr_replica.specs.Showing.{shown_of, Shows}
+use Rattle.cr_replica.specs.Showing.{shown_of}
 use Rattle.cr_replica.proofs.Shown.{kept_listed, shown_is}
 use Rattle.cr_replica.proofs.replica.Replica.rows_of.Goals as goal
 

@@ -1,4 +1,4 @@
-use Rattle.std.proofs.Common.{[], None, sym, ap, ◌∙◌}
+use Rattle.std.proofs.Common.{[], None, ap, ◌∙◌}
 use Rattle.cr_cells.specs.Holding.{kept_of}
 use Rattle.cr_cells.proofs.CallerLemmas.{kept-once_more}
 use Rattle.cr_replica.proofs.replica.Replica.take.Goals as goal
