@@ -1,238 +1,121 @@
 //! The calls of a store in turn, at any store, and at the plain one.
 
+use crate::told::{A, B, T, changes, definition, key};
 use cr_cells::plain::PlainCells;
-use cr_cells::store::{Cells, CellsError};
+use cr_cells::store::Cells;
 use cr_cells::tables::{check_all, has_defaults, is_markable, is_new_table};
-use cr_lattice::change::{Change, Site};
-use cr_lattice::check::CheckError;
+use cr_lattice::change::Change;
 use cr_lattice::stamped::Stamped;
-use cr_lattice::table::{ColumnDef, Items, Table, TableDef};
-use cr_value::affinity::Affinity;
-use cr_value::text::{Bytes, Text};
-use cr_value::value::Value;
-use std::alloc::{AllocError, Global};
+use cr_lattice::table::TableDef;
+use std::alloc::Global;
 use std::test::Fail;
 
-const A: Site = [10; 16];
+const BOB: &str = "t|1|name|'bob'|2|A|1";
 
-const B: Site = [11; 16];
+const DELETION: &str = "t|1|-1|NULL|2|A|2";
 
-const KEY: [u8; 10] = [1, 1, 0, 0, 0, 0, 0, 0, 0, 1];
-
-fn column(
-    alloc: Global,
-    name: &str,
-    affinity: Affinity,
-    key: Option<u8>,
-    default: Value,
-) -> Result<ColumnDef, AllocError> {
-    Ok(ColumnDef {
-        name: Text::from_str(alloc, name)?,
-        affinity,
-        collation: Text::from_str(alloc, "binary")?,
-        not_null: false,
-        key,
-        default,
-    })
-}
-
-// A table with a key `id` and a column `name`, whose default is 'none'.
-fn table(alloc: Global, name: &str) -> Result<TableDef, AllocError> {
-    let mut columns = Vec::new(alloc);
-    columns.push(column(alloc, "id", Affinity::Integer, Some(1), Value::Null)?)?;
-    let none = Value::Text(Text::from_str(alloc, "none")?);
-    columns.push(column(alloc, "name", Affinity::Text, None, none)?)?;
-    Ok(TableDef {
-        name: Text::from_str(alloc, name)?,
-        columns: Items::new(columns),
-    })
-}
-
-fn change(
-    alloc: Global,
-    cid: &str,
-    val: Value,
-    col_version: i64,
-    cl: i64,
-) -> Result<Change, AllocError> {
-    Ok(Change {
-        table: Text::from_str(alloc, "t")?,
-        pk: Bytes::from_slice(alloc, &KEY)?,
-        cid: Text::from_str(alloc, cid)?,
-        val,
-        col_version,
-        site: A,
-        cl,
-    })
-}
-
-// The name 'bob' of row 1, at version 2.
-fn named(alloc: Global) -> Result<Change, AllocError> {
-    let bob = Value::Text(Text::from_str(alloc, "bob")?);
-    change(alloc, "name", bob, 2, 1)
-}
-
-// Row 1 is deleted.
-fn deleted(alloc: Global) -> Result<Change, AllocError> {
-    change(alloc, "-1", Value::Null, 2, 2)
-}
-
-/// Why the calls ended early.
-#[derive(Debug, Drop)]
-pub enum Stop {
-    Cells(CellsError),
-    Check(CheckError),
-    Memory,
-    NotNew,
-    NotMarkable,
-}
-
-impl From<AllocError> for Stop {
-    fn from(_e: AllocError) -> Stop {
-        Stop::Memory
-    }
-}
-
-impl From<CellsError> for Stop {
-    fn from(e: CellsError) -> Stop {
-        Stop::Cells(e)
-    }
-}
-
-impl From<CheckError> for Stop {
-    fn from(e: CheckError) -> Stop {
-        Stop::Check(e)
-    }
-}
-
-fn add<C: Cells>(alloc: Global, cells: &mut C, def: &TableDef) -> Result<(), Stop> {
+fn add<C: Cells>(alloc: Global, cells: &mut C, def: &TableDef) -> Result<(), Fail> {
     let tables = cells.tables(alloc)?;
     if !is_new_table(&tables, def) {
-        return Err(Stop::NotNew);
+        return Err(Fail::from("not new"));
     }
     cells.add_table(alloc, def)?;
     Ok(())
 }
 
-fn mark<C: Cells>(alloc: Global, cells: &mut C, name: &str) -> Result<(), Stop> {
+fn add_replicated<C: Cells>(alloc: Global, cells: &mut C, def: &TableDef) -> Result<(), Fail> {
+    let tables = cells.tables(alloc)?;
+    if !is_new_table(&tables, def) || !has_defaults(def) {
+        return Err(Fail::from("not new"));
+    }
+    cells.add_replicated(alloc, def)?;
+    Ok(())
+}
+
+fn mark<C: Cells>(alloc: Global, cells: &mut C, name: &str) -> Result<(), Fail> {
     let tables = cells.tables(alloc)?;
     if !is_markable(&tables, name) {
-        return Err(Stop::NotMarkable);
+        return Err(Fail::from("not markable"));
     }
     cells.mark_crr(alloc, name)?;
     Ok(())
 }
 
-fn commit<C: Cells>(alloc: Global, cells: &mut C, change: Change) -> Result<bool, Stop> {
-    let changes = [change];
+fn commit<C: Cells>(alloc: Global, cells: &mut C, changes: &[Change]) -> Result<bool, Fail> {
     let tables = cells.tables(alloc)?;
-    check_all(alloc, &tables, &changes)?;
-    Ok(cells.commit(alloc, &changes, None)?)
+    check_all(alloc, &tables, changes)?;
+    Ok(cells.commit(alloc, changes, None)?)
 }
 
-fn commit_from<C: Cells>(alloc: Global, cells: &mut C, change: Change) -> Result<bool, Stop> {
-    let changes = [change];
+fn commit_from_b<C: Cells>(alloc: Global, cells: &mut C, changes: &[Change]) -> Result<bool, Fail> {
     let tables = cells.tables(alloc)?;
-    check_all(alloc, &tables, &changes)?;
-    Ok(cells.commit(alloc, &changes, Some((B, 4)))?)
+    check_all(alloc, &tables, changes)?;
+    Ok(cells.commit(alloc, changes, Some((B, 4)))?)
 }
 
-/// What the calls answer, in turn.
-#[derive(Debug, Drop)]
-pub struct Answers {
-    tables: Vec<Table>,
-    first: bool,
-    again: bool,
-    last: bool,
-    version: i64,
-    site: Site,
-    seen_of_b: i64,
-    seen_of_a: i64,
-    since_1: Vec<Stamped>,
-    cells: Vec<Stamped>,
+/// A table t, and then u, replicated at once.
+pub fn define<C: Cells>(alloc: Global, cells: &mut C) -> Result<(), Fail> {
+    add(alloc, cells, &definition(alloc, "t", T)?)?;
+    add_replicated(alloc, cells, &definition(alloc, "u", T)?)
 }
 
-/// A table, marked as replicated; then a change of a column twice, and the row's deletion with the mark of a peer.
-pub fn run<C: Cells>(alloc: Global, cells: &mut C) -> Result<Answers, Stop> {
-    add(alloc, cells, &table(alloc, "t")?)?;
-    mark(alloc, cells, "t")?;
-    let tables = cells.tables(alloc)?;
-    let first = commit(alloc, cells, named(alloc)?)?;
-    let again = commit(alloc, cells, named(alloc)?)?;
-    let last = commit_from(alloc, cells, deleted(alloc)?)?;
-    Ok(Answers {
-        tables,
-        first,
-        again,
-        last,
-        version: cells.db_version(),
-        site: cells.site(),
-        seen_of_b: cells.seen(alloc, B)?,
-        seen_of_a: cells.seen(alloc, A)?,
-        since_1: cells.since(alloc, 1)?,
-        cells: cells.cells_of(alloc, "t", &KEY)?,
-    })
-}
-
-fn is_deletion(cells: &[Stamped], wanted: &Change) -> bool {
-    match cells {
-        [cell] => cell.change == *wanted && cell.version == 2 && cell.seq == 0,
-        _ => false,
+/// Whether the tables are t and u, and only u is replicated unless t was marked.
+pub fn are_defined<C: Cells>(alloc: Global, cells: &mut C, is_marked: bool) -> Result<bool, Fail> {
+    match cells.tables(alloc)?.as_slice() {
+        [t, u] => Ok(
+            t.definition.name.as_str() == "t"
+                && t.is_replicated == is_marked
+                && u.definition.name.as_str() == "u"
+                && u.is_replicated,
+        ),
+        _ => Ok(false),
     }
 }
 
-/// Whether the calls answered what a store of site A answers.
-pub fn is_right(alloc: Global, answers: &Answers) -> Result<bool, AllocError> {
-    let wanted = deleted(alloc)?;
-    let marked = match answers.tables.as_slice() {
-        [table] => table.is_replicated && table.definition.name.as_str() == "t",
-        _ => false,
-    };
-    Ok(
-        marked
-            && answers.first
-            && !answers.again
-            && answers.last
-            && answers.version == 2
-            && answers.site == A
-            && answers.seen_of_b == 4
-            && answers.seen_of_a == 0
-            && is_deletion(&answers.since_1, &wanted)
-            && is_deletion(&answers.cells, &wanted),
-    )
+/// The answers to a change of a column, to the same again, and to the row's deletion with the mark of a peer.
+pub fn commit_thrice<C: Cells>(alloc: Global, cells: &mut C) -> Result<(bool, bool, bool), Fail> {
+    let bob = changes(alloc, BOB)?;
+    let first = commit(alloc, cells, &bob)?;
+    let again = commit(alloc, cells, &bob)?;
+    let last = commit_from_b(alloc, cells, &changes(alloc, DELETION)?)?;
+    Ok((first, again, last))
 }
 
-/// A replicated table at once, beside one that is not.
-pub fn add_both<C: Cells>(alloc: Global, cells: &mut C) -> Result<Vec<Table>, Stop> {
-    add(alloc, cells, &table(alloc, "t")?)?;
-    let def = table(alloc, "u")?;
-    let tables = cells.tables(alloc)?;
-    if !is_new_table(&tables, &def) {
-        return Err(Stop::NotNew);
+fn is_deletion(alloc: Global, cells: &[Stamped]) -> Result<bool, Fail> {
+    let wanted = changes(alloc, DELETION)?;
+    match (cells, wanted.as_slice()) {
+        ([cell], [wanted]) => Ok(cell.change == *wanted && cell.version == 2 && cell.seq == 0),
+        _ => Ok(false),
     }
-    if !has_defaults(&def) {
-        return Err(Stop::NotMarkable);
-    }
-    cells.add_replicated(alloc, &def)?;
-    Ok(cells.tables(alloc)?)
+}
+
+/// Whether the deletion is the one cell, by its version and by its row.
+pub fn has_deletion<C: Cells>(alloc: Global, cells: &mut C) -> Result<bool, Fail> {
+    let since = cells.since(alloc, 1)?;
+    let of_row = cells.cells_of(alloc, "t", key(alloc, 1)?.as_slice())?;
+    Ok(is_deletion(alloc, &since)? && is_deletion(alloc, &of_row)?)
 }
 
 #[test]
-fn the_plain_store_answers_the_calls(rt: HostRuntime) -> Result<(), Fail> {
+fn a_plain_store_has_the_tables_that_are_added(rt: HostRuntime) -> Result<(), Fail> {
     let alloc = rt.alloc();
     let mut cells = PlainCells::new(alloc, A);
-    let answers = run(alloc, &mut cells)?;
-    assert!(rt; is_right(alloc, &answers)?);
+    define(alloc, &mut cells)?;
+    assert!(rt; are_defined(alloc, &mut cells, false)?);
+    mark(alloc, &mut cells, "t")?;
+    assert!(rt; are_defined(alloc, &mut cells, true)?);
     Ok(())
 }
 
 #[test]
-fn the_plain_store_adds_replicated_tables(rt: HostRuntime) -> Result<(), Fail> {
+fn a_plain_store_keeps_what_is_committed(rt: HostRuntime) -> Result<(), Fail> {
     let alloc = rt.alloc();
     let mut cells = PlainCells::new(alloc, A);
-    let tables = add_both(alloc, &mut cells)?;
-    assert_eq!(rt; tables.len(), 2);
-    assert!(rt; !tables[0].is_replicated);
-    assert!(rt; tables[1].is_replicated);
+    define(alloc, &mut cells)?;
+    mark(alloc, &mut cells, "t")?;
+    assert!(rt; commit_thrice(alloc, &mut cells)? == (true, false, true));
+    assert!(rt; cells.db_version() == 2 && cells.site() == A);
+    assert!(rt; cells.seen(alloc, B)? == 4 && cells.seen(alloc, A)? == 0);
+    assert!(rt; has_deletion(alloc, &mut cells)?);
     Ok(())
 }

@@ -2,6 +2,18 @@
 #![tactic(auto)]
 
 #[cfg(test)]
+mod cells;
+#[cfg(test)]
+mod delta;
+#[cfg(test)]
+mod host;
+#[cfg(test)]
 mod lattice;
+#[cfg(test)]
+mod lex;
+#[cfg(test)]
+mod replica;
+#[cfg(test)]
+mod told;
 #[cfg(test)]
 mod values;

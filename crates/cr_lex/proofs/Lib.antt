@@ -1,0 +1,9 @@
+pub mod Loops
+pub mod Parts
+pub mod Classes
+pub mod Numbers
+pub mod Quoting
+pub mod Gaps
+pub mod Theory
+pub mod Places
+pub mod Unique

@@ -1,0 +1,5 @@
+pub mod Texts
+pub mod Tokens
+pub mod Reading
+pub mod Keywords
+pub mod Laws

@@ -1,0 +1,9 @@
+//! The tokens of SQL texts.
+#![tactic(auto)]
+
+pub mod keywords;
+pub mod laws;
+mod number;
+mod runs;
+pub mod scan;
+pub mod token;
