@@ -10,6 +10,8 @@ use Rattle.cr_host.specs.declared.arity.Arity.TheVariants.{Any, Exactly}
 use Rattle.cr_host.specs.declared.fault.AddFault.{AddFault}
 use Rattle.cr_host.specs.declared.fault.AddFault.TheVariants.{BadName, Memory}
 use Rattle.cr_host.specs.declared.function.Definition.{Definition}
+use Rattle.cr_host.specs.declared.function.FoundCollation.{FoundCollation}
+use Rattle.cr_host.specs.declared.function.FoundCollation.TheVariants.{BuiltIn, Host}
 use Rattle.cr_host.specs.declared.function.Definition.TheVariants as numbered
 use Rattle.cr_host.specs.declared.function.Function.{Function}
 use Rattle.cr_host.specs.declared.function.Function.TheVariants.{Scalar, Aggregate}
@@ -67,6 +69,10 @@ number_at name (c ∷ cs) = if is_named name c then Some c.number else number_at
 abbrev pub with_collation : List ℕ → ℕ → List Named → List Named
 with_collation name number [] = record { name = folded name; number = number } ∷ []
 with_collation name number (c ∷ cs) = if is_named name c then record c { number = number } ∷ cs else c ∷ with_collation name number cs
+
+-- the collation under a name: a built-in one, else the host's under that name
+abbrev pub collation_for : List ℕ → List Named → Option FoundCollation
+collation_for name cs = elim (built_in_collation name) as (λ _. Option FoundCollation) [ Some c ↦ Some (BuiltIn c) | None ↦ option_map Host (number_at name cs) ]
 
 -- the order of texts under a name: a built-in collation's, else that of the host's definition under that name
 abbrev pub order_for : (ℕ → List ℕ → List ℕ → Ordering) → List ℕ → List Named → Option (List ℕ → List ℕ → Ordering)

@@ -9,6 +9,7 @@ use crate::fault::FnFault;
 use crate::functions::Answering;
 use crate::meaning::HostMeaning;
 use cr_lattice::table::Row;
+use cr_value::collation::Collation;
 use cr_value::value::Value;
 use std::cmp::Ordering;
 use std::marker::PhantomData;
@@ -150,4 +151,11 @@ impl<H: HostMeaning> Function<H> {
 pub enum Definition {
     Scalar(u32),
     Aggregate(u32),
+}
+
+/// Which collation a name stands for: one of the engine's own, or a host's, by the number of its definition.
+#[derive(Clone, Copy, Debug, PartialEq, Eq)]
+pub enum FoundCollation {
+    BuiltIn(Collation),
+    Host(u32),
 }

@@ -5,17 +5,17 @@ ghost use Rattle.std.specs.Option.{option_map, option_map_or, is_some};
 ghost use Rattle.indexmap.specs.IndexMap.{keys};
 ghost use Rattle.cr_host.specs.Names.{folded, arity_of, is_function_name, is_collation_name};
 ghost use Rattle.cr_host.specs.Meets.{AnswersAs, StepsAs, FinishesAs, ComparesAs};
-ghost use Rattle.cr_host.specs.Registry.{listed, collations, definition, is_key, is_collation_key, entry_at, number_at, with_entry, without_entry, function_for, with_collation, RefusesBadNames};
+ghost use Rattle.cr_host.specs.Registry.{listed, collations, definition, is_key, is_collation_key, entry_at, number_at, with_entry, without_entry, function_for, with_collation, collation_for, RefusesBadNames};
 ghost use Rattle.cr_host.specs.declared.function.Definition.TheVariants.{Scalar as ScalarOf, Aggregate as AggregateOf};
 
 use crate::arity::Arity;
 use crate::fault::AddFault;
 use crate::function::{
-    Aggregate, Collating, FinishFn, Function, OrderFn, Scalar, ScalarFn, StepFn,
+    Aggregate, Collating, FinishFn, FoundCollation, Function, OrderFn, Scalar, ScalarFn, StepFn,
 };
 use crate::functions::{Answering, Functions};
 use crate::meaning::HostMeaning;
-use crate::name::{folds_to, is_collation_name, is_function_name};
+use crate::name::{built_in_collation, folds_to, is_collation_name, is_function_name};
 use indexmap::IndexMap;
 use std::alloc::{AllocError, Global};
 use std::marker::PhantomData;
@@ -233,6 +233,17 @@ impl<H: HostMeaning> Registry<H> {
             Ok(_) => Ok(()),
             Err(_) => Err(AddFault::Memory),
         }
+    }
+
+    /// The collation under that name, its ASCII letters in either case: a built-in one, else a host's, else none.
+    pub fn find_collation(&self, name: &str) -> Option<FoundCollation>
+        ensures { result ≡ collation_for name.now (collations self.now) }
+    {
+        if let Some(collation) = built_in_collation(name) {
+            return Some(FoundCollation::BuiltIn(collation));
+        }
+        let collating = self.find_host_collation(name)?;
+        Some(FoundCollation::Host(collating.number))
     }
 
     /// A host's collation under that name, its ASCII letters in either case.

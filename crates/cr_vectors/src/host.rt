@@ -2,13 +2,13 @@
 
 use cr_host::built_in::{is_built_in_aggregate, is_built_in_function, is_built_in_scalar};
 use cr_host::fault::{AddFault, FnFault};
-use cr_host::function::{Definition, FinishFn, OrderFn, ScalarFn, StepFn};
+use cr_host::function::{Definition, FinishFn, FoundCollation, OrderFn, ScalarFn, StepFn};
 use cr_host::functions::{BuiltIns, Functions};
 use cr_host::meaning::{Auth, HostMeaning};
 use cr_host::registry::Registry;
 use cr_host::samples::{bylen, half, xorall_finish, xorall_step};
 use cr_lattice::table::{Items, Row};
-use cr_value::text::Text;
+use cr_value::collation::Collation;
 use cr_value::value::Value;
 use std::alloc::{AllocError, Global};
 use std::cmp::Ordering;
@@ -150,6 +150,25 @@ fn a_host_is_called(rt: HostRuntime) -> Result<(), Fail> {
     );
     assert_eq!(rt; registry.compare("nocase", "A", "a"), Some(Ordering::Equal));
     assert_eq!(rt; registry.compare("none", "A", "a"), None);
+    Ok(())
+}
+
+#[test]
+fn collations_are_found_by_name(rt: HostRuntime) -> Result<(), Fail> {
+    let alloc = rt.alloc();
+    let mut registry: Registry<Demo> = Registry::new(alloc);
+    let order: OrderFn = Box::new(alloc, |a: &str, b: &str| bylen(a, b))?;
+    let added = was_added(registry.add_collation(alloc, "bylen", 2, order))?;
+    assert!(rt; added);
+    assert_eq!(rt;
+        registry.find_collation("ByLen"),
+        Some(FoundCollation::Host(2))
+    );
+    assert_eq!(rt;
+        registry.find_collation("NoCase"),
+        Some(FoundCollation::BuiltIn(Collation::Nocase))
+    );
+    assert_eq!(rt; registry.find_collation("none"), None);
     Ok(())
 }
 
