@@ -113,12 +113,28 @@ fn is_fault(answer: Option<Result<Value, FnFault>>, wanted: &str) -> bool {
 }
 
 #[test]
-fn a_host_is_called(rt: HostRuntime) -> Result<(), Fail> {
+fn a_scalar_function_is_called(rt: HostRuntime) -> Result<(), Fail> {
     let alloc = rt.alloc();
     let mut registry: Registry<Demo> = Registry::new(alloc);
     let call: ScalarFn = Box::new(alloc, move |args: &[Value]| half(alloc, args))?;
     let added = was_added(registry.add_scalar(alloc, "half", 1, 0, call))?;
     assert!(rt; added);
+    assert!(rt; is_int(registry.call("half", &[Value::Int(2)]), 1));
+    assert!(rt; is_fault(registry.call("HALF", &[Value::Int(1)]), "odd"));
+    assert!(rt; registry.call("half", &[]).is_none());
+    Ok(())
+}
+
+fn row_of(alloc: Global, value: i64) -> Result<Row, AllocError> {
+    let mut row = Vec::new(alloc);
+    row.push(Value::Int(value))?;
+    Ok(Items::new(row))
+}
+
+#[test]
+fn an_aggregate_is_folded(rt: HostRuntime) -> Result<(), Fail> {
+    let alloc = rt.alloc();
+    let mut registry: Registry<Demo> = Registry::new(alloc);
     let step: StepFn = Box::new(
         alloc,
         move |held: &Value, row: &[Value]| xorall_step(alloc, held, row),
@@ -126,19 +142,21 @@ fn a_host_is_called(rt: HostRuntime) -> Result<(), Fail> {
     let finish: FinishFn = Box::new(alloc, move |held: &Value| xorall_finish(alloc, held))?;
     let added = was_added(registry.add_aggregate(alloc, "xorall", 1, 1, step, finish))?;
     assert!(rt; added);
+    let mut rows: Vec<Row> = Vec::new(alloc);
+    for id in [1, 2, 4] {
+        rows.push(row_of(alloc, id)?)?;
+    }
+    assert!(rt; is_int(registry.fold("xorall", 1, rows.as_slice()), 7));
+    Ok(())
+}
+
+#[test]
+fn texts_are_compared_by_name(rt: HostRuntime) -> Result<(), Fail> {
+    let alloc = rt.alloc();
+    let mut registry: Registry<Demo> = Registry::new(alloc);
     let order: OrderFn = Box::new(alloc, |a: &str, b: &str| bylen(a, b))?;
     let added = was_added(registry.add_collation(alloc, "bylen", 2, order))?;
     assert!(rt; added);
-    assert!(rt; is_int(registry.call("half", &[Value::Int(2)]), 1));
-    assert!(rt; is_fault(registry.call("HALF", &[Value::Int(1)]), "odd"));
-    assert!(rt; registry.call("half", &[]).is_none());
-    let mut rows: Vec<Row> = Vec::new(alloc);
-    for id in [1, 2, 4] {
-        let mut row = Vec::new(alloc);
-        row.push(Value::Int(id))?;
-        rows.push(Items::new(row))?;
-    }
-    assert!(rt; is_int(registry.fold("xorall", 1, rows.as_slice()), 7));
     assert!(rt; registry.has_collation("BYLEN"));
     assert_eq!(rt;
         registry.compare("bylen", "bb", "a"),
