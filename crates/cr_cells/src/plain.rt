@@ -5,7 +5,7 @@ ghost use Rattle.cr_cells.specs.Holding.{empty_holding};
 
 use crate::cells::{cells_of, since, take_changes};
 use crate::marks::{Mark, marks_after, seen_of};
-use crate::store::{Cells, CellsError};
+use crate::store::{Cells, CellsError, NewCells};
 use crate::tables::{add, copies, with_replicated};
 use cr_lattice::change::{Change, Site};
 use cr_lattice::stamped::Stamped;
@@ -119,5 +119,11 @@ impl Cells for PlainCells {
 
     fn site(&self) -> Site {
         self.site
+    }
+}
+
+impl NewCells for PlainCells {
+    fn create(alloc: Global, site: Site) -> Result<PlainCells, CellsError> {
+        Ok(PlainCells::new(alloc, site))
     }
 }

@@ -1,11 +1,11 @@
 //! What a store of cells is.
 
-ghost use Rattle.std.specs.Prelude.{◌≡◌, ◌≤ℤ◌, pos, true, false};
+ghost use Rattle.std.specs.Prelude.{◌≡◌, ◌≤ℤ◌, pos, true, false, MatchResult};
 ghost use Rattle.std.specs.Option.{ForSome};
 ghost use Rattle.cr_cells.specs.Tables.{IsNewTable, has_defaults, is_markable, with_replicated, with_table, AreWellFormed};
 ghost use Rattle.cr_cells.specs.Marks.{seen_of};
-ghost use Rattle.cr_cells.specs.Holding.{since, cells_of, IsSound};
-ghost use Rattle.cr_cells.specs.Calls.{Reads, Defines, Commits};
+ghost use Rattle.cr_cells.specs.Holding.{since, cells_of, IsSound, empty_holding};
+ghost use Rattle.cr_cells.specs.Calls.{Reads, Defines, Commits, IsRefusal};
 
 use cr_lattice::change::{Change, Site};
 use cr_lattice::stamped::Stamped;
@@ -165,4 +165,14 @@ pub trait Cells: Drop {
     /// The store's site.
     fn site(&self) -> Site
         ensures { is_clean self.now → result ≡ (holding self.now).site };
+}
+
+/// A store of cells that can be made new, with nothing in it.
+pub trait NewCells: Cells {
+    /// A store of a site that holds nothing.
+    ///
+    /// # Errors
+    /// `Memory`, or `Store(Refused)`.
+    fn create(alloc: Global, site: Site) -> Result<Self, CellsError>
+        ensures { MatchResult result (λ store. Self.is_clean store → Self.holding store ≡ empty_holding site) IsRefusal };
 }

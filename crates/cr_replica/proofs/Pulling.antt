@@ -19,9 +19,9 @@ pub pulls_taking : (peer old new : Holding) (r : Result (Unit {0}) TakeError) �
 pulls_taking peer old new (Ok u) other t = (other, t)
 pulls_taking peer old new (Err Memory) other t = t
 pulls_taking peer old new (Err (Store f)) other t = t
-pulls_taking peer old new (Err (Bad b)) other t = (other, t)
-pulls_taking peer old new (Err VersionLimit) other t = (other, t)
-pulls_taking peer old new (Err SameSite) other t = absurd t
+pulls_taking peer old new (Err (Bad b)) other t = (t.0, (other, t.1))
+pulls_taking peer old new (Err VersionLimit) other t = (t.0, (other, t.1))
+pulls_taking peer old new (Err SameSite) other t = absurd t.1
 
 tied : (o : Ordering) → is_eq o ≡ true → o ≡ Equal
 tied Less e = absurd cc

@@ -1,3 +1,4 @@
 pub mod Definition
 pub mod Taking
 pub mod Showing
+pub mod ChangeRow

@@ -1,6 +1,6 @@
 -- What a taking and a pull leave. The set of all changes that a replica ever held is no data: a replica stands for each
 -- set whose kept changes are its own. Source: this project's own; a taking is a join.
-use Rattle.std.specs.Prelude.{◌≡◌, ◌≢◌, pos, true, List, Some, None, Result, Ok, Err}
+use Rattle.std.specs.Prelude.{◌≡◌, ◌≢◌, pos, true, false, List, Some, None, Result, Ok, Err}
 use Rattle.cr_lattice.specs.declared.change.Change.{Change}
 use Rattle.cr_lattice.specs.Keep.{keep}
 use Rattle.cr_cells.specs.declared.store.StoreFault.TheVariants as store
@@ -10,6 +10,7 @@ use Rattle.cr_cells.specs.Tables.{first_fault}
 use Rattle.cr_cells.specs.Holding.{Holding, changes_of, kept_of, since}
 use Rattle.cr_cells.specs.Commit.{committed}
 use Rattle.cr_cells.specs.Calls.{is_past_limit}
+use Rattle.cr_replica.specs.declared.replica.Offer.{Offer}
 use Rattle.cr_replica.specs.declared.replica.TakeError.{TakeError}
 use Rattle.cr_replica.specs.declared.replica.TakeError.TheVariants.{Memory, Store, Bad, VersionLimit, SameSite}
 
@@ -21,24 +22,35 @@ Stands held h = kept_of h ≡ keep held
 abbrev pub changes_of_peer : Holding → List Change
 changes_of_peer peer = changes_of (since peer.cells (pos 0))
 
--- All changes are taken in one commit, or none: refused for the first that is not well formed, or past the greatest
--- version.
+-- what a replica that holds this offers to who pulls from it
+abbrev pub IsOffer : Holding → Offer → Type 0
+IsOffer h offer = (offer.site ≡ h.site) × (offer.changes ≡ changes_of_peer h)
+
+-- why changes are not taken: the first that is not well formed, or else the greatest version would be passed
+abbrev pub IsNotTaken : Holding → List Change → TakeError → Type 0
+IsNotTaken h more Memory = Unit {0}
+IsNotTaken h more (Store f) = f ≡ store.Refused
+IsNotTaken h more (Bad b) = first_fault h.tables more ≡ Some b
+IsNotTaken h more VersionLimit = (first_fault h.tables more ≡ None) × (is_past_limit h more ≡ true)
+IsNotTaken h more SameSite = ⊥
+
+-- all changes are taken in one commit, or none
 abbrev pub Takes : Holding → Holding → List Change → Result (Unit {0}) TakeError → Type 0
-Takes old new more (Ok u) = (first_fault old.tables more ≡ None) × (new ≡ committed old more None)
-Takes old new more (Err Memory) = new ≡ old
-Takes old new more (Err (Store f)) = (new ≡ old) × (f ≡ store.Refused)
-Takes old new more (Err (Bad b)) = (new ≡ old) × (first_fault old.tables more ≡ Some b)
-Takes old new more (Err VersionLimit) = (new ≡ old) × (first_fault old.tables more ≡ None) × (is_past_limit old more ≡ true)
-Takes old new more (Err SameSite) = ⊥
+Takes old new more (Ok u) = (first_fault old.tables more ≡ None) × (is_past_limit old more ≡ false) × (new ≡ committed old more None)
+Takes old new more (Err e) = (new ≡ old) × IsNotTaken old more e
+
+-- why nothing is pulled from a peer
+abbrev pub IsNotPulled : Holding → Holding → TakeError → Type 0
+IsNotPulled peer h Memory = Unit {0}
+IsNotPulled peer h (Store f) = f ≡ store.Refused
+IsNotPulled peer h (Bad b) = (peer.site ≢ h.site) × IsNotTaken h (changes_of_peer peer) (Bad b)
+IsNotPulled peer h VersionLimit = (peer.site ≢ h.site) × IsNotTaken h (changes_of_peer peer) VersionLimit
+IsNotPulled peer h SameSite = peer.site ≡ h.site
 
 -- a pull takes all changes that the peer keeps, unless its site is the taker's own
 abbrev pub Pulls : Holding → Holding → Holding → Result (Unit {0}) TakeError → Type 0
 Pulls peer old new (Ok u) = (peer.site ≢ old.site) × Takes old new (changes_of_peer peer) (Ok u)
-Pulls peer old new (Err Memory) = new ≡ old
-Pulls peer old new (Err (Store f)) = (new ≡ old) × (f ≡ store.Refused)
-Pulls peer old new (Err (Bad b)) = (peer.site ≢ old.site) × Takes old new (changes_of_peer peer) (Err (Bad b))
-Pulls peer old new (Err VersionLimit) = (peer.site ≢ old.site) × Takes old new (changes_of_peer peer) (Err VersionLimit)
-Pulls peer old new (Err SameSite) = (new ≡ old) × (peer.site ≡ old.site)
+Pulls peer old new (Err e) = (new ≡ old) × IsNotPulled peer old e
 
 -- how a store's refusal is passed on
 abbrev pub of_store : CellsError → TakeError

@@ -1,6 +1,7 @@
 //! A replica without SQL: its tables, what it takes and pulls, and the rows that it shows, over any store of cells.
 #![tactic(auto)]
 
+pub mod change_row;
 pub mod definition;
 pub mod replica;
 mod sorting;

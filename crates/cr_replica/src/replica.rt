@@ -92,6 +92,15 @@ fn changes_of(alloc: Global, cells: Vec<Stamped>) -> Result<Vec<Change>, AllocEr
     cells.into_iter().map(|cell| cell.change).collect(alloc)
 }
 
+/// What a replica hands to one that pulls from it.
+#[derive(Debug, Drop)]
+pub struct Offer {
+    /// The site of the replica that offers.
+    pub site: Site,
+    /// All changes that it keeps, by their stamps.
+    pub changes: Items<Change>,
+}
+
 /// A replica over a store of cells.
 #[derive(Drop)]
 pub struct Replica<C: Drop> {
@@ -105,13 +114,13 @@ impl<C: Drop> Model for Replica<C> {
 }
 
 impl<C: Cells> Replica<C> {
-    ghost use Rattle.std.specs.Prelude.{◌≡◌, ◌++◌, List, find, true, OnOk};
+    ghost use Rattle.std.specs.Prelude.{◌≡◌, ◌++◌, List, find, true, OnOk, OnErr};
     ghost use Rattle.cr_lattice.specs.declared.change.Change.{Change};
     ghost use Rattle.cr_cells.specs.Tables.{is_named, has_folded_names};
-    ghost use Rattle.cr_cells.specs.Holding.{IsSound, since};
+    ghost use Rattle.cr_cells.specs.Holding.{Holding, IsSound, since};
     ghost use Rattle.cr_cells.specs.Calls.{Reads};
     ghost use Rattle.cr_replica.specs.Definition.{DefinesTable};
-    ghost use Rattle.cr_replica.specs.Taking.{Stands, Takes, Pulls};
+    ghost use Rattle.cr_replica.specs.Taking.{Stands, Takes, Pulls, IsOffer};
     ghost use Rattle.cr_replica.specs.Showing.{Shows};
 
     /// A replica over the store, which may hold something already.
@@ -175,6 +184,44 @@ impl<C: Cells> Replica<C> {
         }
     }
 
+    /// What this replica hands to one that pulls from it: its site, and all changes that it keeps, by their stamps.
+    ///
+    /// # Errors
+    /// `Memory`, or `Store(Refused)`.
+    pub fn offer(&mut self, alloc: Global) -> Result<Offer, CellsError>
+        ensures was_clean { C.is_clean self.new → C.is_clean self.old }
+        ensures sound { C.is_clean self.new → IsSound (C.holding self.new) }
+        ensures reads { C.is_clean self.new → Reads (C.holding self.old) (C.holding self.new) result (IsOffer (C.holding self.old)) }
+    {
+        let cells = match self.changes_since(alloc, 0) {
+            Ok(cells) => cells,
+            Err(error) => return Err(error),
+        };
+        Ok(Offer {
+            site: self.site_id(),
+            changes: Items::new(changes_of(alloc, cells)?),
+        })
+    }
+
+    /// Takes what a peer offers, in one commit.
+    ///
+    /// # Errors
+    /// `SameSite` where the peer's site is this replica's own; else those of `take`. Then nothing is changed.
+    pub fn take_offer(&mut self, alloc: Global, offer: &Offer) -> Result<(), TakeError>
+        ensures was_clean { C.is_clean self.new → C.is_clean self.old }
+        ensures pulls { C.is_clean self.new → (peer : Holding) → IsOffer peer offer.now
+            → Pulls peer (C.holding self.old) (C.holding self.new) result }
+        ensures refused { C.is_clean self.new → OnErr result (C.holding self.new ≡ C.holding self.old) }
+        ensures joins { C.is_clean self.new → OnOk result ((peer : Holding) (mine theirs : List Change) → IsSound peer
+            → IsOffer peer offer.now → Stands mine (C.holding self.old) → Stands theirs peer
+            → Stands (mine ++ theirs) (C.holding self.new)) }
+    {
+        if same_bytes(&offer.site, &self.site_id()) {
+            return Err(TakeError::SameSite);
+        }
+        self.take(alloc, offer.changes.as_slice())
+    }
+
     /// Takes all changes that a peer keeps, in one commit. The peer stays as it is.
     ///
     /// # Errors
@@ -189,16 +236,9 @@ impl<C: Cells> Replica<C> {
             → Stands mine (C.holding self.old) → Stands theirs (D.holding peer.old)
             → Stands (mine ++ theirs) (C.holding self.new)) }
     {
-        if same_bytes(&peer.site_id(), &self.site_id()) {
-            return Err(TakeError::SameSite);
-        }
-        let cells = match peer.changes_since(alloc, 0) {
-            Ok(cells) => cells,
-            Err(error) => return Err(TakeError::from(error)),
-        };
-        match changes_of(alloc, cells) {
-            Ok(changes) => self.take(alloc, &changes),
-            Err(AllocError) => Err(TakeError::Memory),
+        match peer.offer(alloc) {
+            Ok(offer) => self.take_offer(alloc, &offer),
+            Err(error) => Err(TakeError::from(error)),
         }
     }
 

@@ -6,6 +6,8 @@ mod cells;
 #[cfg(test)]
 mod delta;
 #[cfg(test)]
+mod guard;
+#[cfg(test)]
 mod host;
 #[cfg(test)]
 mod lattice;
@@ -13,6 +15,8 @@ mod lattice;
 mod lex;
 #[cfg(test)]
 mod replica;
+#[cfg(test)]
+mod session;
 #[cfg(test)]
 mod told;
 #[cfg(test)]

@@ -116,12 +116,17 @@ pub fn definition(alloc: Global, name: &str, told: &str) -> Result<TableDef, Fai
     })
 }
 
-fn row(alloc: Global, told: &str) -> Result<Row, Fail> {
+/// Values, each a literal.
+pub fn values(alloc: Global, told: &str) -> Result<Vec<Value>, Fail> {
     let mut values = Vec::new(alloc);
     for part in told.split('|') {
         values.push(value(alloc, part)?)?;
     }
-    Ok(Items::new(values))
+    Ok(values)
+}
+
+fn row(alloc: Global, told: &str) -> Result<Row, Fail> {
+    Ok(Items::new(values(alloc, told)?))
 }
 
 pub fn rows_of(alloc: Global, told: &str) -> Result<Vec<Row>, Fail> {

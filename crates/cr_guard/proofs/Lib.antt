@@ -1,0 +1,4 @@
+pub mod Finding
+pub mod HeardLaws
+pub mod PolicyLaws
+pub mod Rising

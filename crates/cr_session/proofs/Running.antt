@@ -1,0 +1,102 @@
+-- Runs of a fleet, command by command, and what two replicas show that held the same.
+use Rattle.std.proofs.Common.{◌≡◌, ℕ, zero, suc, List, [], ◌∷◌, ◌++◌, Option, Some, None, Result, Ok, Err, refl, sym, ap, subst, ◌∙◌, find, take, slice_get}
+use Rattle.std.specs.Prelude.{if◌then◌else◌}
+use Rattle.cr_value.specs.declared.value.Value.{Value}
+use Rattle.cr_lattice.specs.declared.change.Change.{Change}
+use Rattle.cr_lattice.specs.declared.table.Table.{Table}
+use Rattle.cr_lattice.specs.Keep.{SameMembers, keep}
+use Rattle.cr_lattice.proofs.KeepLaws.{keep_members}
+use Rattle.cr_cells.specs.Holding.{Holding, kept_of}
+use Rattle.cr_cells.specs.Tables.{is_named}
+use Rattle.cr_lattice.specs.Rows.{rows}
+use Rattle.cr_replica.specs.Showing.{shown_of, in_order}
+use Rattle.cr_session.specs.declared.command.Command.{Command}
+use Rattle.cr_session.specs.declared.command.Command.TheVariants.{Rows}
+use Rattle.cr_session.specs.declared.command.FleetReply.{FleetReply}
+use Rattle.cr_session.specs.declared.command.FleetReply.TheVariants.{Done, Rows as Shown, Refused}
+use Rattle.cr_session.specs.World.{World, Member, Keeps, AllKeep, used, item_at, after}
+use Rattle.cr_session.specs.Answers.{Answers, OfUsed, Shows as ShowsTable}
+use Rattle.cr_session.specs.Fleets.{FleetOf, AreClean, Shows, Steps}
+use Rattle.cr_session.specs.Run.{Run, world_after, world_before, table_of, HeldTheSame, ShowTheSame, Converges}
+use Rattle.cr_session.proofs.Places.{all_at}
+
+-- a run goes on by one command
+pub run_more : (w : World) (cs : List Command) (rs : List FleetReply) (c : Command) (r : FleetReply) → Run w cs rs → Answers (world_after w cs rs) c r → AllKeep (after (world_after w cs rs) c r)
+    → Run w (cs ++ c ∷ []) (rs ++ r ∷ [])
+run_more w [] [] c r p a k = (p, a, k)
+run_more w [] (x ∷ xs) c r p a k = absurd p
+run_more w (d ∷ ds) [] c r p a k = absurd p
+run_more w (d ∷ ds) (x ∷ xs) c r p a k = (p.0, p.1, run_more (after w d x) ds xs c r p.2 a k)
+
+pub world_more : (w : World) (cs : List Command) (rs : List FleetReply) (c : Command) (r : FleetReply) → Run w cs rs → world_after w (cs ++ c ∷ []) (rs ++ r ∷ []) ≡ after (world_after w cs rs) c r
+world_more w [] [] c r p = refl
+world_more w [] (x ∷ xs) c r p = absurd p
+world_more w (d ∷ ds) [] c r p = absurd p
+world_more w (d ∷ ds) (x ∷ xs) c r p = world_more (after w d x) ds xs c r p.2
+
+-- the reply at a place of a run
+record ReplyAt (w : World) (cs : List Command) (rs : List FleetReply) (p : ℕ) (c : Command) : Type 0 where
+  reply : FleetReply
+  at : slice_get rs p ≡ Some reply
+  answers : Answers (world_before w cs rs p) c reply
+  keep : AllKeep (world_before w cs rs p)
+
+run_at : (w : World) (cs : List Command) (rs : List FleetReply) (p : ℕ) (c : Command) → Run w cs rs → slice_get cs p ≡ Some c → ReplyAt w cs rs p c
+run_at w [] rs p c run e = absurd (let q : ⊥ = cc in q)
+run_at w (d ∷ ds) [] p c run e = absurd run
+run_at w (d ∷ ds) (x ∷ xs) zero c run e = record { reply = x; at = refl; answers = (let q : d ≡ c = cc in subst (λ (z : Command). Answers w z x) q run.1); keep = run.0 }
+run_at w (d ∷ ds) (x ∷ xs) (suc p) c run e = let t = run_at (after w d x) ds xs p c run.2 e in record { reply = t.reply; at = t.at; answers = t.answers; keep = t.keep }
+
+-- what is shown depends on what is kept alone
+shown_same : (g h : Holding) (t : Table) → kept_of g ≡ kept_of h → shown_of g t ≡ shown_of h t
+shown_same g h t e = ap (λ (ks : List Change). if t.is_replicated then in_order (rows ks t.definition) else []) e
+
+kept_same : (m n : Member) → Keeps m → Keeps n → SameMembers m.held n.held → kept_of m.holding ≡ kept_of n.holding
+kept_same m n k l s = k ∙ keep_members m.held n.held s ∙ sym l
+
+used_keeps : (w : World) (place : Option ℕ) (m : Member) → AllKeep w → item_at place w.members ≡ Some m → Keeps m
+used_keeps w None m k e = absurd (let q : ⊥ = cc in q)
+used_keeps w (Some i) m k e = all_at Keeps w.members i m k e
+
+-- two members that held the same show the same of a table
+tables_same : (m n : Member) (name : List ℕ) (t u : Option Table) (a b : List (List Value)) → kept_of m.holding ≡ kept_of n.holding → t ≡ u → ShowsTable m name t (Shown a) → ShowsTable n name u (Shown b) → a ≡ b
+tables_same m n name None u a b k e p q = absurd p
+tables_same m n name (Some t) None a b k e p q = absurd q
+tables_same m n name (Some t) (Some u) a b k e p q = let same : t ≡ u = cc in p ∙ shown_same m.holding n.holding t k ∙ ap (shown_of n.holding) same ∙ sym q
+
+members_same : (v w : World) (name : List ℕ) (m n : Option Member) (a b : List (List Value)) → used v ≡ m → used w ≡ n → AllKeep v → AllKeep w → HeldTheSame m n → table_of m name ≡ table_of n name
+    → OfUsed m (Shown a) (λ x. ShowsTable x name (find (is_named name) x.holding.tables) (Shown a)) → OfUsed n (Shown b) (λ x. ShowsTable x name (find (is_named name) x.holding.tables) (Shown b)) → a ≡ b
+members_same v w name None n a b d e k l h t p q = absurd h
+members_same v w name (Some m) None a b d e k l h t p q = absurd h
+members_same v w name (Some m) (Some n) a b d e k l h t p q =
+    tables_same m n name (find (is_named name) m.holding.tables) (find (is_named name) n.holding.tables) a b (kept_same m n (used_keeps v v.in_use m k d) (used_keeps w w.in_use n l e) h) t p q
+
+both_shown : (v w : World) (name : List ℕ) (r s : FleetReply) → AllKeep v → AllKeep w → HeldTheSame (used v) (used w) → table_of (used v) name ≡ table_of (used w) name
+    → Answers v (Rows name) r → Answers w (Rows name) s → ShowTheSame (Some r) (Some s)
+both_shown v w name (Shown a) (Shown b) k l h t p q = members_same v w name (used v) (used w) a b refl refl k l h t p q
+both_shown v w name (Shown a) Done k l h t p q = tt
+both_shown v w name (Shown a) (Refused x) k l h t p q = tt
+both_shown v w name Done s k l h t p q = tt
+both_shown v w name (Refused x) s k l h t p q = tt
+
+-- two looks of a run at replicas that held the same show the same
+pub run_converges : (w : World) (cs : List Command) (rs : List FleetReply) → Run w cs rs → Converges w cs rs
+run_converges w cs rs run p q name e f h t =
+    let a = run_at w cs rs p (Rows name) run e in
+    let b = run_at w cs rs q (Rows name) run f in
+    subst (λ (o : Option FleetReply). ShowTheSame o (slice_get rs q)) (sym a.at)
+    (subst (λ (o : Option FleetReply). ShowTheSame (Some a.reply) o) (sym b.at)
+    (both_shown _ _ name a.reply b.reply a.keep b.keep h t a.answers b.answers))
+
+-- a run of a fleet goes on by one step
+pub goes_on : {C : Type 0} (is_clean : C → Type 0) (holding : C → Holding) (old mid new : FleetOf C) (cs cs' : List Command) (rs rs' : List FleetReply) (c : Command) (r : FleetReply)
+    → cs' ≡ cs ++ c ∷ [] → rs' ≡ rs ++ r ∷ []
+    → (AreClean is_clean mid → (w : World) → Shows holding w old → Run w cs rs × Shows holding (world_after w cs rs) mid)
+    → Steps is_clean holding mid c r new
+    → AreClean is_clean new → (w : World) → Shows holding w old → Run w cs' rs' × Shows holding (world_after w cs' rs') new
+goes_on is_clean holding old mid new cs cs' rs rs' c r e f ran step clean w s =
+    let before = ran (step.was_clean clean) w s in
+    let told = step.steps clean (world_after w cs rs) before.1 in
+    subst (λ (x : List Command). Run w x rs' × Shows holding (world_after w x rs') new) (sym e)
+    (subst (λ (x : List FleetReply). Run w (cs ++ c ∷ []) x × Shows holding (world_after w (cs ++ c ∷ []) x) new) (sym f)
+    (run_more w cs rs c r before.0 told.0 told.1.keep, subst (λ (v : World). Shows holding v new) (sym (world_more w cs rs c r before.0)) told.1))

@@ -1,0 +1,43 @@
+use Rattle.std.proofs.Common.{rules, ◌++◌, [], ◌∷◌, ◌≡◌, ◌≤◌, ◌<◌, ℕ, Bool, List, Option, Some, None, true, false, nat_le, sym, ap, subst, ◌∙◌, refl, length, arith, map}
+use Rattle.std.proofs.lemmas.List.{length-map}
+use Rattle.std.specs.List.{AllByRecursion}
+use Rattle.cr_session.specs.Fleets.{is_free_name, Steps, FleetOf}
+use Rattle.cr_session.specs.declared.command.Command.TheVariants.{Open}
+use Rattle.cr_session.specs.declared.command.FleetReply.TheVariants.{Done, Refused}
+use Rattle.cr_session.specs.declared.refusal.Refusal.TheVariants.{BadName}
+use Rattle.cr_session.specs.declared.fleet.Named.{Named}
+use Rattle.cr_session.proofs.Opening.{open_name, open_full, open_site, open_done, opened, site_paired, full_paired, room_paired}
+use Rattle.cr_session.proofs.fleet.Fleet.open.Goals as goal
+
+pub returns-then-not-is_free : goal.returns-then-not-is_free
+returns-then-not-is_free g c =
+    let taken : is_free_name c.args.name.now c.args.self.now ≡ false = ap (λ (n : List ℕ). is_free_name n c.args.self.now) (sym c.as_str.ensures.value) ∙ sym c.is_free.ensures ∙ c.if-not-is_free.true in
+    let copied : c.in_ok-copy.field-0 ≡ c.args.name.now = search rules in
+    subst (λ (n : List ℕ). Steps g.C.Cells.is_clean g.C.Cells.holding c.args.self.now (Open c.args.name.now c.args.site) (Refused (BadName n)) c.args.self.now) (sym copied) (open_name g.C.Cells.is_clean g.C.Cells.holding c.args.self.now c.args.name.now c.args.site taken)
+
+pub returns-then-len-ge-REPLICA_LIMIT : goal.returns-then-len-ge-REPLICA_LIMIT
+returns-then-len-ge-REPLICA_LIMIT g c =
+    let replicas = c.self.inside.replicas in
+    let free : is_free_name c.args.name.now c.args.self.now ≡ true = ap (λ (n : List ℕ). is_free_name n c.args.self.now) (sym c.as_str.ensures.value) ∙ sym c.is_free.ensures ∙ c.if-not-is_free.false in
+    let full : 64 ≤ length replicas.items = (let h = c.if-len-ge-REPLICA_LIMIT.true in let l = c.len.ensures in let n = replicas.ok.0 in omega arith) in
+    rw (← c.self.view_is) (open_full g.C.Cells.is_clean g.C.Cells.holding _ c.args.name.now c.args.site (rw (← c.self.view_is) at free) (full_paired g.C.Cells.is_clean g.C.Cells.holding replicas.items c.args.site full))
+
+pub returns-then-has_site : goal.returns-then-has_site
+returns-then-has_site g c =
+    let replicas = c.self.inside.replicas in
+    let free : is_free_name c.args.name.now c.args.self.now ≡ true = ap (λ (n : List ℕ). is_free_name n c.args.self.now) (sym c.as_str.ensures.value) ∙ sym c.is_free.ensures ∙ c.if-not-is_free.false in
+    let room : length replicas.items < 64 = (let h = c.if-len-ge-REPLICA_LIMIT.false in let l = c.len.ensures in let n = replicas.ok.0 in omega arith) in
+    rw (← c.self.view_is) (open_site g.C.Cells.is_clean g.C.Cells.holding _ c.args.name.now c.args.site (rw (← c.self.view_is) at free) (room_paired g.C.Cells.is_clean g.C.Cells.holding replicas.items c.args.site room)
+    (site_paired g.C.Cells.is_clean g.C.Cells.holding replicas.items c.args.site true (λ clean. sym c.if-has_site.true ∙ rw c.deref.ensures.value at (c.has_site.ensures (subst (AllByRecursion (λ r. g.C.Cells.is_clean r.replica)) (sym c.deref.ensures.value) clean))) c.self.inside.in_use))
+
+pub returns : goal.returns
+returns g c =
+    let replicas = c.self.inside.replicas in
+    let free : is_free_name c.args.name.now c.args.self.now ≡ true = ap (λ (n : List ℕ). is_free_name n c.args.self.now) (sym c.as_str.ensures.value) ∙ sym c.is_free.ensures ∙ c.if-not-is_free.false in
+    let room : length replicas.items < 64 = (let h = c.if-len-ge-REPLICA_LIMIT.false in let l = c.len.ensures in let n = replicas.ok.0 in omega arith) in
+    let named : Named g.row.C.Denot = record { name = c.in_ok-name.name; replica = c.in-Ok.cells } in
+    let pushed : c.push.new.self.items ≡ replicas.items ++ named ∷ [] = search rules in
+    let copied : c.in_ok-name.name ≡ c.args.name.now = search rules in
+    let at : c.len-at.result ≡ length replicas.items = (let l = c.len-at.ensures in let n = replicas.ok.0 in omega arith) in
+    let free_site = site_paired g.C.Cells.is_clean g.C.Cells.holding replicas.items c.args.site false (λ clean. sym c.if-has_site.false ∙ rw c.deref.ensures.value at (c.has_site.ensures (subst (AllByRecursion (λ r. g.C.Cells.is_clean r.replica)) (sym c.deref.ensures.value) clean))) c.self.inside.in_use in
+    rw (← c.self.view_is) (opened g.C.Cells.is_clean g.C.Cells.holding replicas.items c.push.new.self.items c.self.inside.in_use c.len-at.result named c.args.name.now c.args.site pushed copied at (rw (← c.self.view_is) at free) (room_paired g.C.Cells.is_clean g.C.Cells.holding replicas.items c.args.site room) free_site c.in-Ok.ensures)

@@ -1,0 +1,5 @@
+pub mod Refusals
+pub mod World
+pub mod Answers
+pub mod Fleets
+pub mod Run

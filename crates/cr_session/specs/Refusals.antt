@@ -1,0 +1,110 @@
+-- How refusals are told, and their result codes. Source: this project's own; the codes are those of SQLite's "Result and
+-- Error Codes".
+use Rattle.std.specs.Prelude.{ℕ, List, [], codes, Option, Some, None, slice_get}
+use Rattle.cr_lattice.specs.declared.profile.ProfileFault.{ProfileFault}
+use Rattle.cr_lattice.specs.declared.profile.ProfileFault.TheVariants as profile
+use Rattle.cr_lattice.specs.declared.table.ColumnDef.{ColumnDef}
+use Rattle.cr_lattice.specs.declared.table.TableDef.{TableDef}
+use Rattle.cr_cells.specs.declared.store.CellsError.{CellsError}
+use Rattle.cr_cells.specs.declared.store.CellsError.TheVariants as cells
+use Rattle.cr_replica.specs.declared.definition.DefineError.{DefineError}
+use Rattle.cr_replica.specs.declared.definition.DefineError.TheVariants as define
+use Rattle.cr_replica.specs.declared.replica.TakeError.{TakeError}
+use Rattle.cr_replica.specs.declared.replica.TakeError.TheVariants as take
+use Rattle.cr_replica.specs.declared.replica.RowsError.{RowsError}
+use Rattle.cr_replica.specs.declared.replica.RowsError.TheVariants as rows
+use Rattle.cr_session.specs.declared.refusal.OutOfProfile.TheVariants as out
+use Rattle.cr_session.specs.declared.refusal.Limit.TheVariants as limit
+use Rattle.cr_session.specs.declared.refusal.Refusal.{Refusal}
+use Rattle.cr_session.specs.declared.refusal.Refusal.TheVariants.{OutOfProfile, NoSuchTable, AmbiguousColumn, NoSuchCollation, TableExists, NoDefault, VersionLimit, BadChange, Limit, Store, Memory, BadName, NoReplica, SameSite, Command}
+
+-- a store's refusal
+abbrev pub of_store : CellsError → Refusal
+of_store cells.Memory = Memory
+of_store (cells.Store f) = Store f
+of_store cells.VersionLimit = VersionLimit
+
+-- changes that are not taken
+abbrev pub of_taking : TakeError → Refusal
+of_taking take.Memory = Memory
+of_taking (take.Store f) = Store f
+of_taking (take.Bad b) = BadChange b
+of_taking take.VersionLimit = VersionLimit
+of_taking take.SameSite = SameSite
+
+-- rows that are not shown, of the table of this name
+abbrev pub of_rows : List ℕ → RowsError → Refusal
+of_rows name rows.Memory = Memory
+of_rows name (rows.Store f) = Store f
+of_rows name rows.NoSuchTable = NoSuchTable name
+
+abbrev pub name_of : Option ColumnDef → List ℕ
+name_of None = []
+name_of (Some col) = col.name
+
+abbrev pub collation_of : Option ColumnDef → List ℕ
+collation_of None = []
+collation_of (Some col) = col.collation
+
+abbrev pub column_at : List ColumnDef → ℕ → List ℕ
+column_at columns i = name_of (slice_get columns i)
+
+abbrev pub collation_at : List ColumnDef → ℕ → List ℕ
+collation_at columns i = collation_of (slice_get columns i)
+
+-- a definition out of profile
+abbrev pub of_profile : TableDef → ProfileFault → Refusal
+of_profile def profile.PrimaryKey = OutOfProfile out.PrimaryKey
+of_profile def profile.Collation = OutOfProfile out.Collate
+of_profile def profile.RowCid = OutOfProfile out.RowCid
+of_profile def profile.Default = OutOfProfile out.Default
+of_profile def profile.Columns = Limit limit.Columns
+of_profile def profile.KeyColumns = Limit limit.KeyColumns
+of_profile def profile.Name = BadName def.name
+
+-- a definition that is refused, with the name that stands against it
+abbrev pub of_definition : TableDef → DefineError → Refusal
+of_definition def define.Memory = Memory
+of_definition def (define.Store f) = Store f
+of_definition def (define.Profile f) = of_profile def f
+of_definition def define.TableExists = TableExists def.name
+of_definition def (define.Duplicate i) = AmbiguousColumn (column_at def.columns i)
+of_definition def (define.NoSuchCollation i) = NoSuchCollation (collation_at def.columns i)
+of_definition def (define.NoDefault i) = NoDefault (column_at def.columns i)
+
+-- ---- how a refusal is printed
+
+-- SQLite's NOMEM, IOERR, FULL and MISMATCH, and ERROR for all others
+abbrev pub code_of : Refusal → ℕ
+code_of Memory = 7
+code_of (Store f) = 10
+code_of VersionLimit = 13
+code_of (BadChange b) = 20
+code_of (OutOfProfile what) = 1
+code_of (NoSuchTable name) = 1
+code_of (AmbiguousColumn name) = 1
+code_of (NoSuchCollation name) = 1
+code_of (TableExists name) = 1
+code_of (NoDefault name) = 1
+code_of (Limit which) = 1
+code_of (BadName name) = 1
+code_of NoReplica = 1
+code_of SameSite = 1
+code_of Command = 1
+
+abbrev pub title_of : Refusal → List ℕ
+title_of (OutOfProfile what) = codes "OutOfProfile"
+title_of (NoSuchTable name) = codes "NoSuchTable"
+title_of (AmbiguousColumn name) = codes "AmbiguousColumn"
+title_of (NoSuchCollation name) = codes "NoSuchCollation"
+title_of (TableExists name) = codes "TableExists"
+title_of (NoDefault name) = codes "NotReplicable"
+title_of VersionLimit = codes "VersionLimit"
+title_of (BadChange b) = codes "BadChange"
+title_of (Limit which) = codes "Limit"
+title_of (Store f) = codes "Store"
+title_of Memory = codes "Memory"
+title_of (BadName name) = codes "BadName"
+title_of NoReplica = codes "NoReplica"
+title_of SameSite = codes "SameSite"
+title_of Command = codes "Command"

@@ -1,0 +1,227 @@
+//! The calls of a guard in turn, and what a listener hears.
+
+use crate::told::{T, changes, definition, rows_of};
+use cr_guard::action::{Action, Auth, action_code, auth_code};
+use cr_guard::closures::{AuthorizerFn, CommitHookFn};
+use cr_guard::event::Event;
+use cr_guard::guard::Guard;
+use cr_guard::guarding::Guarding;
+use cr_guard::heard::{TableRows, have_rows_by_key, heard_of_tables};
+use cr_guard::listener::Listener;
+use cr_guard::policy::{Policy, PolicyRule, ReadRule};
+use cr_guard::samples::{Notes, denies_names, refuses_over_two};
+use cr_host::meaning::HostMeaning;
+use cr_lattice::change::Change;
+use cr_lattice::table::Items;
+use cr_value::text::Text;
+use std::alloc::{AllocError, Global};
+use std::cell::RefCell;
+use std::rc::Rc;
+use std::test::Fail;
+
+struct Host;
+
+impl HostMeaning for Host {
+    ghost use Rattle.std.specs.Prelude.{length, [], Err};
+    ghost use Rattle.std.specs.Cmp.{on_total, nat_cmp_total};
+    ghost use Rattle.cr_host.specs.Samples.{bylen};
+    ghost use Rattle.cr_guard.specs.Samples.{denies_names, refuses_over_two};
+
+    ghost scalar = { λ n args. Err [] };
+
+    ghost step = { λ n held row. Err [] };
+
+    ghost finish = { λ n held. Err [] };
+
+    ghost order = { λ _. bylen };
+
+    ghost order_total = { λ _. on_total length nat_cmp_total };
+
+    ghost allows = { λ _. denies_names };
+
+    ghost vetoes = { λ _. refuses_over_two };
+}
+
+// What READ of `t.name` answers, which the name in capitals answers too.
+fn read_rule(alloc: Global, table: &str, answer: Auth) -> Result<PolicyRule, AllocError> {
+    Ok(PolicyRule::Read(ReadRule {
+        table: Text::from_str(alloc, table)?,
+        column: Text::from_str(alloc, "name")?,
+        answer,
+    }))
+}
+
+#[test]
+fn a_later_rule_takes_the_place_of_an_earlier(rt: HostRuntime) -> Result<(), Fail> {
+    let alloc = rt.alloc();
+    let mut guard: Guard<Host> = Guard::new(alloc);
+    assert_eq!(rt; guard.ask(Action::Read, "t", "name"), Auth::Ok);
+    guard.policy(alloc, &read_rule(alloc, "t", Auth::Ignore)?)?;
+    guard.policy(alloc, &read_rule(alloc, "t", Auth::Ignore)?)?;
+    assert_eq!(rt; guard.ask(Action::Read, "t", "name"), Auth::Ignore);
+    guard.policy(alloc, &read_rule(alloc, "T", Auth::Deny)?)?;
+    assert_eq!(rt; guard.ask(Action::Read, "t", "Name"), Auth::Deny);
+    assert_eq!(rt; guard.ask(Action::Read, "t", "id"), Auth::Ok);
+    assert_eq!(rt; guard.ask(Action::Read, "t", ""), Auth::Ok);
+    assert_eq!(rt; guard.ask(Action::Update, "t", "name"), Auth::Ok);
+    guard.policy(alloc, &read_rule(alloc, "t", Auth::Ok)?)?;
+    assert_eq!(rt; guard.ask(Action::Read, "t", "name"), Auth::Ok);
+    Ok(())
+}
+
+#[test]
+fn an_authorizer_answers_as_a_rule(rt: HostRuntime) -> Result<(), Fail> {
+    let alloc = rt.alloc();
+    let mut guard: Guard<Host> = Guard::new(alloc);
+    let answer: AuthorizerFn = Box::new(
+        alloc,
+        |action: Action, a: &str, b: &str| denies_names(action, a, b),
+    )?;
+    guard.set_authorizer(0, answer);
+    assert_eq!(rt; guard.ask(Action::Read, "t", "name"), Auth::Deny);
+    assert_eq!(rt; guard.ask(Action::Read, "t", "id"), Auth::Ok);
+    guard.policy(alloc, &read_rule(alloc, "t", Auth::Ignore)?)?;
+    assert_eq!(rt; guard.ask(Action::Read, "t", "name"), Auth::Deny);
+    guard.clear_authorizer();
+    assert_eq!(rt; guard.ask(Action::Read, "t", "name"), Auth::Ignore);
+    Ok(())
+}
+
+const TWO: &str = "t|1|-1|NULL|1|A|1 / t|1|name|'a'|1|A|1";
+
+const FOUR: &str =
+    "t|1|-1|NULL|1|A|1 / t|1|name|'a'|1|A|1 / t|2|-1|NULL|1|A|1 / t|2|name|'b'|1|A|1";
+
+#[test]
+fn commits_of_more_changes_are_vetoed(rt: HostRuntime) -> Result<(), Fail> {
+    let alloc = rt.alloc();
+    let (two, four) = (changes(alloc, TWO)?, changes(alloc, FOUR)?);
+    let mut guard: Guard<Host> = Guard::new(alloc);
+    guard.policy(alloc, &PolicyRule::MostChanges(Some(2)))?;
+    assert!(rt; !guard.vetoes(&two) && guard.vetoes(&four));
+    guard.policy(alloc, &PolicyRule::MostChanges(None))?;
+    assert!(rt; !guard.vetoes(&four));
+    guard.policy(alloc, &PolicyRule::MostChanges(Some(0)))?;
+    assert!(rt; guard.vetoes(&two) && !guard.vetoes(&[]));
+    Ok(())
+}
+
+#[test]
+fn a_commit_hook_vetoes_as_a_number(rt: HostRuntime) -> Result<(), Fail> {
+    let alloc = rt.alloc();
+    let (two, four) = (changes(alloc, TWO)?, changes(alloc, FOUR)?);
+    let mut guard: Guard<Host> = Guard::new(alloc);
+    let refuses: CommitHookFn = Box::new(alloc, |changes: &[Change]| refuses_over_two(changes))?;
+    guard.set_commit_hook(0, refuses);
+    assert!(rt; !guard.vetoes(&two) && guard.vetoes(&four));
+    guard.clear_commit_hook();
+    assert!(rt; !guard.vetoes(&four));
+    Ok(())
+}
+
+#[test]
+fn a_policy_guards_alone(rt: HostRuntime) -> Result<(), Fail> {
+    let alloc = rt.alloc();
+    let mut policy = Policy::new(alloc);
+    policy.policy(alloc, &read_rule(alloc, "t", Auth::Deny)?)?;
+    policy.policy(alloc, &PolicyRule::MostChanges(Some(2)))?;
+    assert_eq!(rt; policy.ask(Action::Read, "t", "name"), Auth::Deny);
+    assert!(rt; policy.vetoes(&changes(alloc, FOUR)?));
+    policy.tell(&[])?;
+    Ok(())
+}
+
+// A listener that writes where its host can read. A contract knows nothing of what a cell holds, so it notes nothing.
+#[derive(Drop)]
+struct Shared {
+    notes: Rc<RefCell<Notes>>,
+}
+
+impl Listener for Shared {
+    ghost use Rattle.std.specs.Prelude.{[]};
+
+    ghost noted = { λ s. [] };
+
+    ghost noted_with = { λ s events. [] };
+
+    fn hear(&mut self, events: &[Event]) -> Result<(), AllocError> {
+        match self.notes.try_borrow_mut() {
+            Ok(mut notes) => notes.hear(events),
+            Err(_) => Err(AllocError),
+        }
+    }
+}
+
+// The codes and the last bytes of the keys of what was noted.
+fn told_events(alloc: Global, notes: &Rc<RefCell<Notes>>) -> Result<Vec<(u8, Option<u8>)>, Fail> {
+    let Ok(notes) = notes.try_borrow() else {
+        return Err(Fail::from("in use"));
+    };
+    let mut told = Vec::new(alloc);
+    for event in notes.events() {
+        told.push((event.kind.code(), event.pk.as_slice().last().copied()))?;
+    }
+    Ok(told)
+}
+
+// What is heard of `t`, whose rows were those before and are those after.
+fn heard(alloc: Global, before: &str, after: &str) -> Result<Vec<Event>, Fail> {
+    let table = TableRows {
+        definition: definition(alloc, "t", T)?,
+        before: Items::new(rows_of(alloc, before)?),
+        after: Items::new(rows_of(alloc, after)?),
+    };
+    let tables = [table];
+    if !have_rows_by_key(alloc, &tables)? {
+        return Err(Fail::from("no rows by key"));
+    }
+    Ok(heard_of_tables(alloc, &tables)?)
+}
+
+// One goes, one shows another value, one appears.
+const EVENTS: &[(u8, Option<u8>)] = &[(9, Some(1)), (23, Some(2)), (18, Some(3))];
+
+#[test]
+fn a_listener_hears_what_became_of_rows(rt: HostRuntime) -> Result<(), Fail> {
+    let alloc = rt.alloc();
+    let notes = Rc::new(alloc, RefCell::new(Notes::new(alloc)))?;
+    let listener: Box<dyn Listener> = Box::new(
+        alloc,
+        Shared {
+            notes: notes.clone()?,
+        },
+    )?;
+    let mut guard: Guard<Host> = Guard::new(alloc);
+    guard.set_listener(listener);
+    let events = heard(alloc, "1|'a' / 2|'b'", "2|'a' / 3|'b'")?;
+    guard.tell(&events)?;
+    guard.tell(&heard(alloc, "1|'a'", "1|'a'")?)?;
+    let told = told_events(alloc, &notes)?;
+    assert!(rt; told.as_slice() == EVENTS);
+    assert!(rt; guard.take_listener().is_some());
+    guard.tell(&events)?;
+    assert_eq!(rt; told_events(alloc, &notes)?.len(), 3);
+    assert!(rt; guard.take_listener().is_none());
+    Ok(())
+}
+
+const CODES: &[(Action, u8)] = &[
+    (Action::CreateTable, 2),
+    (Action::Delete, 9),
+    (Action::Insert, 18),
+    (Action::Read, 20),
+    (Action::Select, 21),
+    (Action::Transaction, 22),
+    (Action::Update, 23),
+    (Action::Function, 31),
+];
+
+#[test]
+fn codes_are_those_of_sqlite(rt: HostRuntime) {
+    for &(action, code) in CODES {
+        assert!(rt; action_code(action) == code);
+    }
+    assert!(rt;
+        auth_code(Auth::Ok) == 0 && auth_code(Auth::Deny) == 1 && auth_code(Auth::Ignore) == 2
+    );
+}
