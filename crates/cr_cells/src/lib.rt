@@ -4,7 +4,7 @@
 pub mod callers;
 mod cells;
 pub mod laws;
-mod marks;
+pub mod marks;
 pub mod plain;
 pub mod store;
 pub mod tables;

@@ -11,7 +11,7 @@ use cr_value::order::{cmp_bytes, same_bytes};
 use std::alloc::{AllocError, Global};
 
 /// A peer's site and version.
-pub(crate) type Mark = (Site, i64);
+pub type Mark = (Site, i64);
 
 fn comes_before(a: &Mark, b: &Mark) -> bool
     ensures { result ≡ is_lt (mark_cmp a.now b.now) }
@@ -27,7 +27,7 @@ fn mark_at<'a>(marks: &'a [Mark], site: &Site) -> Option<&'a Mark>
 
 /// The version of a site's mark, 0 where there is none.
 #[tactic(auto, unfolding(crate::specs::Marks::seen_of))]
-pub(crate) fn seen_of(marks: &[Mark], site: &Site) -> i64
+pub fn seen_of(marks: &[Mark], site: &Site) -> i64
     ensures { result ≡ seen_of marks.now site.now }
 {
     match mark_at(marks, site) {
@@ -71,7 +71,7 @@ fn with_mark(alloc: Global, marks: &[Mark], mark: Mark) -> Result<Vec<Mark>, All
 }
 
 /// The marks after a commit.
-pub(crate) fn marks_after(
+pub fn marks_after(
     alloc: Global,
     marks: &[Mark],
     mark: Option<Mark>,

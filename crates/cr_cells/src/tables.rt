@@ -128,7 +128,7 @@ pub fn check_all(alloc: Global, tables: &[Table], changes: &[Change]) -> Result<
 }
 
 /// Copies of tables.
-pub(crate) fn copies(alloc: Global, tables: &[Table]) -> Result<Vec<Table>, AllocError>
+pub fn copies(alloc: Global, tables: &[Table]) -> Result<Vec<Table>, AllocError>
     ensures { IfOk result (λ v. v.items ≡ tables.now) }
 {
     let mut out = Vec::new(alloc);
@@ -139,7 +139,7 @@ pub(crate) fn copies(alloc: Global, tables: &[Table]) -> Result<Vec<Table>, Allo
 }
 
 /// Adds a table.
-pub(crate) fn add(
+pub fn add(
     alloc: Global,
     tables: &mut Vec<Table>,
     def: &TableDef,
@@ -167,7 +167,7 @@ fn marked(alloc: Global, table: &Table, name: &str) -> Result<Table, AllocError>
 
 /// Copies of tables, of which the one of that name is replicated.
 #[tactic(auto, unfolding(crate::specs::Tables::with_replicated))]
-pub(crate) fn with_replicated(
+pub fn with_replicated(
     alloc: Global,
     tables: &[Table],
     name: &str,

@@ -4,10 +4,11 @@ use crate::told::{A, B, T, changes, definition, key};
 use cr_cells::plain::PlainCells;
 use cr_cells::store::Cells;
 use cr_cells::tables::{check_all, has_defaults, is_markable, is_new_table};
-use cr_lattice::change::Change;
+use cr_lattice::change::{Change, Site};
 use cr_lattice::stamped::Stamped;
 use cr_lattice::table::TableDef;
 use std::alloc::Global;
+use std::process::Abort;
 use std::test::Fail;
 
 const BOB: &str = "t|1|name|'bob'|2|A|1";
@@ -23,7 +24,8 @@ fn add<C: Cells>(alloc: Global, cells: &mut C, def: &TableDef) -> Result<(), Fai
     Ok(())
 }
 
-fn add_replicated<C: Cells>(alloc: Global, cells: &mut C, def: &TableDef) -> Result<(), Fail> {
+/// Adds a replicated table.
+pub fn add_replicated<C: Cells>(alloc: Global, cells: &mut C, def: &TableDef) -> Result<(), Fail> {
     let tables = cells.tables(alloc)?;
     if !is_new_table(&tables, def) || !has_defaults(def) {
         return Err(Fail::from("not new"));
@@ -47,20 +49,27 @@ fn commit<C: Cells>(alloc: Global, cells: &mut C, changes: &[Change]) -> Result<
     Ok(cells.commit(alloc, changes, None)?)
 }
 
-fn commit_from_b<C: Cells>(alloc: Global, cells: &mut C, changes: &[Change]) -> Result<bool, Fail> {
+/// Commits changes with the mark of a peer.
+pub fn commit_from<C: Cells>(
+    alloc: Global,
+    cells: &mut C,
+    changes: &[Change],
+    site: Site,
+    version: u8,
+) -> Result<bool, Fail> {
     let tables = cells.tables(alloc)?;
     check_all(alloc, &tables, changes)?;
-    Ok(cells.commit(alloc, changes, Some((B, 4)))?)
+    Ok(cells.commit(alloc, changes, Some((site, i64::from(version))))?)
 }
 
-/// A table t, and then u, replicated at once.
-pub fn define<C: Cells>(alloc: Global, cells: &mut C) -> Result<(), Fail> {
+// A table t, and then u, replicated at once.
+fn define<C: Cells>(alloc: Global, cells: &mut C) -> Result<(), Fail> {
     add(alloc, cells, &definition(alloc, "t", T)?)?;
     add_replicated(alloc, cells, &definition(alloc, "u", T)?)
 }
 
-/// Whether the tables are t and u, and only u is replicated unless t was marked.
-pub fn are_defined<C: Cells>(alloc: Global, cells: &mut C, is_marked: bool) -> Result<bool, Fail> {
+// Whether the tables are t and u, and only u is replicated unless t was marked.
+fn are_defined<C: Cells>(alloc: Global, cells: &mut C, is_marked: bool) -> Result<bool, Fail> {
     match cells.tables(alloc)?.as_slice() {
         [t, u] => Ok(
             t.definition.name.as_str() == "t"
@@ -72,12 +81,12 @@ pub fn are_defined<C: Cells>(alloc: Global, cells: &mut C, is_marked: bool) -> R
     }
 }
 
-/// The answers to a change of a column, to the same again, and to the row's deletion with the mark of a peer.
-pub fn commit_thrice<C: Cells>(alloc: Global, cells: &mut C) -> Result<(bool, bool, bool), Fail> {
+// The answers to a change of a column, to the same again, and to the row's deletion with the mark of a peer.
+fn commit_thrice<C: Cells>(alloc: Global, cells: &mut C) -> Result<(bool, bool, bool), Fail> {
     let bob = changes(alloc, BOB)?;
     let first = commit(alloc, cells, &bob)?;
     let again = commit(alloc, cells, &bob)?;
-    let last = commit_from_b(alloc, cells, &changes(alloc, DELETION)?)?;
+    let last = commit_from(alloc, cells, &changes(alloc, DELETION)?, B, 4)?;
     Ok((first, again, last))
 }
 
@@ -89,33 +98,32 @@ fn is_deletion(alloc: Global, cells: &[Stamped]) -> Result<bool, Fail> {
     }
 }
 
-/// Whether the deletion is the one cell, by its version and by its row.
-pub fn has_deletion<C: Cells>(alloc: Global, cells: &mut C) -> Result<bool, Fail> {
+// Whether the deletion is the one cell, by its version and by its row.
+fn has_deletion<C: Cells>(alloc: Global, cells: &mut C) -> Result<bool, Fail> {
     let since = cells.since(alloc, 1)?;
     let of_row = cells.cells_of(alloc, "t", key(alloc, 1)?.as_slice())?;
     Ok(is_deletion(alloc, &since)? && is_deletion(alloc, &of_row)?)
 }
 
-#[test]
-fn a_plain_store_has_the_tables_that_are_added(rt: HostRuntime) -> Result<(), Fail> {
-    let alloc = rt.alloc();
-    let mut cells = PlainCells::new(alloc, A);
-    define(alloc, &mut cells)?;
-    assert!(rt; are_defined(alloc, &mut cells, false)?);
-    mark(alloc, &mut cells, "t")?;
-    assert!(rt; are_defined(alloc, &mut cells, true)?);
+/// The calls in turn, with their answers, at a store of site A that holds nothing.
+pub fn meets_the_vectors<C: Cells>(
+    rt: &impl Abort,
+    alloc: Global,
+    cells: &mut C,
+) -> Result<(), Fail> {
+    define(alloc, cells)?;
+    assert!(rt; are_defined(alloc, cells, false)?);
+    mark(alloc, cells, "t")?;
+    assert!(rt; are_defined(alloc, cells, true)?);
+    assert!(rt; commit_thrice(alloc, cells)? == (true, false, true));
+    assert!(rt; cells.db_version() == 2 && cells.site() == A);
+    assert!(rt; cells.seen(alloc, B)? == 4 && cells.seen(alloc, A)? == 0);
+    assert!(rt; has_deletion(alloc, cells)?);
     Ok(())
 }
 
 #[test]
 fn a_plain_store_keeps_what_is_committed(rt: HostRuntime) -> Result<(), Fail> {
     let alloc = rt.alloc();
-    let mut cells = PlainCells::new(alloc, A);
-    define(alloc, &mut cells)?;
-    mark(alloc, &mut cells, "t")?;
-    assert!(rt; commit_thrice(alloc, &mut cells)? == (true, false, true));
-    assert!(rt; cells.db_version() == 2 && cells.site() == A);
-    assert!(rt; cells.seen(alloc, B)? == 4 && cells.seen(alloc, A)? == 0);
-    assert!(rt; has_deletion(alloc, &mut cells)?);
-    Ok(())
+    meets_the_vectors(&rt, alloc, &mut PlainCells::new(alloc, A))
 }

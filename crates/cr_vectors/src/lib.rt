@@ -18,6 +18,8 @@ mod replica;
 #[cfg(test)]
 mod session;
 #[cfg(test)]
+mod shell;
+#[cfg(test)]
 mod told;
 #[cfg(test)]
 mod values;

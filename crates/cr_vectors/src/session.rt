@@ -1,5 +1,9 @@
 //! A fleet over the plain store: worked examples, command by command.
 
+ghost use Rattle.std.specs.Prelude.{IfOk};
+ghost use Rattle.cr_session.specs.declared.command.Command.TheVariants.{Define};
+ghost use Rattle.cr_session.specs.Answers.{IsReady};
+
 use crate::told::{A, definition, told_rows, values};
 use cr_cells::plain::PlainCells;
 use cr_cells::tables::has_folded_names;
@@ -45,38 +49,57 @@ fn told(alloc: Global, reply: &FleetReply) -> Result<String, AllocError> {
     }
 }
 
-fn open(
-    alloc: Global,
-    fleet: &mut Fleet<PlainCells>,
-    name: &str,
-    site: Site,
-) -> Result<String, Fail> {
-    let command = Command::Open(Text::from_str(alloc, name)?, site);
-    Ok(told(alloc, &fleet.step(alloc, &command))?)
+/// A command in words.
+enum Asked {
+    Open(&'static str, Site),
+    Table(&'static str),
+    Take(&'static str),
+    Rows(&'static str),
+    Pull(&'static str),
 }
 
-fn define(alloc: Global, fleet: &mut Fleet<PlainCells>, columns: &str) -> Result<String, Fail> {
+fn declaration(alloc: Global, columns: &str) -> Result<Declaration, Fail>
+    ensures { IfOk result (λ it. IsReady (Define it)) }
+{
     let definition = definition(alloc, "p", columns)?;
     if !has_folded_names(&definition) {
         return Err(Fail::from("not folded"));
     }
-    let command = Command::Define(Declaration::Table(definition));
-    Ok(told(alloc, &fleet.step(alloc, &command))?)
+    Ok(Declaration::Table(definition))
 }
 
-fn take(alloc: Global, fleet: &mut Fleet<PlainCells>, row: &str) -> Result<String, Fail> {
-    let command = Command::Take(change_row(alloc, row)?);
-    Ok(told(alloc, &fleet.step(alloc, &command))?)
+fn command(alloc: Global, asked: &Asked) -> Result<Command, Fail>
+    ensures { IfOk result IsReady }
+{
+    Ok(match asked {
+        Asked::Open(name, site) => Command::Open(Text::from_str(alloc, name)?, *site),
+        Asked::Table(columns) => Command::Define(declaration(alloc, columns)?),
+        Asked::Take(row) => Command::Take(change_row(alloc, row)?),
+        Asked::Rows(name) => Command::Rows(Text::from_str(alloc, name)?),
+        Asked::Pull(name) => Command::Pull(Text::from_str(alloc, name)?),
+    })
 }
 
-fn pull(alloc: Global, fleet: &mut Fleet<PlainCells>, name: &str) -> Result<String, Fail> {
-    let command = Command::Pull(Text::from_str(alloc, name)?);
-    Ok(told(alloc, &fleet.step(alloc, &command))?)
+fn is_answered(
+    alloc: Global,
+    fleet: &mut Fleet<PlainCells>,
+    asked: &Asked,
+    wanted: &str,
+) -> Result<bool, Fail> {
+    let command = command(alloc, asked)?;
+    let reply = fleet.step(alloc, &command);
+    Ok(told(alloc, &reply)?.as_str() == wanted)
 }
 
-fn rows(alloc: Global, fleet: &mut Fleet<PlainCells>, name: &str) -> Result<String, Fail> {
-    let command = Command::Rows(Text::from_str(alloc, name)?);
-    Ok(told(alloc, &fleet.step(alloc, &command))?)
+// The place of the first command that a new fleet answers otherwise.
+fn first_other(alloc: Global, cases: &[(Asked, &str)]) -> Result<Option<usize>, Fail> {
+    let mut fleet = Fleet::<PlainCells>::new(alloc);
+    for (at, (asked, wanted)) in cases.iter().enumerate() {
+        if !is_answered(alloc, &mut fleet, asked, wanted)? {
+            return Ok(Some(at));
+        }
+    }
+    Ok(None)
 }
 
 const NAMED_X: &str =
@@ -85,81 +108,82 @@ const NAMED_X: &str =
 const PRESENT: &str =
     "'p'|X'01010000000000000001'|'-1'|NULL|3|X'0B0B0B0B0B0B0B0B0B0B0B0B0B0B0B0B'|3";
 
+const A_SECOND_PULLS: &[(Asked, &str)] = &[
+    (Asked::Open("A", A), "done"),
+    (Asked::Table(P), "done"),
+    (Asked::Take(NAMED_X), "done"),
+    (Asked::Rows("p"), "1|'x'|7"),
+    (Asked::Take(PRESENT), "done"),
+    (Asked::Rows("p"), "1|'x'|7"),
+    (Asked::Take(NAMED_X), "done"),
+    (Asked::Rows("p"), "1|'x'|7"),
+    (Asked::Open("C", C), "done"),
+    (Asked::Table(P), "done"),
+    (Asked::Rows("p"), ""),
+    (Asked::Pull("A"), "done"),
+    (Asked::Rows("p"), "1|'x'|7"),
+];
+
 #[test]
 fn a_second_replica_pulls_and_shows_the_same(rt: HostRuntime) -> Result<(), Fail> {
-    let alloc = rt.alloc();
-    let mut fleet = Fleet::<PlainCells>::new(alloc);
-    assert_eq!(rt; open(alloc, &mut fleet, "A", A)?.as_str(), "done");
-    assert_eq!(rt; define(alloc, &mut fleet, P)?.as_str(), "done");
-    for row in [NAMED_X, PRESENT, NAMED_X] {
-        assert_eq!(rt; take(alloc, &mut fleet, row)?.as_str(), "done");
-        assert_eq!(rt; rows(alloc, &mut fleet, "p")?.as_str(), "1|'x'|7");
-    }
-    assert_eq!(rt; open(alloc, &mut fleet, "C", C)?.as_str(), "done");
-    assert_eq!(rt; define(alloc, &mut fleet, P)?.as_str(), "done");
-    assert_eq!(rt; rows(alloc, &mut fleet, "p")?.as_str(), "");
-    assert_eq!(rt; pull(alloc, &mut fleet, "A")?.as_str(), "done");
-    assert_eq!(rt; rows(alloc, &mut fleet, "p")?.as_str(), "1|'x'|7");
+    assert_eq!(rt; first_other(rt.alloc(), A_SECOND_PULLS)?, None);
     Ok(())
 }
 
-/// Rows whose key is no packed key of the table's, and one without the shape of a change.
-const BAD_ROWS: &[(&str, &str)] = &[
+/// Rows without a replica, whose key is no packed key of the table's, and one without the shape of a change.
+const BAD_CHANGES: &[(Asked, &str)] = &[
+    (Asked::Take(PRESENT), "NoReplica"),
+    (Asked::Open("A", A), "done"),
+    (Asked::Table(P), "done"),
     (
-        "'p'|X'0101000000000000000100'|'-1'|NULL|1|X'0B0B0B0B0B0B0B0B0B0B0B0B0B0B0B0B'|1",
+        Asked::Take(
+            "'p'|X'0101000000000000000100'|'-1'|NULL|1|X'0B0B0B0B0B0B0B0B0B0B0B0B0B0B0B0B'|1",
+        ),
         "BadChange",
     ),
     (
-        "'p'|X'0100'|'-1'|NULL|1|X'0B0B0B0B0B0B0B0B0B0B0B0B0B0B0B0B'|1",
+        Asked::Take("'p'|X'0100'|'-1'|NULL|1|X'0B0B0B0B0B0B0B0B0B0B0B0B0B0B0B0B'|1"),
         "BadChange",
     ),
     (
-        "'p'|X'00'|'-1'|NULL|1|X'0B0B0B0B0B0B0B0B0B0B0B0B0B0B0B0B'|1",
+        Asked::Take("'p'|X'00'|'-1'|NULL|1|X'0B0B0B0B0B0B0B0B0B0B0B0B0B0B0B0B'|1"),
         "BadChange",
     ),
     (
-        "'p'|X'01030000000131'|'-1'|NULL|1|X'0B0B0B0B0B0B0B0B0B0B0B0B0B0B0B0B'|1",
+        Asked::Take("'p'|X'01030000000131'|'-1'|NULL|1|X'0B0B0B0B0B0B0B0B0B0B0B0B0B0B0B0B'|1"),
         "BadChange",
     ),
     (
-        "'p'|'1'|'-1'|NULL|1|X'0B0B0B0B0B0B0B0B0B0B0B0B0B0B0B0B'|1",
+        Asked::Take("'p'|'1'|'-1'|NULL|1|X'0B0B0B0B0B0B0B0B0B0B0B0B0B0B0B0B'|1"),
         "BadChange",
     ),
+    (Asked::Rows("p"), ""),
+    (Asked::Rows("q"), "NoSuchTable"),
 ];
 
 #[test]
 fn bad_changes_are_refused(rt: HostRuntime) -> Result<(), Fail> {
-    let alloc = rt.alloc();
-    let mut fleet = Fleet::<PlainCells>::new(alloc);
-    assert_eq!(rt; take(alloc, &mut fleet, PRESENT)?.as_str(), "NoReplica");
-    assert_eq!(rt; open(alloc, &mut fleet, "A", A)?.as_str(), "done");
-    assert_eq!(rt; define(alloc, &mut fleet, P)?.as_str(), "done");
-    for &(row, wanted) in BAD_ROWS {
-        assert_eq!(rt; take(alloc, &mut fleet, row)?.as_str(), wanted);
-    }
-    assert_eq!(rt; rows(alloc, &mut fleet, "p")?.as_str(), "");
-    assert_eq!(rt; rows(alloc, &mut fleet, "q")?.as_str(), "NoSuchTable");
+    assert_eq!(rt; first_other(rt.alloc(), BAD_CHANGES)?, None);
     Ok(())
 }
 
+const TOLD_APART: &[(Asked, &str)] = &[
+    (Asked::Open("A", A), "done"),
+    (Asked::Open("A", C), "BadName"),
+    (Asked::Open("a b", C), "BadName"),
+    (Asked::Open("C", A), "SameSite"),
+    (Asked::Pull("Z"), "NoReplica"),
+    (Asked::Pull("A"), "SameSite"),
+    (Asked::Table("n|INT||7"), "OutOfProfile"),
+    (
+        Asked::Table("id|INT|1|NULL / n|INT||NULL|NOT NULL"),
+        "NotReplicable",
+    ),
+];
+
 #[test]
 fn names_and_sites_are_told_apart(rt: HostRuntime) -> Result<(), Fail> {
-    let alloc = rt.alloc();
-    let mut fleet = Fleet::<PlainCells>::new(alloc);
-    assert_eq!(rt; open(alloc, &mut fleet, "A", A)?.as_str(), "done");
-    assert_eq!(rt; open(alloc, &mut fleet, "A", C)?.as_str(), "BadName");
-    assert_eq!(rt; open(alloc, &mut fleet, "a b", C)?.as_str(), "BadName");
-    assert_eq!(rt; open(alloc, &mut fleet, "C", A)?.as_str(), "SameSite");
-    assert_eq!(rt; pull(alloc, &mut fleet, "Z")?.as_str(), "NoReplica");
-    assert_eq!(rt; pull(alloc, &mut fleet, "A")?.as_str(), "SameSite");
-    assert_eq!(rt;
-        define(alloc, &mut fleet, "n|INT||7")?.as_str(),
-        "OutOfProfile"
-    );
-    assert_eq!(rt;
-        define(alloc, &mut fleet, "id|INT|1|NULL / n|INT||NULL|NOT NULL")?.as_str(),
-        "NotReplicable"
-    );
+    assert_eq!(rt; first_other(rt.alloc(), TOLD_APART)?, None);
     Ok(())
 }
 

@@ -1,0 +1,86 @@
+//! A store of cells in sqlite's memory.
+#![tactic(auto)]
+
+use cr_cells::store::{Cells, CellsError, NewCells, StoreFault};
+use cr_lattice::change::{Change, Site};
+use cr_lattice::stamped::Stamped;
+use cr_lattice::table::{Table, TableDef};
+use cr_store::store::Store;
+use sqlite::MemStore;
+use std::alloc::Global;
+
+/// A store over a database in memory, which can be made new.
+#[derive(Drop)]
+pub struct MemoryCells {
+    store: Store<MemStore>,
+}
+
+impl Cells for MemoryCells {
+    ghost use Rattle.sqlite.specs.Held.{state};
+    ghost use Rattle.sqlite.specs.Steps.{over_memory};
+    ghost use Rattle.cr_store.specs.Kept.{IsClean, holding_of};
+
+    ghost holding = { λ m. holding_of (state over_memory m.store.0).now m.store.1 };
+
+    ghost is_clean = { λ m. IsClean over_memory m.store.0 };
+
+    fn tables(&mut self, alloc: Global) -> Result<Vec<Table>, CellsError> {
+        self.store.tables(alloc)
+    }
+
+    fn add_table(&mut self, alloc: Global, def: &TableDef) -> Result<(), CellsError> {
+        self.store.add_table(alloc, def)
+    }
+
+    fn mark_crr(&mut self, alloc: Global, name: &str) -> Result<(), CellsError> {
+        self.store.mark_crr(alloc, name)
+    }
+
+    fn add_replicated(&mut self, alloc: Global, def: &TableDef) -> Result<(), CellsError> {
+        self.store.add_replicated(alloc, def)
+    }
+
+    fn since(&mut self, alloc: Global, version: i64) -> Result<Vec<Stamped>, CellsError> {
+        self.store.since(alloc, version)
+    }
+
+    fn cells_of(
+        &mut self,
+        alloc: Global,
+        table: &str,
+        pk: &[u8],
+    ) -> Result<Vec<Stamped>, CellsError> {
+        self.store.cells_of(alloc, table, pk)
+    }
+
+    fn commit(
+        &mut self,
+        alloc: Global,
+        changes: &[Change],
+        peer: Option<(Site, i64)>,
+    ) -> Result<bool, CellsError> {
+        self.store.commit(alloc, changes, peer)
+    }
+
+    fn seen(&mut self, alloc: Global, site: Site) -> Result<i64, CellsError> {
+        self.store.seen(alloc, site)
+    }
+
+    fn db_version(&self) -> i64 {
+        self.store.db_version()
+    }
+
+    fn site(&self) -> Site {
+        self.store.site()
+    }
+}
+
+impl NewCells for MemoryCells {
+    fn create(alloc: Global, site: Site) -> Result<MemoryCells, CellsError> {
+        match Store::in_memory(alloc, site) {
+            Ok(store) => Ok(MemoryCells { store }),
+            Err(CellsError::Memory) => Err(CellsError::Memory),
+            Err(_) => Err(CellsError::Store(StoreFault::Refused)),
+        }
+    }
+}

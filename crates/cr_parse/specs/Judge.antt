@@ -1,0 +1,12 @@
+-- What an outcome comes to, for the whole of some symbols.
+use Rattle.std.specs.Prelude.{◌-◌, List, [], ◌∷◌, length, Result, Ok, Err}
+use Rattle.cr_tree.specs.declared.symbol.Symbol.{Symbol}
+use Rattle.cr_tree.specs.Reading.{Outcome, Reads, Fails, Syntax, Deep}
+use Rattle.cr_parse.specs.declared.error.ParseError.{ParseError}
+use Rattle.cr_parse.specs.declared.error.ParseError.TheVariants as p
+
+abbrev pub judge : {A : Type 0} → List Symbol → Outcome A → Result A ParseError
+judge ts (Reads x []) = Ok x
+judge ts (Reads x (t ∷ rest)) = Err (p.Syntax (length ts - length (t ∷ rest)))
+judge ts (Fails Syntax rest) = Err (p.Syntax (length ts - length rest))
+judge ts (Fails Deep rest) = Err p.Depth

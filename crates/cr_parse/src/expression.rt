@@ -1,0 +1,63 @@
+//! Whole expressions.
+
+ghost use Rattle.std.specs.Prelude.{◌≡◌, ◌≢◌, ℕ, IfOk};
+ghost use Rattle.cr_tree.specs.Reading as spec;
+ghost use Rattle.cr_tree.specs.Language as language;
+ghost use Rattle.cr_tree.specs.Judging.{IsRead, IsBadPlace, MeetsLimit};
+ghost use Rattle.cr_tree.specs.declared.expr.Expr as trees;
+ghost use Rattle.cr_parse.specs.Judge.{judge};
+
+use crate::cursor::Cursor;
+use crate::error::ParseError;
+use crate::fault::Fault;
+use crate::level::expr;
+use cr_tree::expr::Expr;
+use cr_tree::symbol::Symbol;
+use std::alloc::Global;
+
+/// How many parentheses may be open at once.
+pub const PARENTHESES: u8 = 200;
+
+/// The greatest depth of an expression: a leaf is 1, and all else one more than its deepest part.
+pub const DEPTH: u8 = 100;
+
+#[tactic(auto, unfolding(cr_tree::specs::Reading::whole))]
+fn read(alloc: Global, symbols: &[Symbol]) -> Result<Expr, ParseError>
+    ensures { result ≢ Err ParseError.Memory → result ≡ judge symbols.now (spec.whole 200 99 symbols.now) }
+{
+    let mut cursor = Cursor::new(symbols);
+    let outcome = expr(alloc, &mut cursor, PARENTHESES, DEPTH - 1, 1);
+    let place = symbols.len().saturating_sub(cursor.len());
+    match outcome {
+        Ok((tree, _)) => {
+            if cursor.len() == 0 {
+                Ok(tree)
+            } else {
+                Err(ParseError::Syntax(place))
+            }
+        }
+        Err(Fault::Memory) => Err(ParseError::Memory),
+        Err(Fault::Syntax) => Err(ParseError::Syntax(place)),
+        Err(Fault::Deep) => Err(ParseError::Depth),
+    }
+}
+
+/// The tree of the expression that the symbols are, all of them. The grammar is a part of SQLite's "SQL Language
+/// Expressions", in levels. Takes time in proportion to the number of symbols.
+///
+/// # Errors
+/// `Syntax` with the number of symbols before the first with which no expression goes on, or with their number where
+/// more are wanted; `Depth` where the depth would pass 100 or the open parentheses 200, if that is met first from the
+/// left; `Memory`.
+pub fn expression(alloc: Global, symbols: &[Symbol]) -> Result<Expr, ParseError>
+    // What is read is an expression with this tree.
+    ensures read { IfOk result (λ x. IsRead language.expr symbols.now x) }
+    // Each expression within the limits is read, unless memory runs out.
+    ensures only { (x : trees.Expr) → IsRead language.expr symbols.now x → result ≢ Err ParseError.Memory → result ≡ Ok x }
+    ensures syntax { (n : ℕ) → result ≡ Err (ParseError.Syntax n) → IsBadPlace language.expr symbols.now n }
+    ensures depth { result ≡ Err ParseError.Depth → MeetsLimit language.expr symbols.now }
+    // What is met first from the left decides.
+    ensures reading { result ≢ Err ParseError.Memory → result ≡ judge symbols.now (spec.whole 200 99 symbols.now) }
+{
+    read(alloc, symbols)
+}

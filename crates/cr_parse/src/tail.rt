@@ -1,0 +1,255 @@
+//! Tails: what stands behind an operand and makes a greater expression of it.
+
+ghost use Rattle.std.specs.Prelude.{◌≡◌, ◌≤◌, ◌<◌, IfOk};
+ghost use Rattle.cr_tree.specs.Reading as spec;
+ghost use Rattle.cr_parse.specs.Given.{Gives, Nests};
+
+use crate::cursor::Cursor;
+use crate::fault::Fault;
+use crate::grammar::{Grammar, binding};
+use cr_tree::expr::{Binary, Expr, Unary};
+use cr_tree::symbol::{Mark, Symbol};
+use cr_value::text::Text;
+use sqlite_items::{Boxed, Items};
+use std::alloc::{AllocError, Global};
+
+fn tested(alloc: Global, op: Unary, left: Expr, height: u8) -> Result<(Expr, u8), AllocError>
+    requires { height < 255 }
+    ensures { IfOk result (λ x. x ≡ spec.above (Expr.Unary op) (left, height)) }
+{
+    Ok((Expr::Unary(op, Boxed::new(alloc, left)?), height + 1))
+}
+
+fn binary(alloc: Global, op: Binary, left: Expr, right: Expr) -> Result<Expr, AllocError>
+    ensures { IfOk result (λ x. x ≡ Expr.Binary op left right) }
+{
+    Ok(Expr::Binary(op, Boxed::new(alloc, left)?, Boxed::new(alloc, right)?))
+}
+
+fn bounded(
+    alloc: Global,
+    negated: bool,
+    operand: Expr,
+    low: Expr,
+    high: Expr,
+) -> Result<Expr, AllocError>
+    ensures { IfOk result (λ x. x ≡ Expr.Between negated operand low high) }
+{
+    Ok(Expr::Between(
+        negated,
+        Boxed::new(alloc, operand)?,
+        Boxed::new(alloc, low)?,
+        Boxed::new(alloc, high)?,
+    ))
+}
+
+fn member(alloc: Global, negated: bool, operand: Expr, all: Items<Expr>) -> Result<Expr, AllocError>
+    ensures { IfOk result (λ x. x ≡ Expr.In negated operand all) }
+{
+    Ok(Expr::In(negated, Boxed::new(alloc, operand)?, all))
+}
+
+fn collated(alloc: Global, operand: Expr, name: Text) -> Result<Expr, AllocError>
+    ensures { IfOk result (λ x. x ≡ Expr.Collate operand name) }
+{
+    Ok(Expr::Collate(Boxed::new(alloc, operand)?, name))
+}
+
+// The operator of one symbol, but for IS.
+fn operator(symbol: &Symbol) -> Option<Binary>
+    ensures { result ≡ spec.operator_of symbol.now }
+{
+    let Symbol::Mark(mark) = symbol else {
+        return None;
+    };
+    Some(match mark {
+        Mark::Or => Binary::Or,
+        Mark::And => Binary::And,
+        Mark::Equal | Mark::DoubleEqual => Binary::Equal,
+        Mark::Unequal | Mark::BangEqual => Binary::Unequal,
+        Mark::Like => Binary::Like,
+        Mark::Less => Binary::Less,
+        Mark::AtMost => Binary::AtMost,
+        Mark::Greater => Binary::Greater,
+        Mark::AtLeast => Binary::AtLeast,
+        Mark::Plus => Binary::Add,
+        Mark::Minus => Binary::Subtract,
+        Mark::Star => Binary::Multiply,
+        Mark::Slash => Binary::Divide,
+        Mark::Percent => Binary::Remainder,
+        Mark::Bars => Binary::Join,
+        _ => return None,
+    })
+}
+
+impl<F: Fn(Global, &mut Cursor<'_>, u8, u8, u8) -> Result<(Expr, u8), Fault>> Grammar<F> {
+    #[tactic(auto, unfolding(cr_tree::specs::Reading::operated))]
+    fn operated(
+        &self,
+        tokens: &mut Cursor<'_>,
+        left: Expr,
+        height: u8,
+        least: u8,
+        op: Binary,
+    ) -> Result<(Expr, u8), Fault>
+        requires nests { Nests self.now.opens self.now.room (F.pre self.now.expr) (F.post self.now.expr) }
+        requires left { height < self.now.room }
+        ensures reads { Gives (λ x. x) (spec.operated self.now.opens (spec.inside_of self.now.opens self.now.room) (spec.argument_of self.now.opens self.now.room) self.now.room (spec.below_of self.now.opens self.now.room) (left, height) least op tokens.old) result tokens.new }
+        ensures low { IfOk result (λ x. x.1 ≤ self.now.room) }
+    {
+        let (right, more) = self.below(tokens, least)?;
+        Ok((binary(self.alloc, op, left, right)?, height.max(more) + 1))
+    }
+
+    /// After IS.
+    #[tactic(auto, unfolding(cr_tree::specs::Reading::is))]
+    fn is(&self, tokens: &mut Cursor<'_>, left: Expr, height: u8) -> Result<(Expr, u8), Fault>
+        requires nests { Nests self.now.opens self.now.room (F.pre self.now.expr) (F.post self.now.expr) }
+        requires left { height < self.now.room }
+        ensures reads { Gives (λ x. x) (spec.is self.now.opens (spec.inside_of self.now.opens self.now.room) (spec.argument_of self.now.opens self.now.room) self.now.room (spec.below_of self.now.opens self.now.room) (left, height) tokens.old) result tokens.new }
+        ensures low { IfOk result (λ x. x.1 ≤ self.now.room) }
+    {
+        let op = if tokens.eat(Mark::Not) {
+            Binary::IsNot
+        } else {
+            Binary::Is
+        };
+        self.operated(tokens, left, height, 5, op)
+    }
+
+    /// After BETWEEN.
+    #[tactic(auto, unfolding(cr_tree::specs::Reading::between))]
+    fn between(
+        &self,
+        tokens: &mut Cursor<'_>,
+        negated: bool,
+        left: Expr,
+        height: u8,
+    ) -> Result<(Expr, u8), Fault>
+        requires nests { Nests self.now.opens self.now.room (F.pre self.now.expr) (F.post self.now.expr) }
+        requires left { height < self.now.room }
+        ensures reads { Gives (λ x. x) (spec.between self.now.opens (spec.inside_of self.now.opens self.now.room) (spec.argument_of self.now.opens self.now.room) self.now.room (spec.below_of self.now.opens self.now.room) negated (left, height) tokens.old) result tokens.new }
+        ensures low { IfOk result (λ x. x.1 ≤ self.now.room) }
+    {
+        let (low, first) = self.below(tokens, 5)?;
+        tokens.expect(Mark::And)?;
+        let (high, second) = self.below(tokens, 5)?;
+        let tree = bounded(self.alloc, negated, left, low, high)?;
+        Ok((tree, height.max(first.max(second)) + 1))
+    }
+
+    /// After IN.
+    #[tactic(auto, unfolding(cr_tree::specs::Reading::among))]
+    fn among(
+        &self,
+        tokens: &mut Cursor<'_>,
+        negated: bool,
+        left: Expr,
+        height: u8,
+    ) -> Result<(Expr, u8), Fault>
+        requires nests { Nests self.now.opens self.now.room (F.pre self.now.expr) (F.post self.now.expr) }
+        requires opens { 0 < self.now.opens }
+        requires left { height < self.now.room }
+        ensures reads { Gives (λ x. x) (spec.among self.now.opens (spec.inside_of self.now.opens self.now.room) (spec.argument_of self.now.opens self.now.room) self.now.room (spec.below_of self.now.opens self.now.room) negated (left, height) tokens.old) result tokens.new }
+        ensures low { IfOk result (λ x. x.1 ≤ self.now.room) }
+    {
+        tokens.expect(Mark::Open)?;
+        let (all, more) = self.arguments(tokens)?;
+        tokens.expect(Mark::Close)?;
+        Ok((
+            member(self.alloc, negated, left, all)?,
+            height.max(more) + 1,
+        ))
+    }
+
+    /// After NOT.
+    #[tactic(auto, unfolding(cr_tree::specs::Reading::negated))]
+    fn negated(&self, tokens: &mut Cursor<'_>, left: Expr, height: u8) -> Result<(Expr, u8), Fault>
+        requires nests { Nests self.now.opens self.now.room (F.pre self.now.expr) (F.post self.now.expr) }
+        requires left { height < self.now.room }
+        ensures reads { Gives (λ x. x) (spec.negated self.now.opens (spec.inside_of self.now.opens self.now.room) (spec.argument_of self.now.opens self.now.room) self.now.room (spec.below_of self.now.opens self.now.room) (left, height) tokens.old) result tokens.new }
+        ensures low { IfOk result (λ x. x.1 ≤ self.now.room) }
+    {
+        prove!(height < self.room);
+        match tokens.peek() {
+            Some(Symbol::Mark(Mark::Null)) => {
+                tokens.take();
+                Ok(tested(self.alloc, Unary::NotNull, left, height)?)
+            }
+            Some(Symbol::Mark(Mark::Like)) => {
+                tokens.take();
+                self.operated(tokens, left, height, 5, Binary::NotLike)
+            }
+            Some(Symbol::Mark(Mark::Between)) => {
+                tokens.take();
+                self.between(tokens, true, left, height)
+            }
+            Some(Symbol::Mark(Mark::In)) => {
+                if self.opens == 0 {
+                    return Err(Fault::Deep);
+                }
+                tokens.take();
+                self.among(tokens, true, left, height)
+            }
+            _ => Err(Fault::Syntax),
+        }
+    }
+
+    /// What stands behind an operand.
+    #[tactic(auto)]
+    pub fn tail(
+        &self,
+        tokens: &mut Cursor<'_>,
+        symbol: &Symbol,
+        left: Expr,
+        height: u8,
+    ) -> Result<(Expr, u8), Fault>
+        requires nests { Nests self.now.opens self.now.room (F.pre self.now.expr) (F.post self.now.expr) }
+        requires left { height < self.now.room }
+        ensures reads { Gives (λ x. x) (spec.tail_by self.now.opens (spec.inside_of self.now.opens self.now.room) (spec.argument_of self.now.opens self.now.room) self.now.room (spec.below_of self.now.opens self.now.room) (left, height) symbol.now tokens.old) result tokens.new }
+        ensures low { IfOk result (λ x. x.1 ≤ self.now.room) }
+    {
+        prove!(height < self.room);
+        match symbol {
+            Symbol::Mark(Mark::Not) => {
+                tokens.take();
+                self.negated(tokens, left, height)
+            }
+            Symbol::Mark(Mark::Is) => {
+                tokens.take();
+                self.is(tokens, left, height)
+            }
+            Symbol::Mark(Mark::In) => {
+                if self.opens == 0 {
+                    return Err(Fault::Deep);
+                }
+                tokens.take();
+                self.among(tokens, false, left, height)
+            }
+            Symbol::Mark(Mark::Between) => {
+                tokens.take();
+                self.between(tokens, false, left, height)
+            }
+            Symbol::Mark(Mark::IsNull) => {
+                tokens.take();
+                Ok(tested(self.alloc, Unary::IsNull, left, height)?)
+            }
+            Symbol::Mark(Mark::NotNull) => {
+                tokens.take();
+                Ok(tested(self.alloc, Unary::NotNull, left, height)?)
+            }
+            Symbol::Mark(Mark::Collate) => {
+                tokens.take();
+                let name = tokens.name(self.alloc)?;
+                Ok((collated(self.alloc, left, name)?, height + 1))
+            }
+            symbol => {
+                let Some(op) = operator(symbol) else {
+                    return Err(Fault::Syntax);
+                };
+                tokens.take();
+                self.operated(tokens, left, height, binding(symbol) + 1, op)
+            }
+        }
+    }
+}

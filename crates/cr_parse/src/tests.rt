@@ -1,0 +1,259 @@
+//! Expressions with known shapes. The answers follow SQLite's table of operators, and the limits and refusals of this
+//! grammar.
+
+use crate::error::ParseError;
+use crate::expression::{DEPTH, PARENTHESES, expression};
+use cr_tree::expr::{Binary, Expr, Unary};
+use cr_tree::symbol::{Mark, Symbol};
+use cr_value::text::Text;
+use std::alloc::{AllocError, Global};
+use std::test::Fail;
+
+// Each text, its words apart, with what stands at the top of its tree and right below it.
+const SHAPES: [(&str, &str); 33] = [
+    ("1 + 2 * 3", "+ literal *"),
+    ("1 * 2 + 3", "+ * literal"),
+    ("1 - 2 - 3", "- - literal"),
+    ("( 1 + 2 ) * 3", "* + literal"),
+    ("1 - ( 2 - 3 )", "- literal -"),
+    ("a OR b AND c", "or column and"),
+    ("a AND b OR c", "or and column"),
+    ("NOT a = b", "not ="),
+    ("NOT a AND b", "and not column"),
+    ("a = b < c", "= column <"),
+    ("a < b = c", "= < column"),
+    ("a <> b", "<> column column"),
+    ("a != b", "<> column column"),
+    ("a == b", "= column column"),
+    ("- a || b", "|| minus column"),
+    ("- a COLLATE nocase", "collate minus"),
+    ("a || b COLLATE nocase", "|| column collate"),
+    ("- 9223372036854775808", "literal"),
+    ("- ( 1 )", "minus literal"),
+    ("a IS NOT b", "is not column column"),
+    ("a IS NULL", "is column literal"),
+    ("a NOT NULL", "not null column"),
+    ("a NOT LIKE b", "not like column column"),
+    ("a BETWEEN 1 AND 2 AND c", "and between column"),
+    ("a NOT BETWEEN 1 + 1 AND 2", "between column + literal"),
+    ("a IN ( 1 , 2 , 3 )", "in column 3"),
+    ("t . c", "column"),
+    ("f ( )", "call 0"),
+    ("f ( a , 1 + 2 )", "call 2"),
+    ("count ( * )", "count"),
+    ("CAST ( a AS double precision ( 1 , 2 ) )", "cast column 2"),
+    ("CASE WHEN a THEN b END", "case 1"),
+    ("CASE a WHEN b THEN c WHEN 'd' THEN ?1 ELSE 5 END", "case 2"),
+];
+
+// Each text with the place of the first word that nothing goes on with.
+const REFUSED: [(&str, usize); 12] = [
+    ("", 0),
+    ("1 +", 2),
+    ("1 2", 1),
+    (")", 0),
+    ("( 1", 2),
+    ("a = NOT b", 2),
+    ("a NOT b", 2),
+    ("a IN ( )", 3),
+    ("f ( * )", 2),
+    ("9223372036854775808", 0),
+    ("CASE END", 1),
+    ("CAST ( a AS )", 4),
+];
+
+const MARKS: [(&str, Mark); 33] = [
+    ("AND", Mark::And),
+    ("AS", Mark::As),
+    ("BETWEEN", Mark::Between),
+    ("CASE", Mark::Case),
+    ("CAST", Mark::Cast),
+    ("COLLATE", Mark::Collate),
+    ("ELSE", Mark::Else),
+    ("END", Mark::End),
+    ("IN", Mark::In),
+    ("IS", Mark::Is),
+    ("LIKE", Mark::Like),
+    ("NOT", Mark::Not),
+    ("NULL", Mark::Null),
+    ("OR", Mark::Or),
+    ("THEN", Mark::Then),
+    ("WHEN", Mark::When),
+    ("(", Mark::Open),
+    (")", Mark::Close),
+    (",", Mark::Comma),
+    (".", Mark::Dot),
+    ("*", Mark::Star),
+    ("+", Mark::Plus),
+    ("-", Mark::Minus),
+    ("/", Mark::Slash),
+    ("%", Mark::Percent),
+    ("||", Mark::Bars),
+    ("<", Mark::Less),
+    ("<=", Mark::AtMost),
+    (">=", Mark::AtLeast),
+    ("=", Mark::Equal),
+    ("==", Mark::DoubleEqual),
+    ("<>", Mark::Unequal),
+    ("!=", Mark::BangEqual),
+];
+
+fn symbol(alloc: Global, word: &str) -> Result<Symbol, AllocError> {
+    for (written, mark) in MARKS {
+        if written == word {
+            return Ok(Symbol::Mark(mark));
+        }
+    }
+    if let Ok(number) = word.parse::<u64>() {
+        return Ok(Symbol::Number(number));
+    }
+    if word.starts_with('?') {
+        return Ok(Symbol::Param(1));
+    }
+    let text = Text::from_str(alloc, word)?;
+    Ok(if word.starts_with('\'') {
+        Symbol::Text(text)
+    } else {
+        Symbol::Name(text)
+    })
+}
+
+fn symbols(alloc: Global, text: &str) -> Result<Vec<Symbol>, AllocError> {
+    let mut all = Vec::new(alloc);
+    for word in text.split(' ') {
+        if !word.is_empty() {
+            all.push(symbol(alloc, word)?)?;
+        }
+    }
+    Ok(all)
+}
+
+fn unary(op: Unary) -> &'static str {
+    match op {
+        Unary::Not => "not",
+        Unary::Plus => "plus",
+        Unary::Minus => "minus",
+        Unary::IsNull => "is null",
+        Unary::NotNull => "not null",
+    }
+}
+
+fn binary(op: Binary) -> &'static str {
+    match op {
+        Binary::Or => "or",
+        Binary::And => "and",
+        Binary::Equal => "=",
+        Binary::Unequal => "<>",
+        Binary::Is => "is",
+        Binary::IsNot => "is not",
+        Binary::Like => "like",
+        Binary::NotLike => "not like",
+        Binary::Less => "<",
+        Binary::AtMost => "<=",
+        Binary::Greater => ">",
+        Binary::AtLeast => ">=",
+        Binary::Add => "+",
+        Binary::Subtract => "-",
+        Binary::Multiply => "*",
+        Binary::Divide => "/",
+        Binary::Remainder => "%",
+        Binary::Join => "||",
+    }
+}
+
+fn name(tree: &Expr) -> &'static str {
+    match tree {
+        Expr::Literal(_) => "literal",
+        Expr::Param(_) => "param",
+        Expr::Column(_, _) => "column",
+        Expr::Unary(op, _) => unary(*op),
+        Expr::Binary(op, _, _) => binary(*op),
+        Expr::Collate(_, _) => "collate",
+        Expr::In(_, _, _) => "in",
+        Expr::Between(_, _, _, _) => "between",
+        Expr::Call(_, _) => "call",
+        Expr::CountAll => "count",
+        Expr::Cast(_, _) => "cast",
+        Expr::Case(_, _, _) => "case",
+    }
+}
+
+// What stands at the top and right below it.
+fn shape(alloc: Global, tree: &Expr) -> Result<String, AllocError> {
+    let top = name(tree);
+    match tree {
+        Expr::Unary(_, x) => format!(in alloc; "{top} {}", name(x.get())),
+        Expr::Binary(_, x, y) => format!(in alloc; "{top} {} {}", name(x.get()), name(y.get())),
+        Expr::Collate(x, _) => format!(in alloc; "{top} {}", name(x.get())),
+        Expr::In(_, x, all) => format!(in alloc; "{top} {} {}", name(x.get()), all.len()),
+        Expr::Between(_, x, y, z) => {
+            format!(in alloc;
+                "{top} {} {} {}",
+                name(x.get()),
+                name(y.get()),
+                name(z.get())
+            )
+        }
+        Expr::Call(_, all) => format!(in alloc; "{top} {}", all.len()),
+        Expr::Cast(x, words) => format!(in alloc; "{top} {} {}", name(x.get()), words.len()),
+        Expr::Case(_, arms, _) => format!(in alloc; "{top} {}", arms.len()),
+        _ => String::from_str(alloc, top),
+    }
+}
+
+fn told(alloc: Global, text: &str) -> Result<String, Fail> {
+    let symbols = symbols(alloc, text)?;
+    match expression(alloc, symbols.as_slice()) {
+        Ok(tree) => Ok(shape(alloc, &tree)?),
+        Err(ParseError::Syntax(place)) => Ok(format!(in alloc; "syntax {place}")?),
+        Err(ParseError::Depth) => Ok(String::from_str(alloc, "depth")?),
+        Err(ParseError::Memory) => Err(Fail::from(AllocError)),
+    }
+}
+
+// So many of a word, then a 1, then as many of another.
+fn around(alloc: Global, before: &str, after: &str, times: u8) -> Result<String, AllocError> {
+    let mut text = String::new(alloc);
+    for _ in 0..times {
+        text.push_str(before)?;
+    }
+    text.push_str("1 ")?;
+    for _ in 0..times {
+        text.push_str(after)?;
+    }
+    Ok(text)
+}
+
+#[test]
+fn operators_group_as_in_sqlite(rt: HostRuntime) -> Result<(), Fail> {
+    for (text, wanted) in SHAPES {
+        let found = told(rt.alloc(), text)?;
+        assert_eq!(rt; found.as_str(), wanted, "{text}");
+    }
+    Ok(())
+}
+
+#[test]
+fn others_are_refused_at_their_first_bad_word(rt: HostRuntime) -> Result<(), Fail> {
+    let alloc = rt.alloc();
+    for (text, place) in REFUSED {
+        let found = told(alloc, text)?;
+        let wanted = format!(in alloc; "syntax {place}")?;
+        assert_eq!(rt; found.as_str(), wanted.as_str(), "{text}");
+    }
+    Ok(())
+}
+
+#[test]
+fn limits_are_met(rt: HostRuntime) -> Result<(), Fail> {
+    let alloc = rt.alloc();
+    let open = around(alloc, "( ", ") ", PARENTHESES)?;
+    assert_eq!(rt; told(alloc, &open)?.as_str(), "literal");
+    let more = around(alloc, "( ", ") ", PARENTHESES + 1)?;
+    assert_eq!(rt; told(alloc, &more)?.as_str(), "depth");
+    let high = around(alloc, "NOT ", "", DEPTH - 1)?;
+    assert_eq!(rt; told(alloc, &high)?.as_str(), "not not");
+    let higher = around(alloc, "NOT ", "", DEPTH)?;
+    assert_eq!(rt; told(alloc, &higher)?.as_str(), "depth");
+    Ok(())
+}

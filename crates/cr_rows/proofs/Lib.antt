@@ -1,0 +1,9 @@
+pub mod RowLemmas
+pub mod AskLemmas
+pub mod MakeLemmas
+pub mod InsertLemmas
+pub mod SelectLemmas
+pub mod TableLemmas
+pub mod DeleteLemmas
+pub mod UpdateLemmas
+pub mod TextLemmas

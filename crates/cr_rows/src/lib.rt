@@ -1,0 +1,85 @@
+//! The rows of sqlite's tables, and what SQL texts do to them.
+//!
+//! `proofs/` has a lemma for each kind of statement on a table whose schema is written out, generic over the table.
+#![tactic(auto)]
+
+ghost use Rattle.std.specs.Prelude.{◌≡◌, ℕ, Ok, false, IsTrue, IfOk, OnOk};
+ghost use Rattle.std.specs.String.{string_bytes};
+ghost use Rattle.sqlite.specs.declared.types.Value.TheVariants.{Text, Blob, Int};
+ghost use Rattle.sqlite.specs.Values.{bound};
+ghost use Rattle.sqlite.specs.Listing.{understood};
+ghost use Rattle.sqlite.specs.State.{HasCleanDisk, KeepsCommit, Survives, ExecutesIn, Shown};
+ghost use Rattle.sqlite.specs.Given.{IsPlain};
+ghost use Rattle.sqlite.specs.Held.{state};
+ghost use Rattle.sqlite_value.specs.Order.{column};
+
+use sqlite::types::ValueRef;
+use sqlite::{Alter, Connection, Error, Row, Transaction};
+
+/// The text in a column, by its place from 0.
+///
+/// # Errors
+/// Where the column has no text, or for want of memory.
+pub fn text_at(row: &Row, at: usize) -> Result<String, Error>
+    ensures { IfOk result (λ t. column row.now at ≡ Text (string_bytes t)) }
+{
+    row.get(at)
+}
+
+/// The blob in a column, by its place from 0.
+///
+/// # Errors
+/// Where the column has no blob, or for want of memory.
+pub fn blob_at(row: &Row, at: usize) -> Result<Vec<u8>, Error>
+    ensures { IfOk result (λ b. column row.now at ≡ Blob b.items) }
+{
+    row.get(at)
+}
+
+/// The integer in a column, by its place from 0.
+///
+/// # Errors
+/// Where the column has no integer.
+pub fn int_at(row: &Row, at: usize) -> Result<i64, Error>
+    ensures { IfOk result (λ n. column row.now at ≡ Int n) }
+{
+    row.get(at)
+}
+
+/// Runs one statement in a transaction.
+///
+/// # Errors
+/// sqlite's. Then nothing was committed; the statement did nothing, or the transaction is rolled back.
+pub fn write<S: Alter>(
+    tx: &mut Transaction<'_, S>,
+    sql: &str,
+    params: &[ValueRef<'_>],
+) -> Result<(), Error>
+    ensures same_reference { tx.new.conn.ghost_name ≡ tx.old.conn.ghost_name }
+    ensures ran { HasCleanDisk (state S.Store tx.new.conn.now) → OnOk result ((count : ℕ) × ExecutesIn false sql.now (bound params.now) (state S.Store tx.old.conn.now) (state S.Store tx.new.conn.now) (Ok count)) }
+    ensures inside { HasCleanDisk (state S.Store tx.new.conn.now) → OnOk result (tx.new.conn.now.in_transaction ≡ tx.old.conn.now.in_transaction) }
+    ensures kept { HasCleanDisk (state S.Store tx.new.conn.now) → KeepsCommit (state S.Store tx.old.conn.now) (state S.Store tx.new.conn.now) }
+    ensures survives { Survives (state S.Store tx.old.conn.now) (state S.Store tx.new.conn.now) (λ _. ⊥) }
+{
+    tx.execute(sql, params)?;
+    Ok(())
+}
+
+/// The rows that a query shows, all of them.
+///
+/// # Errors
+/// sqlite's. Then nothing is changed.
+pub fn ask<S: Alter>(
+    conn: &mut Connection<S>,
+    sql: &str,
+    params: &[ValueRef<'_>],
+) -> Result<Vec<Row>, Error>
+    ensures found { HasCleanDisk (state S.Store conn.new) → IfOk result (λ rows. Shown sql.now (bound params.now) (state S.Store conn.old) (state S.Store conn.new) rows.items) }
+    ensures same { HasCleanDisk (state S.Store conn.new) → IsPlain (understood (state S.Store conn.old).now.schema sql.now) → (state S.Store conn.old).now ≡ (state S.Store conn.old).committed
+        → IsTrue (state S.Store conn.new).is_open → (state S.Store conn.new).now ≡ (state S.Store conn.old).now }
+    ensures was_open { HasCleanDisk (state S.Store conn.new) → IsTrue (state S.Store conn.new).is_open → IsTrue (state S.Store conn.old).is_open }
+    ensures mode { conn.old.in_transaction ≡ false → conn.new.in_transaction ≡ false }
+    ensures survives { HasCleanDisk (state S.Store conn.new) → HasCleanDisk (state S.Store conn.old) }
+{
+    conn.query_all(sql, params)
+}

@@ -1,0 +1,69 @@
+use Rattle.std.proofs.Common.{◌≡◌, ℕ, List, [], ◌++◌, Option, Some, None, refl, sym, ap, ◌∙◌, append_assoc, take, drop, append-nil, length, ◌-◌, ◌+◌, ◌≤◌, arith, subst, length-drop, length-append}
+use Rattle.std.proofs.lemmas.List.{take_all, take-append-drop, length-take}
+use Rattle.std.proofs.Math.Seq.{take-add}
+use Rattle.std.specs.Io.KnownBytes.{Appends, Consumes, Keeps}
+use Rattle.cr_shell.specs.Printing.{AppendsFront}
+
+pub appends_none : (a : Option (List ℕ)) → Appends a a []
+appends_none None = tt
+appends_none (Some xs) = sym (append-nil xs)
+
+pub appends_more : (a b c : Option (List ℕ)) (x y : List ℕ) → Appends a b x → Appends b c y → Appends a c (x ++ y)
+appends_more None b c x y p q = tt
+appends_more (Some a) None c x y p q = absurd p
+appends_more (Some a) (Some b) None x y p q = absurd q
+appends_more (Some a) (Some b) (Some c) x y p q = q ∙ ap (λ l. l ++ y) p ∙ append_assoc a x y
+
+pub appends_kept : (a b c : Option (List ℕ)) (x : List ℕ) → Appends a b x → Keeps b c → Appends a c x
+appends_kept None b c x p q = tt
+appends_kept (Some a) None c x p q = absurd p
+appends_kept (Some a) (Some b) None x p q = absurd q
+appends_kept (Some a) (Some b) (Some c) x p q = q ∙ p
+
+pub consumes_none : (a : Option (List ℕ)) → Consumes a a []
+consumes_none None = tt
+consumes_none (Some xs) = refl
+
+pub consumes_more : (a b c : Option (List ℕ)) (x y : List ℕ) → Consumes a b x → Consumes b c y → Consumes a c (x ++ y)
+consumes_more None b c x y p q = tt
+consumes_more (Some a) None c x y p q = absurd p
+consumes_more (Some a) (Some b) None x y p q = absurd q
+consumes_more (Some a) (Some b) (Some c) x y p q = p ∙ ap (λ l. x ++ l) q ∙ sym (append_assoc x y c)
+
+pub consumes_kept : (a b c : Option (List ℕ)) (x : List ℕ) → Consumes a b x → Keeps b c → Consumes a c x
+consumes_kept None b c x p q = tt
+consumes_kept (Some a) None c x p q = absurd p
+consumes_kept (Some a) (Some b) None x p q = absurd q
+consumes_kept (Some a) (Some b) (Some c) x p q = p ∙ ap (λ l. x ++ l) (sym q)
+
+-- the rest of a list from a place, as a slice of it is written
+pub rest_from : (at : ℕ) (xs : List ℕ) → take (length xs - at) (drop at xs) ≡ drop at xs
+rest_from at xs = take_all (length xs - at) (drop at xs) (omega (arith, length-drop at xs))
+
+-- n more are written from a place on
+pub appends_next : (a b c : Option (List ℕ)) (at n : ℕ) (xs : List ℕ) → Appends a b (take at xs) → Appends b c (take n (take (length xs - at) (drop at xs))) → Appends a c (take (at + n) xs)
+appends_next a b c at n xs p q =
+    subst (Appends a c) (sym (take-add at n xs)) (appends_more a b c (take at xs) (take n (drop at xs)) p (subst (λ (l : List ℕ). Appends b c (take n l)) (rest_from at xs) q))
+
+-- no more is
+pub front_of : (a b c : Option (List ℕ)) (at : ℕ) (xs : List ℕ) → Appends a b (take at xs) → Keeps b c → AppendsFront a c xs
+front_of a b c at xs p q = (take at xs, drop at xs, sym (take-append-drop at xs), appends_kept a b c (take at xs) p q)
+
+pub front_next : (a b c : Option (List ℕ)) (at : ℕ) (xs : List ℕ) → Appends a b (take at xs) → Appends b c [] → AppendsFront a c xs
+front_next a b c at xs p q = (take at xs, drop at xs, sym (take-append-drop at xs), subst (Appends a c) (append-nil (take at xs)) (appends_more a b c (take at xs) [] p q))
+
+module _ (a b c x y z : Option (List ℕ)) (n k : ℕ) (buf piece : List ℕ) (same : piece ≡ take n buf) (short : length buf ≡ 100)
+    (done : (input : List ℕ) × Consumes a b input × Appends x y input × (length input ≤ k)) (more : Consumes b c (take n buf)) where
+  next_length : length (done.0 ++ take n buf) ≤ k + 100
+  next_length = let l = done.3 in omega (arith, length-append done.0 (take n buf), length-take n buf)
+
+  pub next_done : Appends y z piece → (input : List ℕ) × Consumes a c input × Appends x z input × (length input ≤ k + 100)
+  next_done w = (done.0 ++ take n buf, consumes_more a b c done.0 (take n buf) done.1 more, appends_more x y z done.0 (take n buf) done.2 (subst (Appends y z) same w), next_length)
+
+  pub next_front : AppendsFront y z piece → (input : List ℕ) × Consumes a c input × AppendsFront x z input × (length input ≤ k + 100)
+  next_front w = (
+    done.0 ++ take n buf,
+    consumes_more a b c done.0 (take n buf) done.1 more,
+    (done.0 ++ w.0, w.1, ap (λ l. done.0 ++ l) (sym same ∙ w.2) ∙ sym (append_assoc done.0 w.0 w.1), appends_more x y z done.0 w.0 done.2 w.3),
+    next_length,
+  )

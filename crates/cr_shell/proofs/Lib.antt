@@ -1,0 +1,6 @@
+pub mod BytesLemmas
+pub mod PrintLemmas
+pub mod LineLemmas
+pub mod TableLemmas
+pub mod TableReady
+pub mod ServeLemmas

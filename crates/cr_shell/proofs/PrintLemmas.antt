@@ -1,0 +1,96 @@
+-- What a watched writer wrote, piece by piece.
+use Rattle.std.proofs.Common.{◌≡◌, ◌∙◌, refl, sym, ap, subst, ℕ, Bool, true, false, List, [], ◌∷◌, ◌++◌, ◌==◌, append_assoc, append-nil, take, slice_index, ◌+◌, ◌/◌, ◌%◌, Option}
+use Rattle.std.proofs.lemmas.Bool.{ne_eqb}
+use Rattle.std.proofs.lemmas.Grind.{flat_map-append}
+use Rattle.std.specs.List.{flat_map}
+use Rattle.std.specs.Io.KnownBytes.{Appends}
+use Rattle.hex.specs.Hex.{encode_with, encode_upper, upper_digits}
+use Rattle.cr_value.specs.declared.value.Value.{Value}
+use Rattle.cr_value.specs.Literal.{literal, doubled}
+use Rattle.cr_shell.specs.Printing.{AppendsFront, Prints, behind_bars, row_line}
+use Rattle.cr_shell.proofs.BytesLemmas.{appends_none, appends_more}
+
+-- ---- fronts
+
+pub front_none : (a : Option (List ℕ)) (x : List ℕ) → AppendsFront a a x
+front_none a x = ([], x, refl, appends_none a)
+
+pub front_whole : (a b : Option (List ℕ)) (x : List ℕ) → Appends a b x → AppendsFront a b x
+front_whole a b x p = (x, [], sym (append-nil x), p)
+
+front_more : (a b : Option (List ℕ)) (x y : List ℕ) → AppendsFront a b x → AppendsFront a b (x ++ y)
+front_more a b x y p = (p.0, p.1 ++ y, ap (λ l. l ++ y) p.2 ∙ append_assoc p.0 p.1 y, p.3)
+
+front_after : (a b c : Option (List ℕ)) (x y : List ℕ) → Appends a b x → AppendsFront b c y → AppendsFront a c (x ++ y)
+front_after a b c x y p q = (x ++ q.0, q.1, ap (λ l. x ++ l) q.2 ∙ sym (append_assoc x q.0 q.1), appends_more a b c x q.0 p q.3)
+
+-- ---- prints
+
+module _ {W : Type 0} (contents : W → Option (List ℕ)) where
+  pub prints_none : (a : W × Bool) → Prints contents a a []
+  prints_none a = record { whole = λ h. (h, appends_none (contents a.0)); front = λ h. front_none (contents a.0) []; failed = λ h. refl }
+
+  front_of_both : (a b c : W × Bool) (x y : List ℕ) → Prints contents a b x → Prints contents b c y → a.1 ≡ false → AppendsFront (contents a.0) (contents c.0) (x ++ y)
+  front_of_both a (w, false) c x y p q h = front_after (contents a.0) (contents w) (contents c.0) x y (p.whole refl).1 (q.front refl)
+  front_of_both a (w, true) c x y p q h = subst (λ (d : W × Bool). AppendsFront (contents a.0) (contents d.0) (x ++ y)) (sym (q.failed refl)) (front_more (contents a.0) (contents w) x y (p.front h))
+
+  pub prints_more : (a b c : W × Bool) (x y : List ℕ) → Prints contents a b x → Prints contents b c y → Prints contents a c (x ++ y)
+  prints_more a b c x y p q = record {
+    whole = λ h. let r = q.whole h in let s = p.whole r.0 in (s.0, appends_more (contents a.0) (contents b.0) (contents c.0) x y s.1 r.1);
+    front = front_of_both a b c x y p q;
+    failed = λ h. let e = p.failed h in q.failed (ap (λ (d : W × Bool). d.1) e ∙ h) ∙ e;
+  }
+
+  pub prints_next : {X : Type 0} (f : List X → List ℕ) (a b c : W × Bool) (n : ℕ) (xs : List X) (x : X) (y : List ℕ) → f (take n xs ++ x ∷ []) ≡ f (take n xs) ++ y → take (n + 1) xs ≡ take n xs ++ x ∷ []
+      → Prints contents a b (f (take n xs)) → Prints contents b c y → Prints contents a c (f (take (n + 1) xs))
+  prints_next f a b c n xs x y e t p q = subst (Prints contents a c) (sym (ap f t ∙ e)) (prints_more a b c (f (take n xs)) y p q)
+
+-- ---- what is printed, item by item
+
+pub two_digits : (b : ℕ) → encode_upper (b ∷ []) ≡ slice_index upper_digits (b / 16) ∷ slice_index upper_digits (b % 16) ∷ []
+unfolding encode_with
+two_digits b = refl
+
+pub digits_more : (t xs : List ℕ) (x : ℕ) → encode_with t (xs ++ x ∷ []) ≡ encode_with t xs ++ encode_with t (x ∷ [])
+unfolding encode_with
+digits_more t [] x = refl
+digits_more t (y ∷ ys) x = rw (digits_more t ys x) refl
+
+pub bars_more : (vs : List Value) (v : Value) → behind_bars (vs ++ v ∷ []) ≡ behind_bars vs ++ (124 ∷ literal v)
+unfolding behind_bars
+bars_more [] v = (ap (λ l. 124 ∷ l) (append-nil (literal v)))
+bars_more (w ∷ ws) v = (ap (λ l. 124 ∷ l) (ap (λ l. literal w ++ l) (bars_more ws v) ∙ sym (append_assoc (literal w) (behind_bars ws) (124 ∷ literal v))))
+
+doubled_step : (b : Bool) (y : ℕ) (ys : List ℕ) (x : ℕ) → (y == 39) ≡ b → doubled (ys ++ x ∷ []) ≡ doubled ys ++ doubled (x ∷ []) → doubled (y ∷ ys ++ x ∷ []) ≡ doubled (y ∷ ys) ++ doubled (x ∷ [])
+unfolding doubled
+doubled_step true y ys x e h = (rw e (ap (λ l. 39 ∷ 39 ∷ l) h))
+doubled_step false y ys x e h = (rw e (ap (λ l. y ∷ l) h))
+
+pub doubled_more : (xs : List ℕ) (x : ℕ) → doubled (xs ++ x ∷ []) ≡ doubled xs ++ doubled (x ∷ [])
+unfolding doubled
+doubled_more [] x = refl
+doubled_more (y ∷ ys) x = doubled_step (y == 39) y ys x refl (doubled_more ys x)
+
+pub rows_more : (rs : List (List Value)) (r : List Value) → flat_map row_line (rs ++ r ∷ []) ≡ flat_map row_line rs ++ row_line r
+rows_more rs r = flat_map-append row_line rs (r ∷ []) ∙ ap (λ l. flat_map row_line rs ++ l) (append-nil (row_line r))
+
+-- nothing of nothing
+pub no_digits : (t : List ℕ) → encode_with t [] ≡ []
+unfolding encode_with
+no_digits t = refl
+
+pub no_bars : behind_bars [] ≡ []
+unfolding behind_bars
+no_bars = refl
+
+pub no_doubled : doubled [] ≡ []
+unfolding doubled
+no_doubled = refl
+
+pub doubled_quote : (c : ℕ) → c ≡ 39 → doubled (c ∷ []) ≡ 39 ∷ 39 ∷ []
+unfolding doubled
+doubled_quote c e = rw e refl
+
+pub doubled_other : (c : ℕ) → (c ≡ 39 → ⊥) → doubled (c ∷ []) ≡ c ∷ []
+unfolding doubled
+doubled_other c n = rw (ne_eqb c 39 n) refl

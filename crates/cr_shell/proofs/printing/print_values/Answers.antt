@@ -1,0 +1,5 @@
+use Rattle.cr_shell.proofs.PrintLemmas.{prints_more}
+use Rattle.cr_shell.proofs.printing.print_values.Goals as goal
+
+pub returns : goal.returns
+returns g c = prints_more g.W.Write.contents _ _ _ _ _ (prints_more g.W.Write.contents _ _ _ _ _ c.print_value.ensures c.print_behind_bars.ensures) c.write_all.ensures

@@ -1,0 +1,79 @@
+-- What a line asks of a fleet. Source: this project's own line format.
+use Rattle.std.specs.Prelude.{ℕ, Bool, true, false, List, Option, Some, None, Result, Ok, Err, codes, if◌then◌else◌}
+use Rattle.std.specs.Option.{option_map}
+use Rattle.std.specs.Str.{bytes_eq}
+use Rattle.hex.specs.Hex.{decode_sized}
+use Rattle.hex.specs.declared.error.FromHexError.{FromHexError}
+use Rattle.cr_value.specs.declared.value.Value.{Value}
+use Rattle.cr_value.specs.declared.value.Value.TheVariants.{Null, Int, Text, Blob}
+use Rattle.cr_value.specs.Unpacking.{◌>>=◌}
+use Rattle.cr_value.specs.Reading.{literal_at}
+use Rattle.cr_replica.specs.declared.change_row.ChangeRow.{ChangeRow}
+use Rattle.cr_session.specs.declared.command.Command.{Command}
+use Rattle.cr_session.specs.declared.command.Command.TheVariants.{Open, Use, Take, Rows, Pull}
+use Rattle.cr_shell.specs.Words.{has_space, split_at_space, behind, is_empty, folded}
+use Rattle.cr_shell.specs.TableLine.{table_of}
+
+-- ---- a change line
+
+-- a literal behind a bar
+abbrev pub barred : List ℕ → Option (Value × List ℕ)
+barred bytes = behind 124 bytes >>= literal_at
+
+abbrev pub is_int : Value → Bool
+is_int (Int n) = true
+is_int Null = false
+is_int (Text t) = false
+is_int (Blob b) = false
+
+-- an integer behind a bar
+abbrev pub integer_behind_bar : Option (Value × List ℕ) → Option (List ℕ)
+integer_behind_bar None = None
+integer_behind_bar (Some x) = if is_int x.0 then Some x.1 else None
+
+-- Nine literals joined by bars, as the rows of `crsql_changes` are printed: of the last, `seq`, and of `db_version` it
+-- is looked at their type alone.
+unfoldable pub row_of : List ℕ → Option ChangeRow
+row_of bytes = do
+  table ← literal_at bytes
+  pk ← barred table.1
+  cid ← barred pk.1
+  val ← barred cid.1
+  version ← barred val.1
+  after ← integer_behind_bar (barred version.1)
+  site ← barred after
+  cl ← barred site.1
+  end ← integer_behind_bar (barred cl.1)
+  if is_empty end then Some (record { table = table.0; pk = pk.0; cid = cid.0; val = val.0; col_version = version.0; site_id = site.0; cl = cl.0 }) else None
+
+-- ---- the commands
+
+-- the 16 bytes of 32 hexadecimal digits in either case
+abbrev pub site_in : Result (List ℕ) FromHexError → Option (List ℕ)
+site_in (Ok site) = Some site
+site_in (Err e) = None
+
+-- a name and a site
+unfoldable pub open_of : List ℕ → Option Command
+open_of bytes = do
+  words ← split_at_space bytes
+  site ← site_in (decode_sized words.1 16)
+  Some (Open words.0 site)
+
+-- one word
+abbrev pub word_of : List ℕ → Option (List ℕ)
+word_of bytes = if has_space bytes then None else Some bytes
+
+unfoldable pub command_in : List ℕ → List ℕ → Option Command
+command_in word bytes =
+    if bytes_eq word (codes ".open") then open_of bytes
+    else if bytes_eq word (codes ".use") then option_map Use (word_of bytes)
+    else if bytes_eq word (codes ".table") then table_of bytes
+    else if bytes_eq word (codes ".take") then option_map Take (row_of bytes)
+    else if bytes_eq word (codes ".rows") then option_map (λ name. Rows (folded name)) (word_of bytes)
+    else if bytes_eq word (codes ".pull") then option_map Pull (word_of bytes)
+    else None
+
+-- the command that the line is, if it is one
+unfoldable pub command_of : List ℕ → Option Command
+command_of line = split_at_space line >>= λ words. command_in words.0 words.1

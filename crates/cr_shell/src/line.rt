@@ -1,0 +1,175 @@
+//! What a line asks of a fleet.
+
+ghost use Rattle.std.specs.Prelude.{◌≡◌, drop, IfOk, IfSome};
+ghost use Rattle.cr_session.specs.Answers.{IsReady};
+ghost use Rattle.std.specs.Option.{option_map};
+ghost use Rattle.hex.specs.Hex.{decode_sized};
+ghost use Rattle.cr_value.specs.Reading.{literal_at};
+ghost use Rattle.cr_session.specs.declared.command.Command.TheVariants.{Use, Rows, Pull, Take};
+ghost use Rattle.cr_shell.specs.Words.{folded};
+ghost use Rattle.cr_shell.specs.Lines.{barred, is_int, integer_behind_bar, row_of, site_in, open_of, word_of, command_in, command_of};
+
+use crate::table_line::table_of;
+use crate::words::{behind_from, folded, has_space, is_at_end, literal_from, split_at_space};
+use cr_lattice::change::Site;
+use cr_replica::change_row::ChangeRow;
+use cr_session::command::Command;
+use cr_value::text::Text;
+use cr_value::value::Value;
+use hex::FromHex;
+use std::alloc::{AllocError, Global};
+
+fn barred_from(alloc: Global, text: &str, at: usize) -> Result<Option<(Value, usize)>, AllocError>
+    ensures { IfOk result (λ found. option_map (λ x. (x.0, drop x.1 text.now)) found ≡ barred (drop at text.now)) }
+{
+    match behind_from(text, at, b'|') {
+        Some(at) => literal_from(alloc, text, at),
+        None => Ok(None),
+    }
+}
+
+// Where the integer behind a bar ends.
+fn integer_from(alloc: Global, text: &str, at: usize) -> Result<Option<usize>, AllocError>
+    ensures { IfOk result (λ found. option_map (λ end. drop end text.now) found ≡ integer_behind_bar (barred (drop at text.now))) }
+{
+    match barred_from(alloc, text, at)? {
+        Some((Value::Int(_), end)) => Ok(Some(end)),
+        _ => Ok(None),
+    }
+}
+
+#[tactic(auto, unfolding(crate::specs::Lines::row_of))]
+fn row_of(alloc: Global, text: &str) -> Result<Option<ChangeRow>, AllocError>
+    ensures { IfOk result (λ row. row ≡ row_of text.now) }
+{
+    let Some((table, at)) = literal_from(alloc, text, 0)? else {
+        return Ok(None);
+    };
+    let Some((pk, at)) = barred_from(alloc, text, at)? else {
+        return Ok(None);
+    };
+    let Some((cid, at)) = barred_from(alloc, text, at)? else {
+        return Ok(None);
+    };
+    let Some((val, at)) = barred_from(alloc, text, at)? else {
+        return Ok(None);
+    };
+    let Some((col_version, at)) = barred_from(alloc, text, at)? else {
+        return Ok(None);
+    };
+    let Some(at) = integer_from(alloc, text, at)? else {
+        return Ok(None);
+    };
+    let Some((site_id, at)) = barred_from(alloc, text, at)? else {
+        return Ok(None);
+    };
+    let Some((cl, at)) = barred_from(alloc, text, at)? else {
+        return Ok(None);
+    };
+    let Some(end) = integer_from(alloc, text, at)? else {
+        return Ok(None);
+    };
+    if !is_at_end(text, end) {
+        return Ok(None);
+    }
+    Ok(Some(ChangeRow {
+        table,
+        pk,
+        cid,
+        val,
+        col_version,
+        site_id,
+        cl,
+    }))
+}
+
+fn site_of(digits: &str) -> Option<Site>
+    ensures { result ≡ site_in (decode_sized digits.now 16) }
+{
+    Site::from_hex(digits).ok()
+}
+
+#[tactic(auto, unfolding(crate::specs::Lines::open_of))]
+fn open_of(alloc: Global, text: &str) -> Result<Option<Command>, AllocError>
+    ensures value { IfOk result (λ command. command ≡ open_of text.now) }
+    ensures ready { IfOk result (λ command. IfSome command IsReady) }
+{
+    let Some((name, digits)) = split_at_space(text) else {
+        return Ok(None);
+    };
+    let Some(site) = site_of(digits) else {
+        return Ok(None);
+    };
+    Ok(Some(Command::Open(Text::from_str(alloc, name)?, site)))
+}
+
+fn word_of(alloc: Global, text: &str) -> Result<Option<Text>, AllocError>
+    ensures { IfOk result (λ word. word ≡ word_of text.now) }
+{
+    if has_space(text) {
+        return Ok(None);
+    }
+    Ok(Some(Text::from_str(alloc, text)?))
+}
+
+fn use_of(alloc: Global, text: &str) -> Result<Option<Command>, AllocError>
+    ensures value { IfOk result (λ command. command ≡ option_map Use (word_of text.now)) }
+    ensures ready { IfOk result (λ command. IfSome command IsReady) }
+{
+    Ok(word_of(alloc, text)?.map(Command::Use))
+}
+
+fn rows_of(alloc: Global, text: &str) -> Result<Option<Command>, AllocError>
+    ensures value { IfOk result (λ command. command ≡ option_map (λ name. Rows (folded name)) (word_of text.now)) }
+    ensures ready { IfOk result (λ command. IfSome command IsReady) }
+{
+    let Some(name) = word_of(alloc, text)? else {
+        return Ok(None);
+    };
+    Ok(Some(Command::Rows(folded(alloc, name.as_str())?)))
+}
+
+fn pull_of(alloc: Global, text: &str) -> Result<Option<Command>, AllocError>
+    ensures value { IfOk result (λ command. command ≡ option_map Pull (word_of text.now)) }
+    ensures ready { IfOk result (λ command. IfSome command IsReady) }
+{
+    Ok(word_of(alloc, text)?.map(Command::Pull))
+}
+
+fn take_of(alloc: Global, text: &str) -> Result<Option<Command>, AllocError>
+    ensures value { IfOk result (λ command. command ≡ option_map Take (row_of text.now)) }
+    ensures ready { IfOk result (λ command. IfSome command IsReady) }
+{
+    Ok(row_of(alloc, text)?.map(Command::Take))
+}
+
+#[tactic(auto, unfolding(crate::specs::Lines::command_in))]
+fn command_in(alloc: Global, word: &str, text: &str) -> Result<Option<Command>, AllocError>
+    ensures value { IfOk result (λ command. command ≡ command_in word.now text.now) }
+    ensures ready { IfOk result (λ command. IfSome command IsReady) }
+{
+    match word {
+        ".open" => open_of(alloc, text),
+        ".use" => use_of(alloc, text),
+        ".table" => table_of(alloc, text),
+        ".take" => take_of(alloc, text),
+        ".rows" => rows_of(alloc, text),
+        ".pull" => pull_of(alloc, text),
+        _ => Ok(None),
+    }
+}
+
+/// The command that a line is, if it is one.
+///
+/// # Errors
+/// Where there is no memory for it.
+#[tactic(auto, unfolding(crate::specs::Lines::command_of))]
+pub fn command_of(alloc: Global, line: &str) -> Result<Option<Command>, AllocError>
+    ensures value { IfOk result (λ command. command ≡ command_of line.now) }
+    ensures ready { IfOk result (λ command. IfSome command IsReady) }
+{
+    let Some((word, text)) = split_at_space(line) else {
+        return Ok(None);
+    };
+    command_in(alloc, word, text)
+}

@@ -1,0 +1,63 @@
+-- What a call leaves where it ends well, and what its database holds with one table changed.
+use Rattle.std.proofs.Common.{◌≡◌, ◌≢◌, ℕ, List, Ok, Err, Result, OnOk, IfOk, arith, sym, ap, subst, ◌∙◌}
+use Rattle.sqlite.specs.Order.{Row}
+use Rattle.sqlite.specs.Effect.{Database}
+use Rattle.sqlite.specs.State.{State, HasCleanDisk, KeepsCommit, Survives}
+use Rattle.cr_rows.specs.Rows.{Lists}
+use Rattle.cr_rows.proofs.RowLemmas.{lists_in}
+use Rattle.cr_rows.proofs.InsertLemmas.{KeepsOthers}
+use Rattle.cr_store.specs.Schema.{store_schema}
+use Rattle.cr_store.specs.Shows.{Holds}
+
+pub ok_then : {B E : Type 0} (r : Result B E) (P Q : Type 0) → (P → Q) → OnOk r P → OnOk r Q
+ok_then (Ok b) P Q f h = f h
+ok_then (Err e) P Q f h = tt
+
+pub if_then : {B E : Type 0} (r : Result B E) (P Q : B → Type 0) → ((b : B) → P b → Q b) → IfOk r P → IfOk r Q
+if_then (Ok b) P Q f h = f b h
+if_then (Err e) P Q f h = tt
+
+pub was_clean : (old new : State) → Survives old new (λ _. ⊥) → HasCleanDisk new → HasCleanDisk old
+was_clean old new s clean = omega (arith, s.clean, clean)
+
+pub keeps_then : (a b c : State) → KeepsCommit a b → KeepsCommit b c → KeepsCommit a c
+keeps_then a b c p q = record { was_open = λ it. p.was_open (q.was_open it); committed = λ it. q.committed it ∙ p.committed (q.was_open it) }
+
+-- ---- one table is changed
+
+module _ (old new : Database) (a b c d x : List Row) (it : Holds old a b c d) (schema : new.schema ≡ store_schema) where
+  pub with_meta : KeepsOthers store_schema 0 old.trees new.trees → Lists (new.trees 0) x → Holds new x b c d
+  with_meta others are = record {
+    schema = schema;
+    meta_are = are;
+    tables_are = lists_in (new.trees 2) (old.trees 2) b (others.1.0 (λ e. omega (arith, e))) it.tables_are;
+    cells_are = lists_in (new.trees 4) (old.trees 4) c (others.1.1.0 (λ e. omega (arith, e))) it.cells_are;
+    marks_are = lists_in (new.trees 6) (old.trees 6) d (others.1.1.1.0 (λ e. omega (arith, e))) it.marks_are;
+  }
+
+  pub with_tables : KeepsOthers store_schema 2 old.trees new.trees → Lists (new.trees 2) x → Holds new a x c d
+  with_tables others are = record {
+    schema = schema;
+    meta_are = lists_in (new.trees 0) (old.trees 0) a (others.0 (λ e. omega (arith, e))) it.meta_are;
+    tables_are = are;
+    cells_are = lists_in (new.trees 4) (old.trees 4) c (others.1.1.0 (λ e. omega (arith, e))) it.cells_are;
+    marks_are = lists_in (new.trees 6) (old.trees 6) d (others.1.1.1.0 (λ e. omega (arith, e))) it.marks_are;
+  }
+
+  pub with_cells : KeepsOthers store_schema 4 old.trees new.trees → Lists (new.trees 4) x → Holds new a b x d
+  with_cells others are = record {
+    schema = schema;
+    meta_are = lists_in (new.trees 0) (old.trees 0) a (others.0 (λ e. omega (arith, e))) it.meta_are;
+    tables_are = lists_in (new.trees 2) (old.trees 2) b (others.1.0 (λ e. omega (arith, e))) it.tables_are;
+    cells_are = are;
+    marks_are = lists_in (new.trees 6) (old.trees 6) d (others.1.1.1.0 (λ e. omega (arith, e))) it.marks_are;
+  }
+
+  pub with_marks : KeepsOthers store_schema 6 old.trees new.trees → Lists (new.trees 6) x → Holds new a b c x
+  with_marks others are = record {
+    schema = schema;
+    meta_are = lists_in (new.trees 0) (old.trees 0) a (others.0 (λ e. omega (arith, e))) it.meta_are;
+    tables_are = lists_in (new.trees 2) (old.trees 2) b (others.1.0 (λ e. omega (arith, e))) it.tables_are;
+    cells_are = lists_in (new.trees 4) (old.trees 4) c (others.1.1.0 (λ e. omega (arith, e))) it.cells_are;
+    marks_are = are;
+  }

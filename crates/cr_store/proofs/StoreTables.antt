@@ -1,0 +1,51 @@
+-- One more table in a store.
+use Rattle.std.proofs.Common.{◌≡◌, inl, inr, ℕ, ◌+◌, ℤ, pos, List, [], ◌∷◌, ◌++◌, map, length, Bool, true, false, not, ◌||◌, refl, sym, ap, subst, ◌∙◌, arith}
+use Rattle.sqlite.specs.declared.types.Value.TheVariants.{Int, Text, Blob}
+use Rattle.sqlite.specs.Order.{Row}
+use Rattle.sqlite.specs.Effect.{Database}
+use Rattle.sqlite_rules.specs.Lists.{Has}
+use Rattle.sqlite_rules.proofs.ListLemmas.{has_left, has_right, has_either}
+use Rattle.cr_rows.specs.Rows.{SameRows}
+use Rattle.cr_rows.proofs.RowLemmas.{lists_same}
+use Rattle.cr_lattice.specs.declared.table.Table.{Table}
+use Rattle.cr_cells.specs.Holding.{Holding}
+use Rattle.cr_store.specs.Definition.{definition}
+use Rattle.cr_store.specs.Rows.{meta_rows, one_if, table_row, table_rows, cell_row, mark_row}
+use Rattle.cr_store.specs.Shows.{Holds, Shows}
+
+pub wants_defaults : (b h : Bool) → (b ≡ true → h ≡ true) → (not b || h) ≡ true
+wants_defaults true h all = all refl
+wants_defaults false h all = refl
+
+pub row_is : (n : ℕ) (t : Table) (x : List ℕ) (o k : ℤ) (d : List ℕ) → x ≡ t.definition.name → o ≡ pos n → k ≡ one_if t.is_replicated → d ≡ definition t.definition
+    → Text x ∷ Int o ∷ Int k ∷ Blob d ∷ [] ≡ table_row n t
+row_is n t x o k d p q r s = λ i. Text (p i) ∷ Int (q i) ∷ Int (r i) ∷ Blob (s i) ∷ []
+
+rows_last : (n : ℕ) (ts : List Table) (t : Table) → table_rows n (ts ++ t ∷ []) ≡ table_rows n ts ++ table_row (n + length ts) t ∷ []
+rows_last n [] t = let e : n ≡ n + 0 = omega arith in ap (λ m. table_row m t ∷ []) e
+rows_last n (x ∷ ts) t =
+    let e : n + 1 + length ts ≡ n + length (x ∷ ts) = omega arith in
+    ap (λ (rows : List Row). table_row n x ∷ rows) (rows_last (n + 1) ts t ∙ ap (λ m. table_rows (n + 1) ts ++ table_row m t ∷ []) e)
+
+same_turned : (xs : List Row) (x : Row) → SameRows (x ∷ xs) (xs ++ x ∷ [])
+same_turned xs x = record { to = to; from = from }
+  where
+    to : (r : Row) → Has (x ∷ xs) r → Has (xs ++ x ∷ []) r
+    to r (inl e) = has_right xs (x ∷ []) r (inl e)
+    to r (inr h) = has_left xs (x ∷ []) r h
+
+    from : (r : Row) → Has (xs ++ x ∷ []) r → Has (x ∷ xs) r
+    from r h = elim (has_either xs (x ∷ []) r h) [ inl old ↦ inr old | inr new ↦ elim new [ inl e ↦ inl e | inr none ↦ absurd none ] ]
+
+-- the row of a new table stands anywhere among the others
+pub shows_table : (db : Database) (h : Holding) (t : Table) (row : Row) → row ≡ table_row (1 + length h.tables) t
+    → Holds db (meta_rows h.site h.version) (row ∷ table_rows 1 h.tables) (map cell_row h.cells) (map mark_row h.marks) → Shows db (record h { tables = h.tables ++ t ∷ [] })
+shows_table db h t row is it =
+    let all : table_rows 1 h.tables ++ row ∷ [] ≡ table_rows 1 (h.tables ++ t ∷ []) = ap (λ (r : Row). table_rows 1 h.tables ++ r ∷ []) is ∙ sym (rows_last 1 h.tables t) in
+    record {
+      schema = it.schema;
+      meta_are = it.meta_are;
+      tables_are = lists_same (db.trees 2) _ _ (subst (SameRows (row ∷ table_rows 1 h.tables)) all (same_turned (table_rows 1 h.tables) row)) it.tables_are;
+      cells_are = it.cells_are;
+      marks_are = it.marks_are;
+    }

@@ -1,0 +1,49 @@
+use Rattle.std.proofs.Common.{◌≡◌, ℤ, pos, ◌+ℤ◌, rules, map, true, false, not, ◌&&◌, cond, ◌∙◌, ap, sym, subst, SFits, w64, to_z, of_z, to_z-of_z}
+use Rattle.std.specs.Ordering.{int_eq}
+use Rattle.sqlite.specs.Held.{state}
+use Rattle.cr_lattice.specs.Keep.{keep}
+use Rattle.cr_cells.specs.Calls.{IsRefusal}
+use Rattle.cr_cells.specs.Commit.{greatest_version}
+use Rattle.cr_store.specs.Committing.{is_none, IsUndecided}
+use Rattle.cr_store.specs.Kept.{holding_of}
+use Rattle.cr_store.specs.Plan.{IsPlan}
+use Rattle.cr_store.specs.Rows.{meta_rows, table_rows, mark_row}
+use Rattle.cr_store.proofs.CommitDecided.{decided, past_limit}
+use Rattle.cr_store.proofs.CommitHolding.{sorted_cells, refusal_is}
+use Rattle.cr_store.proofs.committing.decide.Goals as goal
+
+pub returns-in_err-plan-clause-decided : goal.returns-in_err-plan-clause-decided
+returns-in_err-plan-clause-decided g c = λ clean it shows sound.
+    let h = holding_of (state g.S.Store c.args.conn.now).now c.args.known.now in
+    let refused : IsRefusal c.in_err-plan.field-0.0 = c.in_err-plan.ensures.planned clean it (meta_rows h.site h.version) (table_rows 1 h.tables) (map mark_row h.marks) h.cells shows (sorted_cells h sound) in
+    let why : IsUndecided h c.args.changes.now c.in_err-plan.field-0.0 = refusal_is c.in_err-plan.field-0.0 h c.args.changes.now refused in
+    search rules
+
+pub returns-then-is_past_limit-clause-decided : goal.returns-then-is_past_limit-clause-decided
+returns-then-is_past_limit-clause-decided g c = λ clean it shows sound.
+    let h = holding_of (state g.S.Store c.args.conn.now).now c.args.known.now in
+    let fits : SFits w64 c.args.known.now.version = search rules in
+    let is_kept : c.deref.result.now ≡ keep c.args.changes.now = c.deref.ensures.value ∙ c.in_ok-kept.ensures in
+    let stamp : ℤ = to_z w64 (of_z w64 c.stamp_after-stamp.result) in
+    let plan : IsPlan h.cells (keep c.args.changes.now) stamp c.in_ok-plan.plan =
+    subst (λ cs. IsPlan h.cells cs stamp c.in_ok-plan.plan) is_kept (c.in_ok-plan.ensures.planned clean it (meta_rows h.site h.version) (table_rows 1 h.tables) (map mark_row h.marks) h.cells shows (sorted_cells h sound)) in
+    past_limit h c.args.changes.now stamp c.in_ok-plan.plan c.has_news-is_changed.result true plan
+    (c.has_news-is_changed.ensures ∙ ap (λ ns. not (is_none ns)) c.deref-2.ensures.value)
+    (sym c.if-is_past_limit.true ∙ c.is_past_limit.ensures ∙ ap (λ v. c.has_news-is_changed.result && int_eq v greatest_version) (to_z-of_z fits))
+
+pub returns-clause-decided : goal.returns-clause-decided
+returns-clause-decided g c = λ clean it shows sound.
+    let h = holding_of (state g.S.Store c.args.conn.now).now c.args.known.now in
+    let fits : SFits w64 c.args.known.now.version = search rules in
+    let fits_stamp : SFits w64 c.stamp_after-stamp.result = search rules in
+    let fits_version : SFits w64 c.version_after-version.result = search rules in
+    let is_kept : c.deref.result.now ≡ keep c.args.changes.now = c.deref.ensures.value ∙ c.in_ok-kept.ensures in
+    let stamp : ℤ = to_z w64 (of_z w64 c.stamp_after-stamp.result) in
+    let plan : IsPlan h.cells (keep c.args.changes.now) stamp c.in_ok-plan.plan =
+    subst (λ cs. IsPlan h.cells cs stamp c.in_ok-plan.plan) is_kept (c.in_ok-plan.ensures.planned clean it (meta_rows h.site h.version) (table_rows 1 h.tables) (map mark_row h.marks) h.cells shows (sorted_cells h sound)) in
+    decided h c.args.changes.now _ sound
+    (λ within. to_z-of_z fits_stamp ∙ c.stamp_after-stamp.ensures (ap (λ v. int_eq v greatest_version) (to_z-of_z fits) ∙ within) ∙ ap (λ v. v +ℤ pos 1) (to_z-of_z fits))
+    plan
+    (c.has_news-is_changed.ensures ∙ ap (λ ns. not (is_none ns)) c.deref-2.ensures.value)
+    (ap (λ v. c.has_news-is_changed.result && int_eq v greatest_version) (sym (to_z-of_z fits)) ∙ sym c.is_past_limit.ensures ∙ c.if-is_past_limit.false)
+    (to_z-of_z fits_version ∙ c.version_after-version.ensures ∙ ap (cond c.has_news-is_changed.result stamp) (to_z-of_z fits))

@@ -1,0 +1,55 @@
+use Rattle.std.proofs.Common.{◌≡◌, ◌+◌, rules, IsTrue, map, take, [], ◌∷◌, ◌++◌, ◌∙◌, ap, sym, not, subst, SFits, w64, to_z, of_z, to_z-of_z}
+use Rattle.std.proofs.lemmas.List.{take_more, take_all}
+use Rattle.sqlite.specs.Held.{state}
+use Rattle.cr_cells.specs.Holding.{cells_of}
+use Rattle.cr_store.specs.Plan.{IsPlan}
+use Rattle.cr_store.specs.Rows.{cell_row}
+use Rattle.cr_store.specs.Shows.{Holds}
+use Rattle.cr_store.proofs.planning.plan.Goals as goal
+
+pub returns-in_err-row-clause-planned : goal.returns-in_err-row-clause-planned
+returns-in_err-row-clause-planned g c = λ clean it a b d ss held sorted.
+    let early = c.cells_of.ensures.clean clean in
+    let was_open = c.cells_of.ensures.was_open clean it in
+    let same = c.loop-change.invariant.same early held.schema was_open in
+    let held_now = subst (λ db. Holds db a b (map cell_row ss) d) (sym same) held in
+    let refused = c.in_err-row.ensures.found clean a b d ss held_now sorted in
+    search rules
+
+pub loop-change-preserved : goal.loop-change-preserved
+loop-change-preserved g c =
+    let mid = state g.S.Store c.loop-change.conn in
+    let new = state g.S.Store c.cells_of.new.conn in
+    let was = c.loop-change.invariant in
+    let read = c.cells_of.ensures in
+    let changes = c.args.changes.now in
+    let i = c.loop-change.change-index in
+    let x = c.change-item.result in
+    let settled = λ (is_open : IsTrue mid.is_open). c.is_autocommit.ensures.settled (c.is_autocommit.ensures.value ∙ ap not was.mode) is_open in
+    record {
+      mode = read.mode was.mode;
+      clean = λ clean. was.clean (read.clean clean);
+      was_open = λ clean it. was.was_open (read.clean clean) (read.was_open clean it);
+      same = λ clean schema it.
+          let early = read.clean clean in
+          let was_open = read.was_open clean it in
+          let before = was.same early schema was_open in
+          read.same clean (ap (λ db. db.schema) before ∙ schema) (settled was_open) it ∙ before;
+      planned = λ clean it a b d ss held sorted.
+          let early = read.clean clean in
+          let was_open = read.was_open clean it in
+          let before = was.same early held.schema was_open in
+          let held_now = subst (λ db. Holds db a b (map cell_row ss) d) (sym before) held in
+          let cut : take i changes ++ x ∷ [] ≡ take (i + 1) changes = ap (λ y. take i changes ++ y ∷ []) c.change-item.is ∙ sym (take_more changes i x c.loop-change-test.true) in
+          let row = c.in_ok-row.ensures.found clean a b d ss held_now sorted in
+          let plan = was.planned early was_open a b d ss held sorted in
+          let same_row : c.deref.result.now ≡ cells_of ss x.table x.pk =
+          c.deref.ensures.value ∙ row ∙ ap (λ t. cells_of ss t c.as_slice.result.now) c.as_str.ensures.value ∙ ap (cells_of ss x.table) c.as_slice.ensures in
+          subst (λ cs. IsPlan ss cs (to_z w64 (of_z w64 c.args.version)) c.take.new.plan) cut (c.in_ok-take.ensures ss (take i changes) same_row plan);
+    }
+
+pub returns-clause-planned : goal.returns-clause-planned
+returns-clause-planned g c = λ clean it a b d ss held sorted.
+    let fits : SFits w64 c.args.version = c.ranges.version in
+    subst (λ v. IsPlan ss c.args.changes.now v c.loop-change.plan) (to_z-of_z fits)
+    (subst (λ cs. IsPlan ss cs (to_z w64 (of_z w64 c.args.version)) c.loop-change.plan) (take_all c.loop-change.change-index c.args.changes.now c.loop-change-test.false) (c.loop-change.invariant.planned clean it a b d ss held sorted))

@@ -1,0 +1,25 @@
+use Rattle.std.proofs.Common.{filter, map, sym, subst}
+use Rattle.sqlite.specs.Held.{state}
+use Rattle.sqlite.specs.Listing.{understood}
+use Rattle.sqlite.proofs.Callers.{IsPlain}
+use Rattle.cr_lattice.specs.Rows.{is_of_row}
+use Rattle.cr_rows.specs.Rows.{SameRows}
+use Rattle.cr_store.specs.Rows.{cell_row}
+use Rattle.cr_store.proofs.TextLemmas.{select_row, row_plain}
+use Rattle.cr_store.proofs.ReadLemmas.{shows_row, same_cells}
+use Rattle.cr_store.proofs.StoreLemmas.{if_then}
+use Rattle.cr_store.proofs.reads.cells_of_row.Goals as goal
+
+pub returns-in_err-rows-clause-same : goal.returns-in_err-rows-clause-same
+returns-in_err-rows-clause-same g c clean has settled it = c.ask.ensures.same clean (subst (λ s. IsPlain (understood s select_row)) (sym has) row_plain) settled it
+
+pub returns-clause-same : goal.returns-clause-same
+returns-clause-same g c clean has settled it = c.ask.ensures.same clean (subst (λ s. IsPlain (understood s select_row)) (sym has) row_plain) settled it
+
+pub returns-clause-found : goal.returns-clause-found
+returns-clause-found g c clean a b d ss it =
+    let old = state g.S.Store c.args.conn.now in
+    let new = state g.S.Store c.ask.new.conn in
+    let shown = rw c.as_bytes.ensures.value at (c.in_ok-rows.ensures.found clean) in
+    let found : SameRows (map cell_row (filter (λ s. is_of_row c.args.table.now c.args.pk.now s.change) ss)) c.deref.result.now = rw c.deref.ensures.value (shows_row old new a b d ss c.args.table.now c.args.pk.now _ it shown) in
+    if_then c.read_cells.result _ _ (λ cells is. same_cells (filter (λ s. is_of_row c.args.table.now c.args.pk.now s.change) ss) c.deref.result.now cells.items found is) c.read_cells.ensures

@@ -1,0 +1,42 @@
+use Rattle.std.proofs.Common.{◌≡◌, sym, subst}
+use Rattle.sqlite.specs.Held.{state}
+use Rattle.cr_cells.specs.Holding.{IsSound}
+use Rattle.cr_cells.specs.Tables.{with_replicated}
+use Rattle.cr_cells.proofs.SoundLemmas.{sound_with_replicated}
+use Rattle.cr_store.specs.Shows.{Shows}
+use Rattle.cr_store.specs.Kept.{IsClean, holding_of}
+use Rattle.cr_store.proofs.StoreHolding.{tables_set}
+use Rattle.cr_store.proofs.store.Store.mark.Goals as goal
+
+pub invariant_of-self : goal.invariant_of-self
+invariant_of-self g c =
+    let old = state g.S.Store c.self.inside.conn in
+    let now = state g.S.Store c.replicate.new.conn in
+    let known = c.self.inside.known in
+    let tables : c.in_ok-tables.tables.items ≡ with_replicated c.args.name.now known.tables.items = rw c.deref.ensures.value at c.in_ok-tables.ensures in
+    record {
+      auto = c.replicate.ensures.auto;
+      shows = λ clean.
+          let early : IsClean g.S.Store c.self.inside.conn = record { clean = c.replicate.ensures.clean clean.clean; is_open = c.replicate.ensures.was_open clean.clean clean.is_open } in
+          let shown = c.in-Ok.ensures.set clean.clean _ _ _ known.tables.items (c.self.invariant.shows early) in
+          subst (Shows now.now) (sym (tables_set old.now now.now known c.in_ok-tables.tables (with_replicated c.args.name.now known.tables.items) tables shown)) shown;
+      sound = λ clean.
+          let early : IsClean g.S.Store c.self.inside.conn = record { clean = c.replicate.ensures.clean clean.clean; is_open = c.replicate.ensures.was_open clean.clean clean.is_open } in
+          let shown = c.in-Ok.ensures.set clean.clean _ _ _ known.tables.items (c.self.invariant.shows early) in
+          let markable = rw (← c.self.view_is) at c.requires in
+          subst IsSound (sym (tables_set old.now now.now known c.in_ok-tables.tables (with_replicated c.args.name.now known.tables.items) tables shown))
+          (sound_with_replicated (holding_of old.now known) c.args.name.now (c.self.invariant.sound early) (markable early));
+    }
+
+pub returns-in-Ok-clause-sound : goal.returns-in-Ok-clause-sound
+returns-in-Ok-clause-sound g c clean = (invariant_of-self g c).sound clean
+
+pub returns-in-Ok-clause-defines : goal.returns-in-Ok-clause-defines
+returns-in-Ok-clause-defines g c clean =
+    let old = state g.S.Store c.self.inside.conn in
+    let now = state g.S.Store c.replicate.new.conn in
+    let known = c.self.inside.known in
+    let tables : c.in_ok-tables.tables.items ≡ with_replicated c.args.name.now known.tables.items = rw c.deref.ensures.value at c.in_ok-tables.ensures in
+    let early : IsClean g.S.Store c.self.inside.conn = record { clean = c.replicate.ensures.clean clean.clean; is_open = c.replicate.ensures.was_open clean.clean clean.is_open } in
+    let shown = c.in-Ok.ensures.set clean.clean _ _ _ known.tables.items (c.self.invariant.shows early) in
+    rw (← c.self.view_is) (tables_set old.now now.now known c.in_ok-tables.tables (with_replicated c.args.name.now known.tables.items) tables shown)

@@ -1,0 +1,17 @@
+use Rattle.std.proofs.Common.{not, ap, ◌∙◌}
+use Rattle.sqlite.specs.Held.{state}
+use Rattle.cr_store.specs.Kept.{IsClean, holding_of}
+use Rattle.cr_store.proofs.StoreHolding.{cells_sorted}
+use Rattle.cr_store.proofs.store.Store.read_row.Goals as goal
+
+pub returns-clause-reads : goal.returns-clause-reads
+returns-clause-reads g c clean =
+    let old = state g.S.Store c.self.inside.conn in
+    let early : IsClean g.S.Store c.self.inside.conn = record { clean = c.cells_of.ensures.clean clean.clean; is_open = c.cells_of.ensures.was_open clean.clean clean.is_open } in
+    let shown = c.self.invariant.shows early in
+    let settled = c.is_autocommit.ensures.settled (c.is_autocommit.ensures.value ∙ ap not c.self.invariant.auto) early.is_open in
+    let same = c.cells_of.ensures.same clean.clean shown.schema settled clean.is_open in
+    rw (← c.self.view_is) (record {
+      same = ap (λ db. holding_of db c.self.inside.known) same;
+      answers = c.cells_of.ensures.found clean.clean _ _ _ _ shown (cells_sorted (old.now.trees 4));
+    })

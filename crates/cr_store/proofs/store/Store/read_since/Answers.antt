@@ -1,0 +1,15 @@
+use Rattle.std.proofs.Common.{not, ap, ◌∙◌, w64}
+use Rattle.std.proofs.lemmas.Int.{to_z-of_z}
+use Rattle.cr_store.specs.Kept.{IsClean, holding_of}
+use Rattle.cr_store.proofs.store.Store.read_since.Goals as goal
+
+pub returns-clause-reads : goal.returns-clause-reads
+returns-clause-reads g c clean =
+    let early : IsClean g.S.Store c.self.inside.conn = record { clean = c.since.ensures.clean clean.clean; is_open = c.since.ensures.was_open clean.clean clean.is_open } in
+    let shown = c.self.invariant.shows early in
+    let settled = c.is_autocommit.ensures.settled (c.is_autocommit.ensures.value ∙ ap not c.self.invariant.auto) early.is_open in
+    let same = c.since.ensures.same clean.clean shown.schema settled clean.is_open in
+    rw (← c.self.view_is) (record {
+      same = ap (λ db. holding_of db c.self.inside.known) same;
+      answers = simp (to_z-of_z w64 c.args.version c.ranges.version) at (c.since.ensures.found clean.clean _ _ _ _ shown);
+    })

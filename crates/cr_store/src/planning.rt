@@ -1,0 +1,148 @@
+//! What a commit is to write, from the cells that it touches.
+
+ghost use Rattle.std.specs.Prelude.{◌≡◌, pos, length, [], ◌∷◌, ◌++◌, List, false, not, ◌&&◌, filter, map, IsTrue, IfOk, OnOk, MatchResult};
+ghost use Rattle.std.specs.List.Sorted.{IsStrictlySortedBy};
+ghost use Rattle.sqlite.specs.Held.{state};
+ghost use Rattle.sqlite.specs.Order.{Row};
+ghost use Rattle.sqlite.specs.State.{HasCleanDisk};
+ghost use Rattle.std.specs.List.{list_any};
+ghost use Rattle.std.specs.Ordering.{eq_by_cmp};
+ghost use Rattle.cr_lattice.specs.Change.{change_cmp, beats};
+ghost use Rattle.cr_lattice.specs.declared.change.Change.{Change};
+ghost use Rattle.cr_lattice.specs.declared.stamped.Stamped.{Stamped};
+ghost use Rattle.cr_cells.specs.Calls.{IsRefusal};
+ghost use Rattle.cr_cells.specs.Holding.{changes_of, cell_cmp, cells_of};
+ghost use Rattle.cr_store.specs.Rows.{cell_row};
+ghost use Rattle.cr_store.specs.Schema.{store_schema};
+ghost use Rattle.cr_store.specs.Shows.{Holds};
+ghost use Rattle.cr_store.specs.Plan.{is_there, removes, IsPlan};
+ghost use Rattle.cr_store.specs.Words.{same_key};
+
+use crate::plan::{New, Plan};
+use crate::reads::cells_of;
+use cr_cells::store::CellsError;
+use cr_lattice::change::Change;
+use cr_lattice::order::beats;
+use cr_lattice::stamped::Stamped;
+use cr_value::order::same_bytes;
+use sqlite::{Alter, Connection};
+use std::alloc::{AllocError, Global};
+
+fn same_key(a: &Change, b: &Change) -> bool
+    ensures { result ≡ same_key a.now b.now }
+{
+    same_bytes(a.table.as_str().as_bytes(), b.table.as_str().as_bytes())
+        && same_bytes(a.pk.as_slice(), b.pk.as_slice())
+        && same_bytes(a.cid.as_str().as_bytes(), b.cid.as_str().as_bytes())
+}
+
+fn is_kept(row: &[Stamped], change: &Change) -> bool
+    ensures { result ≡ list_any (λ s. eq_by_cmp change_cmp change.now s.change) row.now }
+{
+    row.iter().any(|cell| *change == cell.change)
+}
+
+fn is_beaten(row: &[Stamped], change: &Change) -> bool
+    ensures { result ≡ list_any (λ s. beats s.change change.now) row.now }
+{
+    row.iter().any(|cell| beats(&cell.change, change))
+}
+
+fn comes_in(row: &[Stamped], change: &Change) -> bool
+    ensures { result ≡ (not (list_any (λ s. eq_by_cmp change_cmp change.now s.change) row.now) && not (list_any (λ s. beats s.change change.now) row.now)) }
+{
+    !is_kept(row, change) && !is_beaten(row, change)
+}
+
+fn is_there(row: &[Stamped], change: &Change) -> bool
+    ensures { result ≡ is_there row.now change.now }
+{
+    row.iter().any(|cell| same_key(&cell.change, change))
+}
+
+fn removes(change: &Change, other: &Change) -> bool
+    ensures { result ≡ removes change.now other.now }
+{
+    beats(change, other) && !same_key(other, change)
+}
+
+fn push_removed(
+    alloc: Global,
+    gone: &mut Vec<Change>,
+    row: &[Stamped],
+    change: &Change,
+) -> Result<(), AllocError>
+    ensures { OnOk result (gone.new.items ≡ gone.old.items ++ filter (removes change.now) (changes_of row.now)) }
+{
+    for cell in row {
+        if removes(change, &cell.change) {
+            gone.push(cell.change.copy(alloc)?)?;
+        }
+    }
+    Ok(())
+}
+
+// The places of a commit's cells are counted from 0.
+fn next_place(news: &[New]) -> i64
+    ensures { result ≡ pos (length news.now) }
+{
+    news.len() as i64
+}
+
+// Takes a change over the cells of its row.
+fn take(
+    alloc: Global,
+    plan: &mut Plan,
+    row: &[Stamped],
+    change: &Change,
+    version: i64,
+) -> Result<(), AllocError>
+    ensures { (ss : List Stamped) → (cs : List Change) → row.now ≡ cells_of ss change.now.table change.now.pk → IsPlan ss cs version plan.old
+        → OnOk result (IsPlan ss (cs ++ change.now ∷ []) version plan.new) }
+{
+    if !comes_in(row, change) {
+        return Ok(());
+    }
+    push_removed(alloc, &mut plan.gone, row, change)?;
+    let seq = next_place(&plan.news);
+    let change = change.copy(alloc)?;
+    let is_there = is_there(row, &change);
+    let cell = Stamped {
+        change,
+        version,
+        seq,
+    };
+    plan.news.push(New { cell, is_there })?;
+    Ok(())
+}
+
+/// What is to be written where changes are taken, of which none beats another. Reads the cells of their rows and no others.
+///
+/// # Errors
+/// `Memory`, or `Store(Refused)`.
+pub(crate) fn plan<S: Alter>(
+    alloc: Global,
+    conn: &mut Connection<S>,
+    changes: &[Change],
+    version: i64,
+) -> Result<Plan, CellsError>
+    requires mode { conn.old.in_transaction ≡ false }
+    ensures planned { HasCleanDisk (state S.Store conn.new) → IsTrue (state S.Store conn.new).is_open → (a b d : List Row) → (ss : List Stamped) → Holds (state S.Store conn.old).now a b (map cell_row ss) d → IsStrictlySortedBy cell_cmp ss
+        → MatchResult result (IsPlan ss changes.now version) IsRefusal }
+    ensures same { HasCleanDisk (state S.Store conn.new) → (state S.Store conn.old).now.schema ≡ store_schema
+        → IsTrue (state S.Store conn.new).is_open → (state S.Store conn.new).now ≡ (state S.Store conn.old).now }
+    ensures was_open { HasCleanDisk (state S.Store conn.new) → IsTrue (state S.Store conn.new).is_open → IsTrue (state S.Store conn.old).is_open }
+    ensures mode { conn.new.in_transaction ≡ false }
+    ensures clean { HasCleanDisk (state S.Store conn.new) → HasCleanDisk (state S.Store conn.old) }
+{
+    let mut plan = Plan {
+        news: Vec::new(alloc),
+        gone: Vec::new(alloc),
+    };
+    for change in changes {
+        let _ = conn.is_autocommit();
+        let row = cells_of(conn, change.table.as_str(), change.pk.as_slice(), alloc)?;
+        take(alloc, &mut plan, &row, change, version)?;
+    }
+    Ok(plan)
+}

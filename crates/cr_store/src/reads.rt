@@ -1,0 +1,148 @@
+//! The cells that are read.
+
+ghost use Rattle.std.specs.Prelude.{◌≡◌, List, false, filter, map, int_lt, IfOk, IsTrue, MatchResult};
+ghost use Rattle.sqlite.specs.Held.{state};
+ghost use Rattle.sqlite.specs.Order.{Row};
+ghost use Rattle.sqlite.specs.State.{HasCleanDisk};
+ghost use Rattle.cr_lattice.specs.Rows.{is_of_row};
+ghost use Rattle.std.specs.List.Sorted.{IsStrictlySortedBy};
+ghost use Rattle.cr_lattice.specs.Sets.{set_of};
+ghost use Rattle.cr_lattice.specs.declared.stamped.Stamped.{Stamped};
+ghost use Rattle.cr_cells.specs.Holding.{cell_cmp, stamp_cmp, since, cells_of};
+ghost use Rattle.cr_cells.specs.Calls.{IsRefusal};
+ghost use Rattle.cr_store.specs.Rows.{cell_row};
+ghost use Rattle.cr_store.specs.Schema.{store_schema};
+ghost use Rattle.cr_store.specs.Shows.{Holds};
+ghost use Rattle.cr_store.specs.Words.{SameCells};
+
+use crate::rows::{read_cells, refusal};
+use cr_cells::store::CellsError;
+use cr_lattice::order::cmp_changes;
+use cr_lattice::stamped::Stamped;
+use cr_rows::ask;
+use sqlite::types::ValueRef;
+use sqlite::{Alter, Connection, Error};
+use std::alloc::{AllocError, Global};
+use std::cmp::Ordering;
+
+const SINCE: &str = "SELECT tbl, pk, cid, cl, ver, val, site, dbv, seq FROM cr_cell WHERE dbv > ?1";
+
+const ROW: &str =
+    "SELECT tbl, pk, cid, cl, ver, val, site, dbv, seq FROM cr_cell WHERE tbl = ?1 AND pk = ?2";
+
+/// The cells that are stamped above a version, in the order of sqlite's rows.
+pub(crate) fn cells_above<S: Alter>(
+    conn: &mut Connection<S>,
+    version: i64,
+    alloc: Global,
+) -> Result<Vec<Stamped>, Error>
+    ensures found { HasCleanDisk (state S.Store conn.new) → (a b d : List Row) → (ss : List Stamped) → Holds (state S.Store conn.old).now a b (map cell_row ss) d
+        → IfOk result (λ cells. SameCells (filter (λ s. int_lt version s.version) ss) cells.items) }
+    ensures same { HasCleanDisk (state S.Store conn.new) → (state S.Store conn.old).now.schema ≡ store_schema → (state S.Store conn.old).now ≡ (state S.Store conn.old).committed
+        → IsTrue (state S.Store conn.new).is_open → (state S.Store conn.new).now ≡ (state S.Store conn.old).now }
+    ensures was_open { HasCleanDisk (state S.Store conn.new) → IsTrue (state S.Store conn.new).is_open → IsTrue (state S.Store conn.old).is_open }
+    ensures mode { conn.old.in_transaction ≡ false → conn.new.in_transaction ≡ false }
+    ensures clean { HasCleanDisk (state S.Store conn.new) → HasCleanDisk (state S.Store conn.old) }
+{
+    let rows = ask(conn, SINCE, &[ValueRef::Int(version)])?;
+    read_cells(&rows, alloc)
+}
+
+/// The cells of one row, in the order of sqlite's rows.
+pub(crate) fn cells_of_row<'a, S: Alter>(
+    conn: &mut Connection<S>,
+    table: &'a str,
+    pk: &'a [u8],
+    alloc: Global,
+) -> Result<Vec<Stamped>, Error>
+    ensures found { HasCleanDisk (state S.Store conn.new) → (a b d : List Row) → (ss : List Stamped) → Holds (state S.Store conn.old).now a b (map cell_row ss) d
+        → IfOk result (λ cells. SameCells (filter (λ s. is_of_row table.now pk.now s.change) ss) cells.items) }
+    ensures same { HasCleanDisk (state S.Store conn.new) → (state S.Store conn.old).now.schema ≡ store_schema → (state S.Store conn.old).now ≡ (state S.Store conn.old).committed
+        → IsTrue (state S.Store conn.new).is_open → (state S.Store conn.new).now ≡ (state S.Store conn.old).now }
+    ensures was_open { HasCleanDisk (state S.Store conn.new) → IsTrue (state S.Store conn.new).is_open → IsTrue (state S.Store conn.old).is_open }
+    ensures mode { conn.old.in_transaction ≡ false → conn.new.in_transaction ≡ false }
+    ensures clean { HasCleanDisk (state S.Store conn.new) → HasCleanDisk (state S.Store conn.old) }
+{
+    let rows = ask(
+        conn,
+        ROW,
+        &[ValueRef::Text(table.as_bytes()), ValueRef::Blob(pk)],
+    )?;
+    read_cells(&rows, alloc)
+}
+
+fn cmp_stamps(a: &Stamped, b: &Stamped) -> Ordering
+    ensures { result ≡ stamp_cmp a.now b.now }
+{
+    a.version
+        .cmp(&b.version)
+        .then(a.seq.cmp(&b.seq))
+        .then(cmp_changes(&a.change, &b.change))
+}
+
+fn cmp_cells(a: &Stamped, b: &Stamped) -> Ordering
+    ensures { result ≡ cell_cmp a.now b.now }
+{
+    cmp_changes(&a.change, &b.change)
+        .then(a.version.cmp(&b.version))
+        .then(a.seq.cmp(&b.seq))
+}
+
+/// The cells by their stamps, each once.
+pub(crate) fn by_stamp(mut cells: Vec<Stamped>) -> Result<Vec<Stamped>, AllocError>
+    ensures { IfOk result (λ v. v.items ≡ set_of stamp_cmp cells.items) }
+{
+    cells.sort_by(|a, b| cmp_stamps(a, b))?;
+    cells.dedup_by(|a, b| cmp_stamps(a, b).is_eq());
+    Ok(cells)
+}
+
+/// The cells in the order of changes, each once.
+pub(crate) fn by_change(mut cells: Vec<Stamped>) -> Result<Vec<Stamped>, AllocError>
+    ensures { IfOk result (λ v. v.items ≡ set_of cell_cmp cells.items) }
+{
+    cells.sort_by(|a, b| cmp_cells(a, b))?;
+    cells.dedup_by(|a, b| cmp_cells(a, b).is_eq());
+    Ok(cells)
+}
+
+/// The cells that are stamped above a version, by their stamps.
+pub(crate) fn since<S: Alter>(
+    conn: &mut Connection<S>,
+    version: i64,
+    alloc: Global,
+) -> Result<Vec<Stamped>, CellsError>
+    ensures found { HasCleanDisk (state S.Store conn.new) → (a b d : List Row) → (ss : List Stamped) → Holds (state S.Store conn.old).now a b (map cell_row ss) d
+        → MatchResult result (λ cells. cells.items ≡ since ss version) IsRefusal }
+    ensures same { HasCleanDisk (state S.Store conn.new) → (state S.Store conn.old).now.schema ≡ store_schema → (state S.Store conn.old).now ≡ (state S.Store conn.old).committed
+        → IsTrue (state S.Store conn.new).is_open → (state S.Store conn.new).now ≡ (state S.Store conn.old).now }
+    ensures was_open { HasCleanDisk (state S.Store conn.new) → IsTrue (state S.Store conn.new).is_open → IsTrue (state S.Store conn.old).is_open }
+    ensures mode { conn.old.in_transaction ≡ false → conn.new.in_transaction ≡ false }
+    ensures clean { HasCleanDisk (state S.Store conn.new) → HasCleanDisk (state S.Store conn.old) }
+{
+    match cells_above(conn, version, alloc) {
+        Ok(cells) => Ok(by_stamp(cells)?),
+        Err(error) => Err(refusal(error)),
+    }
+}
+
+/// The cells of one row, in the order of changes.
+pub(crate) fn cells_of<'a, S: Alter>(
+    conn: &mut Connection<S>,
+    table: &'a str,
+    pk: &'a [u8],
+    alloc: Global,
+) -> Result<Vec<Stamped>, CellsError>
+    ensures found { HasCleanDisk (state S.Store conn.new) → (a b d : List Row) → (ss : List Stamped) → Holds (state S.Store conn.old).now a b (map cell_row ss) d → IsStrictlySortedBy cell_cmp ss
+        → MatchResult result (λ cells. cells.items ≡ cells_of ss table.now pk.now) IsRefusal }
+    ensures same { HasCleanDisk (state S.Store conn.new) → (state S.Store conn.old).now.schema ≡ store_schema → (state S.Store conn.old).now ≡ (state S.Store conn.old).committed
+        → IsTrue (state S.Store conn.new).is_open → (state S.Store conn.new).now ≡ (state S.Store conn.old).now }
+    ensures was_open { HasCleanDisk (state S.Store conn.new) → IsTrue (state S.Store conn.new).is_open → IsTrue (state S.Store conn.old).is_open }
+    ensures mode { conn.old.in_transaction ≡ false → conn.new.in_transaction ≡ false }
+    ensures clean { HasCleanDisk (state S.Store conn.new) → HasCleanDisk (state S.Store conn.old) }
+{
+    match cells_of_row(conn, table, pk, alloc) {
+        Ok(cells) => Ok(by_change(cells)?),
+        Err(error) => Err(refusal(error)),
+    }
+}

@@ -1,0 +1,146 @@
+//! The statements that write a store's version, tables and marks.
+
+ghost use Rattle.std.specs.Prelude.{◌≡◌, ℕ, ℤ, pos, [], ◌∷◌, List, true, map, OnOk};
+ghost use Rattle.sqlite.specs.Held.{state};
+ghost use Rattle.sqlite.specs.Order.{Row};
+ghost use Rattle.sqlite.specs.State.{HasCleanDisk, KeepsCommit, Survives};
+ghost use Rattle.sqlite.specs.Values.{bound_value};
+ghost use Rattle.sqlite.specs.declared.types.Value.TheVariants.{Text as SqlText, Int as SqlInt, Blob as SqlBlob};
+ghost use Rattle.sqlite_value.specs.Value.{owned};
+ghost use Rattle.cr_lattice.specs.declared.table.Table.{Table};
+ghost use Rattle.cr_cells.specs.Marks.{Mark};
+ghost use Rattle.cr_cells.specs.Tables.{with_replicated};
+ghost use Rattle.cr_store.specs.Rows.{meta_rows, table_rows, one_if, mark_row};
+ghost use Rattle.cr_store.specs.Shows.{Holds};
+ghost use Rattle.cr_store.specs.Words.{set_mark};
+
+use cr_lattice::change::Site;
+use cr_rows::write;
+use sqlite::types::ValueRef;
+use sqlite::{Alter, Error, Transaction};
+
+const META: &str = "INSERT INTO cr_meta VALUES(?1, ?2)";
+
+const VERSION: &str = "UPDATE cr_meta SET val = ?2 WHERE name = ?1";
+
+const TABLE: &str = "INSERT INTO cr_schema VALUES(?1, ?2, ?3, ?4)";
+
+const CRR: &str = "UPDATE cr_schema SET crr = ?2 WHERE name = ?1";
+
+const MARK: &str = "INSERT INTO cr_peer VALUES(?1, ?2)";
+
+const SEEN: &str = "UPDATE cr_peer SET seen = ?2 WHERE site = ?1";
+
+/// Adds a row to `cr_meta`.
+pub(crate) fn insert_meta<S: Alter>(
+    tx: &mut Transaction<'_, S>,
+    name: &str,
+    value: ValueRef<'_>,
+) -> Result<(), Error>
+    ensures same_reference { tx.new.conn.ghost_name ≡ tx.old.conn.ghost_name }
+    ensures put { HasCleanDisk (state S.Store tx.new.conn.now) → (a b c d : List Row) → Holds (state S.Store tx.old.conn.now).now a b c d
+        → OnOk result (Holds (state S.Store tx.new.conn.now).now ((SqlText name.now ∷ bound_value (owned value.entry) ∷ []) ∷ a) b c d) }
+    ensures inside { HasCleanDisk (state S.Store tx.new.conn.now) → OnOk result (tx.new.conn.now.in_transaction ≡ tx.old.conn.now.in_transaction) }
+    ensures kept { HasCleanDisk (state S.Store tx.new.conn.now) → KeepsCommit (state S.Store tx.old.conn.now) (state S.Store tx.new.conn.now) }
+    ensures survives { Survives (state S.Store tx.old.conn.now) (state S.Store tx.new.conn.now) (λ _. ⊥) }
+{
+    write(tx, META, &[ValueRef::Text(name.as_bytes()), value])
+}
+
+/// Sets the version.
+pub(crate) fn set_version<S: Alter>(tx: &mut Transaction<'_, S>, version: i64) -> Result<(), Error>
+    ensures same_reference { tx.new.conn.ghost_name ≡ tx.old.conn.ghost_name }
+    ensures set { HasCleanDisk (state S.Store tx.new.conn.now) → (site : List ℕ) → (old : ℤ) → (b c d : List Row) → Holds (state S.Store tx.old.conn.now).now (meta_rows site old) b c d
+        → OnOk result (Holds (state S.Store tx.new.conn.now).now (meta_rows site version) b c d) }
+    ensures inside { HasCleanDisk (state S.Store tx.new.conn.now) → OnOk result (tx.new.conn.now.in_transaction ≡ tx.old.conn.now.in_transaction) }
+    ensures kept { HasCleanDisk (state S.Store tx.new.conn.now) → KeepsCommit (state S.Store tx.old.conn.now) (state S.Store tx.new.conn.now) }
+    ensures survives { Survives (state S.Store tx.old.conn.now) (state S.Store tx.new.conn.now) (λ _. ⊥) }
+{
+    write(
+        tx,
+        VERSION,
+        &[ValueRef::Text(b"db_version"), ValueRef::Int(version)],
+    )
+}
+
+/// What `crr` is of a table.
+pub(crate) fn crr_of(is_replicated: bool) -> i64
+    ensures { result ≡ one_if is_replicated }
+{
+    if is_replicated { 1 } else { 0 }
+}
+
+/// Adds a table, by its name, its place from 1, its `crr` and the bytes of its definition.
+pub(crate) fn insert_table<'a, S: Alter>(
+    tx: &mut Transaction<'_, S>,
+    name: &'a str,
+    ordinal: i64,
+    crr: i64,
+    definition: &'a [u8],
+) -> Result<(), Error>
+    ensures same_reference { tx.new.conn.ghost_name ≡ tx.old.conn.ghost_name }
+    ensures put { HasCleanDisk (state S.Store tx.new.conn.now) → (a b c d : List Row) → Holds (state S.Store tx.old.conn.now).now a b c d
+        → OnOk result (Holds (state S.Store tx.new.conn.now).now a ((SqlText name.now ∷ SqlInt ordinal ∷ SqlInt crr ∷ SqlBlob definition.now ∷ []) ∷ b) c d) }
+    ensures inside { HasCleanDisk (state S.Store tx.new.conn.now) → OnOk result (tx.new.conn.now.in_transaction ≡ tx.old.conn.now.in_transaction) }
+    ensures kept { HasCleanDisk (state S.Store tx.new.conn.now) → KeepsCommit (state S.Store tx.old.conn.now) (state S.Store tx.new.conn.now) }
+    ensures survives { Survives (state S.Store tx.old.conn.now) (state S.Store tx.new.conn.now) (λ _. ⊥) }
+{
+    write(
+        tx,
+        TABLE,
+        &[
+            ValueRef::Text(name.as_bytes()),
+            ValueRef::Int(ordinal),
+            ValueRef::Int(crr),
+            ValueRef::Blob(definition),
+        ],
+    )
+}
+
+/// Marks the table of that name as replicated.
+pub(crate) fn set_replicated<S: Alter>(tx: &mut Transaction<'_, S>, name: &str) -> Result<(), Error>
+    ensures same_reference { tx.new.conn.ghost_name ≡ tx.old.conn.ghost_name }
+    ensures set { HasCleanDisk (state S.Store tx.new.conn.now) → (a c d : List Row) → (tables : List Table) → Holds (state S.Store tx.old.conn.now).now a (table_rows 1 tables) c d
+        → OnOk result (Holds (state S.Store tx.new.conn.now).now a (table_rows 1 (with_replicated name.now tables)) c d) }
+    ensures inside { HasCleanDisk (state S.Store tx.new.conn.now) → OnOk result (tx.new.conn.now.in_transaction ≡ tx.old.conn.now.in_transaction) }
+    ensures kept { HasCleanDisk (state S.Store tx.new.conn.now) → KeepsCommit (state S.Store tx.old.conn.now) (state S.Store tx.new.conn.now) }
+    ensures survives { Survives (state S.Store tx.old.conn.now) (state S.Store tx.new.conn.now) (λ _. ⊥) }
+{
+    write(
+        tx,
+        CRR,
+        &[ValueRef::Text(name.as_bytes()), ValueRef::Int(1)],
+    )
+}
+
+/// Adds the mark of a site that has none.
+pub(crate) fn insert_mark<S: Alter>(
+    tx: &mut Transaction<'_, S>,
+    site: &Site,
+    version: i64,
+) -> Result<(), Error>
+    ensures same_reference { tx.new.conn.ghost_name ≡ tx.old.conn.ghost_name }
+    ensures put { HasCleanDisk (state S.Store tx.new.conn.now) → (a b c : List Row) → (marks : List Mark) → Holds (state S.Store tx.old.conn.now).now a b c (map mark_row marks)
+        → OnOk result (Holds (state S.Store tx.new.conn.now).now a b c (map mark_row ((site.now, version) ∷ marks))) }
+    ensures inside { HasCleanDisk (state S.Store tx.new.conn.now) → OnOk result (tx.new.conn.now.in_transaction ≡ tx.old.conn.now.in_transaction) }
+    ensures kept { HasCleanDisk (state S.Store tx.new.conn.now) → KeepsCommit (state S.Store tx.old.conn.now) (state S.Store tx.new.conn.now) }
+    ensures survives { Survives (state S.Store tx.old.conn.now) (state S.Store tx.new.conn.now) (λ _. ⊥) }
+{
+    write(tx, MARK, &[ValueRef::Blob(site), ValueRef::Int(version)])
+}
+
+/// Sets the mark of a site that has one.
+pub(crate) fn update_mark<S: Alter>(
+    tx: &mut Transaction<'_, S>,
+    site: &Site,
+    version: i64,
+) -> Result<(), Error>
+    ensures same_reference { tx.new.conn.ghost_name ≡ tx.old.conn.ghost_name }
+    ensures set { HasCleanDisk (state S.Store tx.new.conn.now) → (a b c : List Row) → (marks : List Mark) → Holds (state S.Store tx.old.conn.now).now a b c (map mark_row marks)
+        → OnOk result (Holds (state S.Store tx.new.conn.now).now a b c (map mark_row (set_mark (site.now, version) marks))) }
+    ensures inside { HasCleanDisk (state S.Store tx.new.conn.now) → OnOk result (tx.new.conn.now.in_transaction ≡ tx.old.conn.now.in_transaction) }
+    ensures kept { HasCleanDisk (state S.Store tx.new.conn.now) → KeepsCommit (state S.Store tx.old.conn.now) (state S.Store tx.new.conn.now) }
+    ensures survives { Survives (state S.Store tx.old.conn.now) (state S.Store tx.new.conn.now) (λ _. ⊥) }
+{
+    write(tx, SEEN, &[ValueRef::Blob(site), ValueRef::Int(version)])
+}

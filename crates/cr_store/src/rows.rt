@@ -1,0 +1,155 @@
+//! The rows of `cr_cell`: what is written and read.
+
+ghost use Rattle.std.specs.Prelude.{◌≡◌, [], ◌∷◌, ◌++◌, map, IfOk, OnOk};
+ghost use Rattle.sqlite.specs.declared.types.Value.TheVariants.{Null as SqlNull, Text as SqlText, Blob as SqlBlob, Int as SqlInt};
+ghost use Rattle.sqlite.specs.Values.{bound, bound_value};
+ghost use Rattle.sqlite_value.specs.Order.{column};
+ghost use Rattle.sqlite_value.specs.Value.{owned};
+ghost use Rattle.cr_cells.specs.Calls.{IsRefusal};
+ghost use Rattle.cr_store.specs.Rows.{value_of, cell_row, cell_of, value_in};
+
+use cr_cells::store::{CellsError, StoreFault};
+use cr_lattice::change::{Change, Site};
+use cr_lattice::stamped::Stamped;
+use cr_rows::{blob_at, int_at, text_at};
+use cr_value::text::{Bytes, Text};
+use cr_value::value::Value;
+use sqlite::types::ValueRef;
+use sqlite::{Error, ErrorCode, Row};
+use std::alloc::Global;
+
+/// The error of sqlite where memory runs out.
+pub(crate) const OUT_OF_MEMORY: Error = Error::SqliteFailure(ErrorCode::OutOfMemory);
+
+/// What an error of sqlite is to a caller: want of memory is `Memory`, whatever else sqlite refuses is `Refused`.
+pub(crate) fn refusal(error: Error) -> CellsError
+    ensures { IsRefusal result }
+{
+    match error {
+        Error::SqliteFailure(ErrorCode::OutOfMemory) => CellsError::Memory,
+        _ => CellsError::Store(StoreFault::Refused),
+    }
+}
+
+fn lend(value: &Value) -> ValueRef<'_>
+    ensures is { owned result ≡ value_of value.now }
+    ensures bound { bound_value (owned result) ≡ value_of value.now }
+{
+    match value {
+        Value::Null => ValueRef::Null,
+        Value::Int(n) => ValueRef::Int(*n),
+        Value::Text(text) => ValueRef::Text(text.as_str().as_bytes()),
+        Value::Blob(blob) => ValueRef::Blob(blob.as_slice()),
+    }
+}
+
+/// The parameters that give each column of a cell.
+pub(crate) fn columns(cell: &Stamped) -> [ValueRef<'_>; 9]
+    ensures { bound result ≡ cell_row cell.now }
+{
+    [
+        ValueRef::Text(cell.change.table.as_str().as_bytes()),
+        ValueRef::Blob(cell.change.pk.as_slice()),
+        ValueRef::Text(cell.change.cid.as_str().as_bytes()),
+        ValueRef::Int(cell.change.cl),
+        ValueRef::Int(cell.change.col_version),
+        lend(&cell.change.val),
+        ValueRef::Blob(&cell.change.site),
+        ValueRef::Int(cell.version),
+        ValueRef::Int(cell.seq),
+    ]
+}
+
+/// The parameters that name a cell of before a version.
+pub(crate) fn old_key(change: &Change, version: i64) -> [ValueRef<'_>; 4]
+    ensures { bound result ≡ SqlText change.now.table ∷ SqlBlob change.now.pk ∷ SqlText change.now.cid ∷ SqlInt version ∷ [] }
+{
+    [
+        ValueRef::Text(change.table.as_str().as_bytes()),
+        ValueRef::Blob(change.pk.as_slice()),
+        ValueRef::Text(change.cid.as_str().as_bytes()),
+        ValueRef::Int(version),
+    ]
+}
+
+fn read_value(value: ValueRef<'_>, alloc: Global) -> Result<Value, Error>
+    ensures { IfOk result (λ v. v ≡ value_in (owned value.entry)) }
+{
+    match value {
+        ValueRef::Null | ValueRef::Real(_) => Ok(Value::Null),
+        ValueRef::Int(n) => Ok(Value::Int(n)),
+        ValueRef::Text(text) => match std::str::from_utf8(text) {
+            Ok(text) => match Text::from_str(alloc, text) {
+                Ok(text) => Ok(Value::Text(text)),
+                Err(_) => Err(OUT_OF_MEMORY),
+            },
+            Err(_) => Err(Error::InvalidQuery),
+        },
+        ValueRef::Blob(blob) => match Bytes::from_slice(alloc, blob) {
+            Ok(blob) => Ok(Value::Blob(blob)),
+            Err(_) => Err(OUT_OF_MEMORY),
+        },
+    }
+}
+
+fn value_at(row: &Row, at: usize, alloc: Global) -> Result<Value, Error>
+    ensures { IfOk result (λ v. v ≡ value_in (column row.now at)) }
+{
+    read_value(row.get_ref(at)?, alloc)
+}
+
+fn site_at(row: &Row, at: usize) -> Result<Site, Error>
+    ensures { IfOk result (λ s. column row.now at ≡ SqlBlob s) }
+{
+    let bytes = blob_at(row, at)?;
+    if bytes.len() != 16 {
+        return Err(Error::InvalidQuery);
+    }
+    let mut site = [0; 16];
+    site.copy_from_slice(&bytes);
+    Ok(site)
+}
+
+/// The cell that a row of the nine columns of `cr_cell` shows.
+pub(crate) fn read_cell(row: &Row, alloc: Global) -> Result<Stamped, Error>
+    ensures { IfOk result (λ c. c ≡ cell_of (SqlNull ∷ row.now)) }
+{
+    let table = Text::new(text_at(row, 0)?);
+    let pk = Bytes::new(blob_at(row, 1)?);
+    let cid = Text::new(text_at(row, 2)?);
+    let cl = int_at(row, 3)?;
+    let col_version = int_at(row, 4)?;
+    let val = value_at(row, 5, alloc)?;
+    let site = site_at(row, 6)?;
+    let version = int_at(row, 7)?;
+    let seq = int_at(row, 8)?;
+    let change = Change {
+        table,
+        pk,
+        cid,
+        val,
+        col_version,
+        site,
+        cl,
+    };
+    Ok(Stamped {
+        change,
+        version,
+        seq,
+    })
+}
+
+/// The cells that rows of the nine columns of `cr_cell` show.
+pub(crate) fn read_cells(rows: &[Row], alloc: Global) -> Result<Vec<Stamped>, Error>
+    ensures { IfOk result (λ cells. cells.items ≡ map (λ row. cell_of (SqlNull ∷ row)) rows.now) }
+{
+    let mut cells = Vec::new(alloc);
+    for row in rows {
+        let cell = read_cell(row, alloc)?;
+        match cells.push(cell) {
+            Ok(()) => {}
+            Err(_) => return Err(OUT_OF_MEMORY),
+        }
+    }
+    Ok(cells)
+}

@@ -1,0 +1,315 @@
+//! The store.
+
+ghost use Rattle.std.specs.Prelude.{◌≡◌, ◌≤ℤ◌, ◌+◌, pos, length, true, false, [], IsTrue, IfOk, IfErr, OnErr, Err};
+ghost use Rattle.std.specs.List.{list_any};
+ghost use Rattle.std.specs.Option.{ForSome};
+ghost use Rattle.sqlite.specs.Held.{state};
+ghost use Rattle.sqlite.specs.State.{HasCleanDisk};
+ghost use Rattle.cr_rows.specs.Schema.{no_schema};
+ghost use Rattle.cr_cells.specs.Calls.{IsRefusal, Reads, Defines, Commits};
+ghost use Rattle.cr_cells.specs.Holding.{empty_holding, IsSound, since, cells_of};
+ghost use Rattle.cr_cells.specs.Tables.{AreWellFormed, IsNewTable, has_defaults, with_table, with_replicated, is_markable};
+ghost use Rattle.cr_store.specs.Words.{is_ours};
+
+use crate::committing::commit;
+use crate::definition::definition;
+use crate::known::Known;
+use crate::reads::{cells_of, since};
+use crate::records::crr_of;
+use crate::rows::refusal;
+use crate::tables::{add_table, make, replicate};
+use cr_cells::marks::{Mark, seen_of};
+use cr_cells::store::{Cells, CellsError, StoreFault};
+use cr_cells::tables::{add, copies, with_replicated};
+use cr_lattice::change::{Change, Site};
+use cr_lattice::stamped::Stamped;
+use cr_lattice::table::{Table, TableDef};
+use sqlite::{Alter, Connection, MemStore};
+use sqlite_schema::names::same_name;
+use sqlite_schema::schema::Schema;
+use std::alloc::Global;
+use std::marker::Model;
+
+/// A store of cells in four tables of sqlite: `cr_meta`, `cr_schema`, `cr_cell` and `cr_peer`.
+pub struct Store<S: Alter> {
+    conn: Connection<S>,
+    known: Known,
+}
+
+impl<S: Alter> Model for Store<S> {
+    ghost use Rattle.std.specs.Coded.{coded×};
+    ghost use Rattle.sqlite.specs.Held.{Held, held_code};
+    ghost use Rattle.cr_store.specs.declared.known.Known.{Known};
+    ghost use Rattle.cr_store.specs.contracts.known.Known.{the_row};
+    ghost use Rattle.cr_store.specs.Kept.{IsKeptIn};
+
+    ghost Value = { Held S × Known };
+
+    ghost coded = { coded× (held_code S.code) the_row.coded };
+
+    ghost view = { λ s. (s.conn, s.known) };
+
+    ghost invariant = { λ s. IsKeptIn S.Store s.conn s.known };
+}
+
+// Written out, so that a caller does not prove again how each part is dropped.
+impl<S: Alter + Drop> Drop for Store<S> {
+    fn drop(self) {
+        let Store { conn: _, known: _ } = self;
+    }
+}
+
+// Tables are counted from 1.
+fn next_ordinal(tables: &[Table]) -> i64
+    ensures { result ≡ pos (1 + length tables.now) }
+{
+    tables.len() as i64 + 1
+}
+
+fn is_ours(name: &[u8]) -> bool
+    ensures { result ≡ is_ours name.now }
+{
+    same_name(name, b"cr_meta")
+        || same_name(name, b"cr_schema")
+        || same_name(name, b"cr_cell")
+        || same_name(name, b"cr_peer")
+}
+
+fn has_ours(schema: &Schema) -> bool
+    ensures { result ≡ list_any (λ t. is_ours t.name) schema.now.tables }
+{
+    schema
+        .tables
+        .as_slice()
+        .iter()
+        .any(|table| is_ours(table.name.as_slice()))
+}
+
+fn has_nothing(schema: &Schema) -> bool
+    ensures { result ≡ true → schema.now ≡ no_schema }
+{
+    schema.tables.as_slice().is_empty()
+        && schema.indexes.as_slice().is_empty()
+        && schema.views.as_slice().is_empty()
+}
+
+impl<S: Alter> Store<S> {
+    ghost use Rattle.cr_store.specs.Kept.{IsClean, holding_of};
+
+    /// A store that holds nothing, in a connection whose database has nothing.
+    ///
+    /// # Errors
+    /// With the connection, whose database is as it was: `Store(Taken)` where it has a table of a store; `Store(Refused)`
+    /// where a transaction is open, where the database has anything else, or where sqlite refuses the tables; `Memory`.
+    pub fn create(
+        alloc: Global,
+        mut conn: Connection<S>,
+        site: Site,
+    ) -> Result<Store<S>, (CellsError, Connection<S>)>
+        ensures made { IfOk result (λ it. IsClean S.Store it.0 → holding_of (state S.Store it.0).now it.1 ≡ empty_holding site) }
+        ensures taken { list_any (λ t. is_ours t.name) (state S.Store conn).now.schema.tables ≡ true → IfOk result (λ it. ⊥) }
+        ensures same { IfErr result (λ e. IsClean S.Store e.1 → (state S.Store e.1).now ≡ (state S.Store conn).now) }
+        ensures mode { IfErr result (λ e. e.1.in_transaction ≡ conn.in_transaction) }
+        ensures why { list_any (λ t. is_ours t.name) (state S.Store conn).now.schema.tables ≡ false → IfErr result (λ e. IsRefusal e.0) }
+    {
+        if !conn.is_autocommit() {
+            return Err((CellsError::Store(StoreFault::Refused), conn));
+        }
+        let schema = conn.schema();
+        if has_ours(schema) {
+            return Err((CellsError::Store(StoreFault::Taken), conn));
+        }
+        if !has_nothing(schema) {
+            return Err((CellsError::Store(StoreFault::Refused), conn));
+        }
+        match make(&mut conn, &site) {
+            Ok(()) => {}
+            Err(error) => return Err((refusal(error), conn)),
+        }
+        let known = Known {
+            site,
+            version: 0,
+            tables: Vec::new(alloc),
+            marks: Vec::new(alloc),
+        };
+        Ok(Store { conn, known })
+    }
+
+    /// The connection of a store, which goes on as it stands.
+    pub fn into_connection(self) -> Connection<S>
+        ensures { result ≡ self.0 }
+    {
+        let Store { conn, known: _ } = self;
+        conn
+    }
+
+    fn add(&mut self, alloc: Global, def: &TableDef, is_replicated: bool) -> Result<(), CellsError>
+        requires is_new { IsClean S.Store self.old.0 → IsNewTable (holding_of (state S.Store self.old.0).now self.old.1).tables def.now }
+        requires defaults { is_replicated ≡ true → has_defaults def.now ≡ true }
+        ensures was_clean { IsClean S.Store self.new.0 → IsClean S.Store self.old.0 }
+        ensures sound { IsClean S.Store self.new.0 → IsSound (holding_of (state S.Store self.new.0).now self.new.1) }
+        ensures defines { IsClean S.Store self.new.0 → Defines (holding_of (state S.Store self.old.0).now self.old.1) (holding_of (state S.Store self.new.0).now self.new.1) result
+            (record (holding_of (state S.Store self.old.0).now self.old.1) { tables = with_table (holding_of (state S.Store self.old.0).now self.old.1).tables def.now is_replicated }) }
+    {
+        let _ = self.conn.is_autocommit();
+        let bytes = definition(alloc, def)?;
+        let mut tables = copies(alloc, &self.known.tables)?;
+        let ordinal = next_ordinal(&tables);
+        add(alloc, &mut tables, def, is_replicated)?;
+        match add_table(
+            &mut self.conn,
+            def.name.as_str(),
+            ordinal,
+            crr_of(is_replicated),
+            &bytes,
+        ) {
+            Ok(()) => {
+                self.known.tables = tables;
+                Ok(())
+            }
+            Err(error) => Err(refusal(error)),
+        }
+    }
+
+    fn mark(&mut self, alloc: Global, name: &str) -> Result<(), CellsError>
+        requires { IsClean S.Store self.old.0 → is_markable name.now (holding_of (state S.Store self.old.0).now self.old.1).tables ≡ true }
+        ensures was_clean { IsClean S.Store self.new.0 → IsClean S.Store self.old.0 }
+        ensures sound { IsClean S.Store self.new.0 → IsSound (holding_of (state S.Store self.new.0).now self.new.1) }
+        ensures defines { IsClean S.Store self.new.0 → Defines (holding_of (state S.Store self.old.0).now self.old.1) (holding_of (state S.Store self.new.0).now self.new.1) result
+            (record (holding_of (state S.Store self.old.0).now self.old.1) { tables = with_replicated name.now (holding_of (state S.Store self.old.0).now self.old.1).tables }) }
+    {
+        let _ = self.conn.is_autocommit();
+        let tables = with_replicated(alloc, &self.known.tables, name)?;
+        match replicate(&mut self.conn, name) {
+            Ok(()) => {
+                self.known.tables = tables;
+                Ok(())
+            }
+            Err(error) => Err(refusal(error)),
+        }
+    }
+
+    fn read_since(&mut self, alloc: Global, version: i64) -> Result<Vec<Stamped>, CellsError>
+        ensures was_clean { IsClean S.Store self.new.0 → IsClean S.Store self.old.0 }
+        ensures sound { IsClean S.Store self.new.0 → IsSound (holding_of (state S.Store self.new.0).now self.new.1) }
+        ensures reads { IsClean S.Store self.new.0 → Reads (holding_of (state S.Store self.old.0).now self.old.1) (holding_of (state S.Store self.new.0).now self.new.1) result
+            (λ cells. cells.items ≡ since (holding_of (state S.Store self.old.0).now self.old.1).cells version) }
+    {
+        let _ = self.conn.is_autocommit();
+        since(&mut self.conn, version, alloc)
+    }
+
+    fn read_row<'a>(
+        &mut self,
+        alloc: Global,
+        table: &'a str,
+        pk: &'a [u8],
+    ) -> Result<Vec<Stamped>, CellsError>
+        ensures was_clean { IsClean S.Store self.new.0 → IsClean S.Store self.old.0 }
+        ensures sound { IsClean S.Store self.new.0 → IsSound (holding_of (state S.Store self.new.0).now self.new.1) }
+        ensures reads { IsClean S.Store self.new.0 → Reads (holding_of (state S.Store self.old.0).now self.old.1) (holding_of (state S.Store self.new.0).now self.new.1) result
+            (λ cells. cells.items ≡ cells_of (holding_of (state S.Store self.old.0).now self.old.1).cells table.now pk.now) }
+    {
+        let _ = self.conn.is_autocommit();
+        cells_of(&mut self.conn, table, pk, alloc)
+    }
+
+    fn take(
+        &mut self,
+        alloc: Global,
+        changes: &[Change],
+        peer: Option<Mark>,
+    ) -> Result<bool, CellsError>
+        requires well_formed { IsClean S.Store self.old.0 → AreWellFormed (holding_of (state S.Store self.old.0).now self.old.1).tables changes.now }
+        requires from_0 { ForSome peer (λ mark. pos 0 ≤ℤ mark.1) }
+        ensures was_clean { IsClean S.Store self.new.0 → IsClean S.Store self.old.0 }
+        ensures sound { IsClean S.Store self.new.0 → IsSound (holding_of (state S.Store self.new.0).now self.new.1) }
+        ensures commits { IsClean S.Store self.new.0 → Commits (holding_of (state S.Store self.old.0).now self.old.1) (holding_of (state S.Store self.new.0).now self.new.1) changes.now peer result }
+    {
+        match commit(alloc, &mut self.conn, &self.known, changes, peer) {
+            Ok(outcome) => {
+                self.known.version = outcome.version;
+                self.known.marks = outcome.marks;
+                Ok(outcome.is_changed)
+            }
+            Err(error) => Err(error),
+        }
+    }
+}
+
+impl<S: Alter + Drop> Cells for Store<S> {
+    ghost use Rattle.cr_store.specs.Kept.{IsClean, holding_of};
+
+    ghost holding = { λ v. holding_of (state S.Store v.0).now v.1 };
+
+    ghost is_clean = { λ v. IsClean S.Store v.0 };
+
+    fn tables(&mut self, alloc: Global) -> Result<Vec<Table>, CellsError> {
+        Ok(copies(alloc, &self.known.tables)?)
+    }
+
+    fn add_table(&mut self, alloc: Global, def: &TableDef) -> Result<(), CellsError> {
+        self.add(alloc, def, false)
+    }
+
+    fn mark_crr(&mut self, alloc: Global, name: &str) -> Result<(), CellsError> {
+        self.mark(alloc, name)
+    }
+
+    fn add_replicated(&mut self, alloc: Global, def: &TableDef) -> Result<(), CellsError> {
+        self.add(alloc, def, true)
+    }
+
+    fn since(&mut self, alloc: Global, version: i64) -> Result<Vec<Stamped>, CellsError> {
+        self.read_since(alloc, version)
+    }
+
+    fn cells_of(
+        &mut self,
+        alloc: Global,
+        table: &str,
+        pk: &[u8],
+    ) -> Result<Vec<Stamped>, CellsError> {
+        self.read_row(alloc, table, pk)
+    }
+
+    fn commit(
+        &mut self,
+        alloc: Global,
+        changes: &[Change],
+        peer: Option<(Site, i64)>,
+    ) -> Result<bool, CellsError> {
+        self.take(alloc, changes, peer)
+    }
+
+    fn seen(&mut self, _alloc: Global, site: Site) -> Result<i64, CellsError> {
+        Ok(seen_of(&self.known.marks, &site))
+    }
+
+    fn db_version(&self) -> i64 {
+        self.known.version
+    }
+
+    fn site(&self) -> Site {
+        self.known.site
+    }
+}
+
+impl Store<MemStore> {
+    ghost use Rattle.cr_store.specs.Kept.{IsClean, holding_of};
+    ghost use Rattle.sqlite.specs.Steps.{over_memory};
+
+    /// A store of a site in memory, which holds nothing.
+    ///
+    /// # Errors
+    /// `Memory`, or `Store(Refused)`.
+    pub fn in_memory(alloc: Global, site: Site) -> Result<Store<MemStore>, CellsError>
+        ensures { IfOk result (λ it. IsClean over_memory it.0 → holding_of (state over_memory it.0).now it.1 ≡ empty_holding site) }
+    {
+        let conn = Connection::open_in_memory(alloc)?;
+        match Store::create(alloc, conn, site) {
+            Ok(store) => Ok(store),
+            Err(refused) => Err(refused.0),
+        }
+    }
+}

@@ -1,0 +1,11 @@
+pub mod Knot
+pub mod Forms
+pub mod Repeats
+pub mod Tracks
+pub mod Phrases
+pub mod Lists
+pub mod Operands
+pub mod Tails
+pub mod Climb
+pub mod Levels
+pub mod Judged

@@ -1,0 +1,5 @@
+pub mod Marks
+pub mod Grammar
+pub mod Reading
+pub mod Language
+pub mod Judging
