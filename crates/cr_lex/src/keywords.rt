@@ -65,8 +65,8 @@ const GRAMMAR_WORDS: [&str; 56] = [
     "WHERE",
 ];
 
-// The words of SQL that stand outside of the grammar, and EXISTS, which stands in it at one place alone.
-const OUTSIDE_WORDS: [&str; 29] = [
+/// The words of SQL that stand outside of the grammar, and EXISTS, which stands in it at one place alone.
+pub const OUTSIDE_WORDS: [&str; 29] = [
     "ALTER",
     "ATTACH",
     "AUTOINCREMENT",

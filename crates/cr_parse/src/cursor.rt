@@ -56,6 +56,16 @@ impl<'a> Cursor<'a> {
         }
     }
 
+    /// What is left after the next symbol, to look further ahead.
+    pub fn after_next(&self) -> Cursor<'a>
+        ensures { result ≡ spec.rest_of self.now }
+    {
+        match self.rest {
+            [] => Cursor { rest: &[] },
+            [_, rest @ ..] => Cursor { rest },
+        }
+    }
+
     pub fn sees(&self, mark: Mark) -> bool
         ensures { result ≡ spec.sees mark self.now }
     {

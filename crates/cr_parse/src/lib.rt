@@ -1,12 +1,12 @@
 //! Expressions from symbols.
 #![tactic(auto)]
 
-mod cursor;
+pub mod cursor;
 pub mod error;
 pub mod expression;
-mod fault;
+pub mod fault;
 mod grammar;
-mod level;
+pub mod level;
 mod operand;
 mod tail;
 #[cfg(test)]

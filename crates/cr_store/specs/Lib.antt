@@ -6,3 +6,4 @@ pub mod Kept
 pub mod Words
 pub mod Plan
 pub mod Committing
+pub mod Making

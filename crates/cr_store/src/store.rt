@@ -1,7 +1,6 @@
 //! The store.
 
-ghost use Rattle.std.specs.Prelude.{◌≡◌, ◌≤ℤ◌, ◌+◌, pos, length, true, false, [], IsTrue, IfOk, IfErr, OnErr, Err};
-ghost use Rattle.std.specs.List.{list_any};
+ghost use Rattle.std.specs.Prelude.{◌≡◌, ◌≢◌, None, ◌≤ℤ◌, ◌+◌, pos, length, true, false, [], IsTrue, IfOk, IfErr, OnErr, Err};
 ghost use Rattle.std.specs.Option.{ForSome};
 ghost use Rattle.sqlite.specs.Held.{state};
 ghost use Rattle.sqlite.specs.State.{HasCleanDisk};
@@ -9,6 +8,7 @@ ghost use Rattle.cr_rows.specs.Schema.{no_schema};
 ghost use Rattle.cr_cells.specs.Calls.{IsRefusal, Reads, Defines, Commits};
 ghost use Rattle.cr_cells.specs.Holding.{empty_holding, IsSound, since, cells_of};
 ghost use Rattle.cr_cells.specs.Tables.{AreWellFormed, IsNewTable, has_defaults, with_table, with_replicated, is_markable};
+ghost use Rattle.cr_store.specs.Making.{has_store, IsRefused};
 ghost use Rattle.cr_store.specs.Words.{is_ours};
 
 use crate::committing::commit;
@@ -76,7 +76,7 @@ fn is_ours(name: &[u8]) -> bool
 }
 
 fn has_ours(schema: &Schema) -> bool
-    ensures { result ≡ list_any (λ t. is_ours t.name) schema.now.tables }
+    ensures { result ≡ has_store schema.now }
 {
     schema
         .tables
@@ -86,7 +86,8 @@ fn has_ours(schema: &Schema) -> bool
 }
 
 fn has_nothing(schema: &Schema) -> bool
-    ensures { result ≡ true → schema.now ≡ no_schema }
+    ensures nothing { result ≡ true → schema.now ≡ no_schema }
+    ensures something { result ≡ false → schema.now ≢ no_schema }
 {
     schema.tables.as_slice().is_empty()
         && schema.indexes.as_slice().is_empty()
@@ -96,21 +97,26 @@ fn has_nothing(schema: &Schema) -> bool
 impl<S: Alter> Store<S> {
     ghost use Rattle.cr_store.specs.Kept.{IsClean, holding_of};
 
-    /// A store that holds nothing, in a connection whose database has nothing.
+    /// A store that holds nothing, in a connection whose database has nothing. A limit of steps is taken off.
     ///
     /// # Errors
-    /// With the connection, whose database is as it was: `Store(Taken)` where it has a table of a store; `Store(Refused)`
-    /// where a transaction is open, where the database has anything else, or where sqlite refuses the tables; `Memory`.
+    /// With the connection, whose database is as it was: `Store(Refused)` where a transaction is open; else `Store(Taken)`
+    /// where the database has a table of a store; else `Store(Refused)` where it has anything else. Over a database that
+    /// has nothing, `Store(Refused)` where sqlite refuses the tables, and `Memory`.
     pub fn create(
         alloc: Global,
         mut conn: Connection<S>,
         site: Site,
     ) -> Result<Store<S>, (CellsError, Connection<S>)>
         ensures made { IfOk result (λ it. IsClean S.Store it.0 → holding_of (state S.Store it.0).now it.1 ≡ empty_holding site) }
-        ensures taken { list_any (λ t. is_ours t.name) (state S.Store conn).now.schema.tables ≡ true → IfOk result (λ it. ⊥) }
+        ensures limit { IfOk result (λ it. it.0.step_limit ≡ None) }
+        ensures busy { (state S.Store conn).in_transaction ≡ true → IsRefused result StoreFault.Refused }
+        ensures taken { (state S.Store conn).in_transaction ≡ false → has_store (state S.Store conn).now.schema ≡ true → IsRefused result StoreFault.Taken }
+        ensures foreign { (state S.Store conn).in_transaction ≡ false → has_store (state S.Store conn).now.schema ≡ false → (state S.Store conn).now.schema ≢ no_schema
+            → IsRefused result StoreFault.Refused }
+        ensures why { (state S.Store conn).in_transaction ≡ false → (state S.Store conn).now.schema ≡ no_schema → IfErr result (λ e. IsRefusal e.0) }
         ensures same { IfErr result (λ e. IsClean S.Store e.1 → (state S.Store e.1).now ≡ (state S.Store conn).now) }
         ensures mode { IfErr result (λ e. e.1.in_transaction ≡ conn.in_transaction) }
-        ensures why { list_any (λ t. is_ours t.name) (state S.Store conn).now.schema.tables ≡ false → IfErr result (λ e. IsRefusal e.0) }
     {
         if !conn.is_autocommit() {
             return Err((CellsError::Store(StoreFault::Refused), conn));

@@ -1,6 +1,6 @@
 //! The transactions that change a store's tables.
 
-ghost use Rattle.std.specs.Prelude.{◌≡◌, [], ◌∷◌, List, false, IsTrue, OnOk, OnErr};
+ghost use Rattle.std.specs.Prelude.{◌≡◌, None, [], ◌∷◌, List, false, IsTrue, OnOk, OnErr};
 ghost use Rattle.sqlite.specs.Held.{state};
 ghost use Rattle.sqlite.specs.Order.{Row};
 ghost use Rattle.sqlite.specs.State.{HasCleanDisk, KeepsCommit, Survives};
@@ -32,8 +32,8 @@ fn insert_all_meta<S: Alter>(tx: &mut Transaction<'_, S>, site: &Site) -> Result
     insert_meta(tx, "format", ValueRef::Int(1))
 }
 
-/// Makes the tables of a store that holds nothing, in a database that has nothing.
-pub(crate) fn make<S: Alter>(conn: &mut Connection<S>, site: &Site) -> Result<(), Error>
+// The tables of a store that holds nothing, in one transaction.
+fn fill<S: Alter>(conn: &mut Connection<S>, site: &Site) -> Result<(), Error>
     requires auto { conn.old.in_transaction ≡ false }
     requires settled { IsTrue (state S.Store conn.old).is_open → (state S.Store conn.old).now ≡ (state S.Store conn.old).committed }
     ensures made { HasCleanDisk (state S.Store conn.new) → (state S.Store conn.old).now.schema ≡ no_schema
@@ -47,6 +47,24 @@ pub(crate) fn make<S: Alter>(conn: &mut Connection<S>, site: &Site) -> Result<()
     make_tables(&mut tx)?;
     insert_all_meta(&mut tx, site)?;
     tx.commit()?;
+    Ok(())
+}
+
+/// Makes the tables of a store that holds nothing, in a database that has nothing. A limit of steps, which
+/// could stop a later call halfway, is taken off.
+pub(crate) fn make<S: Alter>(conn: &mut Connection<S>, site: &Site) -> Result<(), Error>
+    requires auto { conn.old.in_transaction ≡ false }
+    requires settled { IsTrue (state S.Store conn.old).is_open → (state S.Store conn.old).now ≡ (state S.Store conn.old).committed }
+    ensures made { HasCleanDisk (state S.Store conn.new) → (state S.Store conn.old).now.schema ≡ no_schema
+        → OnOk result (Shows (state S.Store conn.new).now (empty_holding site.now)) }
+    ensures same { HasCleanDisk (state S.Store conn.new) → IsTrue (state S.Store conn.new).is_open → OnErr result ((state S.Store conn.new).now ≡ (state S.Store conn.old).now) }
+    ensures limit { OnOk result (conn.new.step_limit ≡ None) }
+    ensures auto { conn.new.in_transaction ≡ false }
+    ensures clean { HasCleanDisk (state S.Store conn.new) → HasCleanDisk (state S.Store conn.old) }
+    ensures was_open { HasCleanDisk (state S.Store conn.new) → IsTrue (state S.Store conn.new).is_open → IsTrue (state S.Store conn.old).is_open }
+{
+    fill(conn, site)?;
+    conn.set_step_limit(None);
     Ok(())
 }
 

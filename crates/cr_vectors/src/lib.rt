@@ -20,6 +20,8 @@ mod session;
 #[cfg(test)]
 mod shell;
 #[cfg(test)]
+mod store;
+#[cfg(test)]
 mod told;
 #[cfg(test)]
 mod values;

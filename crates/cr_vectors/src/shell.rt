@@ -5,7 +5,7 @@ use cr_session::fleet::Fleet;
 use cr_shell::serving::{End, ServeFault, serve};
 use cr_shell::watched::Watched;
 use std::alloc::{AllocError, Global};
-use std::io::Write;
+use std::io::{self, Read, Write};
 use std::test::Fail;
 
 /// A value that comes before its row's own change, the row, the value again; then a second replica that pulls.
@@ -22,14 +22,26 @@ const TAKEN_AND_PULLED: &str = "\
 .rows p
 ";
 
-/// Keys that are no packed key of the table's, peers that there are not, and a line that is no command.
-const REFUSED: &str = "\
+/// Keys that are no packed key of the table's: a byte more, no integer, no value, a text.
+const BAD_KEYS: &str = "\
 .open B 0b0b0b0b0b0b0b0b0b0b0b0b0b0b0b0b
+.table t *id:INT name:TEXT='none'
+.open A 0a0a0a0a0a0a0a0a0a0a0a0a0a0a0a0a
 .table t *id:INT name:TEXT='none'
 .take 't'|X'0101000000000000000100'|'-1'|NULL|1|0|X'0B0B0B0B0B0B0B0B0B0B0B0B0B0B0B0B'|1|0
 .take 't'|X'0100'|'-1'|NULL|1|0|X'0B0B0B0B0B0B0B0B0B0B0B0B0B0B0B0B'|1|0
+.take 't'|X'00'|'-1'|NULL|1|0|X'0B0B0B0B0B0B0B0B0B0B0B0B0B0B0B0B'|1|0
+.take 't'|X'01030000000131'|'-1'|NULL|1|0|X'0B0B0B0B0B0B0B0B0B0B0B0B0B0B0B0B'|1|0
+";
+
+/// A peer that there is not, the replica itself, a line that is no command; after the end nothing is read.
+const NO_PEERS: &str = "\
+.open B 0b0b0b0b0b0b0b0b0b0b0b0b0b0b0b0b
+.table t *id:INT name:TEXT='none'
+.open A 0a0a0a0a0a0a0a0a0a0a0a0a0a0a0a0a
+.table t *id:INT name:TEXT='none'
 .pull Z
-.pull B
+.pull A
 .frob
 .rows q
 .quit
@@ -38,18 +50,29 @@ const REFUSED: &str = "\
 
 const RUNS: &[(&str, End, &str)] = &[
     ("", End::Input, ""),
-    (TAKEN_AND_PULLED, End::Input, "1|'x'|7\n1|'x'|7\n1|'x'|7\n"),
+    (TAKEN_AND_PULLED, End::Input, ROWS),
     (
-        REFUSED,
+        BAD_KEYS,
+        End::Input,
+        "error 20 BadChange Key\nerror 20 BadChange Key\nerror 20 BadChange Key\nerror 20 BadChange Key\n",
+    ),
+    (
+        NO_PEERS,
         End::Quit,
-        "error 20 BadChange Key\nerror 20 BadChange Key\nerror 1 NoReplica\nerror 1 SameSite\nerror 1 Command\nerror 1 NoSuchTable 'q'\n",
+        "error 1 NoReplica\nerror 1 SameSite\nerror 1 Command\nerror 1 NoSuchTable 'q'\n",
     ),
     (".frob", End::Input, "error 1 Command\n"),
     ("  \r\n.quit\r\n.frob", End::Quit, ""),
 ];
 
-fn run<W: Write + Drop>(alloc: Global, input: &str, writer: W) -> Result<End, ServeFault> {
-    let mut reader = Watched::new(input.as_bytes());
+const ROWS: &str = "1|'x'|7\n1|'x'|7\n1|'x'|7\n";
+
+fn run<R: Read + Drop, W: Write + Drop>(
+    alloc: Global,
+    reader: R,
+    writer: W,
+) -> Result<End, ServeFault> {
+    let mut reader = Watched::new(reader);
     let mut writer = Watched::new(writer);
     let mut fleet = Fleet::<PlainCells>::new(alloc);
     serve(alloc, &mut reader, &mut writer, &mut fleet)
@@ -57,7 +80,7 @@ fn run<W: Write + Drop>(alloc: Global, input: &str, writer: W) -> Result<End, Se
 
 fn prints(alloc: Global, input: &str, end: End, wanted: &str) -> bool {
     let mut printed = Vec::new(alloc);
-    let ended = run(alloc, input, &mut printed);
+    let ended = run(alloc, input.as_bytes(), &mut printed);
     ended == Ok(end) && printed.as_slice() == wanted.as_bytes()
 }
 
@@ -69,17 +92,50 @@ fn lines_are_answered(rt: HostRuntime) {
 }
 
 // Whether a writer with room for so many bytes fails, and has a front of what is wanted.
-fn fails_with_room(alloc: Global, room: usize, wanted: &str) -> Result<bool, AllocError> {
+fn fails_with_room(alloc: Global, room: usize) -> Result<bool, AllocError> {
     let mut held = vec![in alloc; 0; room]?;
-    let ended = run(alloc, TAKEN_AND_PULLED, held.as_mut_slice());
-    Ok(ended == Err(ServeFault::Write) && wanted.as_bytes().starts_with(&held))
+    let ended = run(alloc, TAKEN_AND_PULLED.as_bytes(), held.as_mut_slice());
+    Ok(ended == Err(ServeFault::Write) && ROWS.as_bytes().starts_with(&held))
 }
 
 #[test]
 fn a_writer_that_fails_has_a_front(rt: HostRuntime) -> Result<(), Fail> {
-    let wanted = "1|'x'|7\n1|'x'|7\n1|'x'|7\n";
-    for room in 0..wanted.len() {
-        assert!(rt; fails_with_room(rt.alloc(), room, wanted)?);
+    for room in 0..ROWS.len() {
+        assert!(rt; fails_with_room(rt.alloc(), room)?);
     }
     Ok(())
+}
+
+// Gives the bytes one by one up to a place, and fails there.
+#[derive(Drop)]
+struct Failing<'a> {
+    bytes: &'a [u8],
+}
+
+impl Read for Failing<'_> {
+    fn read(&mut self, buf: &mut [u8]) -> io::Result<usize> {
+        match (self.bytes, buf.first_mut()) {
+            ([byte, rest @ ..], Some(place)) => {
+                *place = *byte;
+                self.bytes = rest;
+                Ok(1)
+            }
+            _ => Err(io::ErrorKind::Other.into()),
+        }
+    }
+}
+
+// Whether a reader that fails at a place is told, and a front of what is wanted is written.
+fn fails_at(alloc: Global, place: usize) -> bool {
+    let bytes = &TAKEN_AND_PULLED.as_bytes()[..place.min(TAKEN_AND_PULLED.len())];
+    let mut printed = Vec::new(alloc);
+    let ended = run(alloc, Failing { bytes }, &mut printed);
+    ended == Err(ServeFault::Read) && ROWS.as_bytes().starts_with(&printed)
+}
+
+#[test]
+fn a_reader_that_fails_is_told(rt: HostRuntime) {
+    for place in 0..=TAKEN_AND_PULLED.len() {
+        assert!(rt; fails_at(rt.alloc(), place));
+    }
 }

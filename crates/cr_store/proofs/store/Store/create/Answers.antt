@@ -9,7 +9,7 @@ use Rattle.cr_store.proofs.store.Store.create.Goals as goal
 
 pub invariant_of-result : goal.invariant_of-result
 invariant_of-result g c =
-    let none : c.args.conn.schema ≡ no_schema = sym c.schema-schema.ensures.value ∙ c.has_nothing.ensures c.if-not-has_nothing.false in
+    let none : c.args.conn.schema ≡ no_schema = sym c.schema-schema.ensures.value ∙ c.has_nothing.ensures.nothing c.if-not-has_nothing.false in
     let now = state g.S.Store c.make.new.conn in
     record {
       auto = c.make.ensures.auto;
@@ -23,6 +23,6 @@ invariant_of-result g c =
 
 pub returns-clause-made : goal.returns-clause-made
 returns-clause-made g c clean =
-    let none : c.args.conn.schema ≡ no_schema = sym c.schema-schema.ensures.value ∙ c.has_nothing.ensures c.if-not-has_nothing.false in
+    let none : c.args.conn.schema ≡ no_schema = sym c.schema-schema.ensures.value ∙ c.has_nothing.ensures.nothing c.if-not-has_nothing.false in
     let made = c.in-Ok.ensures.made clean.clean none in
     new_holding (state g.S.Store c.make.new.conn).now c.args.site c.new.result c.new-2.result c.new.ensures.items c.new-2.ensures.items made

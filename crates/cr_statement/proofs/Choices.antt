@@ -1,0 +1,28 @@
+-- Where no mark of a choice comes next, the last is read.
+use Rattle.std.proofs.Common.{◌≡◌, ℕ, false, List, [], ◌∷◌, refl, ◌∙◌}
+use Rattle.cr_tree.specs.declared.symbol.Mark.{Mark}
+use Rattle.cr_tree.specs.declared.symbol.Mark.TheVariants as m
+use Rattle.cr_tree.specs.declared.symbol.Symbol.{Symbol}
+use Rattle.cr_tree.specs.Marks.{is_mark}
+use Rattle.cr_tree.specs.Reading.{Parser, sees}
+use Rattle.cr_tree.proofs.Forms.{if_false}
+use Rattle.cr_statement.specs.declared.tree.Statement.TheVariants as t
+use Rattle.cr_statement.specs.Reading.{made, choose, insert, update, delete, begin, ended, transaction, command}
+
+choose_other : {A : Type 0} (x : Mark) (p q : Parser A) (ts : List Symbol) → sees x ts ≡ false → choose (is_mark x) p q ts ≡ q ts
+choose_other x p q [] h = refl
+choose_other x p q (t ∷ ts) h = if_false (is_mark x t) (p (t ∷ ts)) (q (t ∷ ts)) h
+
+pub transaction_last : (ts : List Symbol) → sees m.Begin ts ≡ false → sees m.Commit ts ≡ false → sees m.End ts ≡ false → transaction ts ≡ ended m.Rollback t.Rollback ts
+unfolding transaction
+transaction_last ts a b c =
+    choose_other m.Begin begin (choose (is_mark m.Commit) (ended m.Commit t.Commit) (choose (is_mark m.End) (ended m.End t.Commit) (ended m.Rollback t.Rollback))) ts a
+    ∙ (choose_other m.Commit (ended m.Commit t.Commit) (choose (is_mark m.End) (ended m.End t.Commit) (ended m.Rollback t.Rollback)) ts b
+    ∙ choose_other m.End (ended m.End t.Commit) (ended m.Rollback t.Rollback) ts c)
+
+pub command_last : (opens room : ℕ) (ts : List Symbol) → sees m.Insert ts ≡ false → sees m.Update ts ≡ false → sees m.Delete ts ≡ false → command opens room ts ≡ transaction ts
+unfolding command
+command_last opens room ts a b c =
+    choose_other m.Insert (made t.Insert (insert opens room)) (choose (is_mark m.Update) (made t.Update (update opens room)) (choose (is_mark m.Delete) (made t.Delete (delete opens room)) transaction)) ts a
+    ∙ (choose_other m.Update (made t.Update (update opens room)) (choose (is_mark m.Delete) (made t.Delete (delete opens room)) transaction) ts b
+    ∙ choose_other m.Delete (made t.Delete (delete opens room)) transaction ts c)

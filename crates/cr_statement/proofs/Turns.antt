@@ -1,0 +1,64 @@
+-- The loops over items, turn by turn.
+use Rattle.std.proofs.Common.{◌≡◌, ℕ, suc, Bool, true, false, if◌then◌else◌, List, [], ◌∷◌, length, Option, Some, None, Result, Ok, Err, refl, sym, ap, subst, ◌∙◌}
+use Rattle.cr_tree.specs.declared.symbol.Mark.TheVariants as m
+use Rattle.cr_tree.specs.declared.symbol.Symbol.{Symbol}
+use Rattle.cr_tree.specs.Marks.{is_mark}
+use Rattle.cr_tree.specs.Reading.{Outcome, Reads, Fails, Parser, and_then, pure, many, many_from, sees, behind, listed, rest_of}
+use Rattle.cr_parse.specs.declared.fault.Fault.{Fault}
+use Rattle.cr_parse.specs.declared.fault.Fault.TheVariants as f
+use Rattle.cr_parse.specs.Given.{Gives}
+use Rattle.cr_parse.proofs.Turns.{marks_turn, marks_stop, many_ends, behind_seen}
+use Rattle.cr_statement.specs.Reading.{commas, optional}
+
+abbrev pub more : {A : Type 0} → Parser A → ℕ → List A → Parser (List A)
+more p = many_from (is_mark m.Comma) (behind m.Comma p) listed
+
+pub commas_start : {A : Type 0} (p : Parser A) (n : ℕ) (x : A) (all : List A) (ts rest : List Symbol) → p ts ≡ Reads x rest → n ≡ length rest → all ≡ x ∷ [] → more p n all rest ≡ commas p ts
+unfolding commas many
+commas_start p n x all ts rest r i j = ap (λ n. more p n all rest) i ∙ (ap (λ z. more p (length rest) z rest) j ∙ sym (ap (λ o. and_then o (λ a ts. more p (length ts) (a ∷ []) ts)) r))
+
+pub commas_turn : {A : Type 0} (p : Parser A) (n n' : ℕ) (all : List A) (ts : List Symbol) → n ≡ suc n' → sees m.Comma ts ≡ true → more p n all ts ≡ and_then (p (rest_of ts)) (λ x. more p n' (listed all x))
+commas_turn p n n' all ts i s = marks_turn m.Comma (behind m.Comma p) listed n n' all ts i s ∙ ap (λ o. and_then o (λ x. more p n' (listed all x))) (behind_seen m.Comma p ts s)
+
+pub commas_stop : {A : Type 0} (p : Parser A) (n : ℕ) (all : List A) (ts : List Symbol) → sees m.Comma ts ≡ false → more p n all ts ≡ Reads all ts
+commas_stop p n all ts h = marks_stop m.Comma (behind m.Comma p) listed n all ts h
+
+pub commas_end : {A : Type 0} (p : Parser A) (n : ℕ) (all : List A) (ts : List Symbol) → n ≡ 0 → more p n all ts ≡ Reads all ts
+commas_end p n all ts h = many_ends (is_mark m.Comma) (behind m.Comma p) listed n all ts h
+
+-- ---- as many as there are, where an item that may be absent is asked for
+
+-- with one more, or at the end
+abbrev pub onward : {A : Type 0} → (Symbol → Bool) → Parser A → ℕ → List A → Option A → Parser (List A)
+onward b p n all None = pure all
+onward b p n all (Some x) = many_from b p listed n (listed all x)
+
+pub option_turn : {A : Type 0} (b : Symbol → Bool) (p : Parser A) (n n' : ℕ) (all : List A) (ts : List Symbol) → n ≡ suc n' → many_from b p listed n all ts ≡ and_then (optional b p ts) (onward b p n' all)
+unfolding many_from
+option_turn {A} b p n n' all ts i = ap (λ n. many_from b p listed n all ts) i ∙ at ts
+  where
+    some : (o : Outcome A) → and_then o (λ x. many_from b p listed n' (listed all x)) ≡ and_then (and_then {A = A} {B = Option A} o (λ a. pure (Some a))) (onward b p n' all)
+    some (Reads a rest) = refl
+    some (Fails c rest) = refl
+
+    by : (c : Bool) (ts : List Symbol) → (if c then and_then (p ts) (λ x. many_from b p listed n' (listed all x)) else Reads all ts) ≡ and_then (if c then and_then {A = A} {B = Option A} (p ts) (λ a. pure (Some a)) else Reads None ts) (onward b p n' all)
+    by true ts = some (p ts)
+    by false ts = refl
+
+    at : (ts : List Symbol) → many_from b p listed (suc n') all ts ≡ and_then (optional b p ts) (onward b p n' all)
+    at [] = refl
+    at (t ∷ ts) = by (b t) (t ∷ ts)
+
+-- ---- what a function that reads gives
+
+pub gives_read : {A : Type 0} (o : Outcome A) (x : A) (res : Result A Fault) (ts : List Symbol) → res ≡ Ok x → Gives (λ x. x) o res ts → o ≡ Reads x ts
+gives_read o x res ts e g = subst (λ r. Gives (λ x. x) o r ts) e g
+
+-- a refusal is handed on
+pub gives_refused : {A B : Type 0} (o : Outcome A) (k : A → Parser B) (x : Fault) (res : Result A Fault) (res' : Result B Fault) (ts : List Symbol) → res ≡ Err x → res' ≡ Err x → Gives (λ x. x) o res ts → Gives {X = B} (λ x. x) (and_then o k) res' ts
+gives_refused {A} {B} o k x res res' ts e e' g = subst (λ r. Gives {X = B} (λ x. x) (and_then o k) r ts) (sym e') (at x (subst (λ r. Gives (λ x. x) o r ts) e g))
+  where
+    at : (x : Fault) → Gives {X = A} (λ x. x) o (Err x) ts → Gives {X = B} (λ x. x) (and_then o k) (Err x) ts
+    at f.Memory g = tt
+    at f.Syntax g = ap (λ z. and_then z k) g
+    at f.Deep g = ap (λ z. and_then z k) g

@@ -1,0 +1,6 @@
+pub mod Languages
+pub mod Statements
+pub mod Reading
+pub mod Given
+pub mod Queries
+pub mod Whole

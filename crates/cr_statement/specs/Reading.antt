@@ -1,0 +1,108 @@
+-- Reading a statement once, from left to right, with one symbol ahead. This is how the code goes about it; what is
+-- promised of it is in Statements.
+use Rattle.std.specs.Prelude.{ℕ, Bool, List, [], ◌∷◌, Option, Some, None, is_some, if◌then◌else◌}
+use Rattle.cr_tree.specs.declared.symbol.Mark.{Mark}
+use Rattle.cr_tree.specs.declared.symbol.Mark.TheVariants as m
+use Rattle.cr_tree.specs.declared.symbol.Symbol.{Symbol}
+use Rattle.cr_tree.specs.declared.expr.Expr.{Expr}
+use Rattle.cr_tree.specs.Marks.{is_mark}
+use Rattle.cr_tree.specs.Reading.{Parser, Syntax, ◌>>=◌, pure, refuse, look, after, when, expect, eat, name, listed, behind, others, whole}
+use Rattle.cr_statement.specs.declared.tree.Insert.{Insert}
+use Rattle.cr_statement.specs.declared.tree.Assignment.{Assignment}
+use Rattle.cr_statement.specs.declared.tree.Update.{Update}
+use Rattle.cr_statement.specs.declared.tree.Delete.{Delete}
+use Rattle.cr_statement.specs.declared.tree.Mode.{Mode}
+use Rattle.cr_statement.specs.declared.tree.Statement.{Statement}
+use Rattle.cr_statement.specs.declared.tree.Statement.TheVariants as t
+use Rattle.cr_statement.specs.Statements as grammar
+
+-- ---- steps
+
+-- what this makes of what is read
+abbrev pub made : {A B : Type 0} → (A → B) → Parser A → Parser B
+made h p = p >>= (λ a. pure (h a))
+
+-- before a mark
+abbrev pub before : {A : Type 0} → Mark → Parser A → Parser A
+before x p = p >>= (λ a. expect x >>= (λ _. pure a))
+
+-- one after the other
+abbrev pub both : {A B : Type 0} → Parser A → Parser B → Parser (A × B)
+both p q = p >>= (λ a. q >>= (λ b. pure (a, b)))
+
+-- it if it begins so, or nothing
+abbrev pub optional : {A : Type 0} → (Symbol → Bool) → Parser A → Parser (Option A)
+optional b p = look (pure None) (λ t. when (b t) (made (λ a. Some a) p) (pure None))
+
+-- the one if it begins so, and else the other
+abbrev pub choose : {A : Type 0} → (Symbol → Bool) → Parser A → Parser A → Parser A
+choose b p q = look q (λ t. when (b t) p q)
+
+-- the one if this comes next, and else the other
+abbrev pub ahead : {A : Type 0} → (List Symbol → Bool) → Parser A → Parser A → Parser A
+ahead b p q = λ ts. if b ts then p ts else q ts
+
+-- one or more, with commas between
+unfoldable pub commas : {A : Type 0} → Parser A → Parser (List A)
+commas p = p >>= (λ a. others p listed (a ∷ []))
+
+abbrev pub told : {A : Type 0} → Option A → Parser A
+told None = refuse Syntax
+told (Some a) = after (pure a)
+
+-- a symbol with a meaning
+abbrev pub one_of : {A : Type 0} → (Symbol → Option A) → Parser A
+one_of means = look (refuse Syntax) (λ t. told (means t))
+
+-- ---- writes
+
+unfoldable pub filter : ℕ → ℕ → Parser (Option Expr)
+filter opens room = optional (is_mark m.Where) (behind m.Where (whole opens room))
+
+unfoldable pub names : Parser (List (List ℕ))
+names = behind m.Open (before m.Close (commas name))
+
+unfoldable pub columns : Parser (Option (List (List ℕ)))
+columns = optional (is_mark m.Open) names
+
+unfoldable pub row : ℕ → ℕ → Parser (List Expr)
+row opens room = behind m.Open (before m.Close (commas (whole opens room)))
+
+unfoldable pub insert : ℕ → ℕ → Parser Insert
+insert opens room = made (λ x. record { table = x.0; columns = x.1.0; rows = x.1.1 }) (both (behind m.Insert (behind m.Into name)) (both columns (behind m.Values (commas (row opens room)))))
+
+unfoldable pub assignment : ℕ → ℕ → Parser Assignment
+assignment opens room = made (λ x. record { column = x.0; value = x.1 }) (both name (behind m.Equal (whole opens room)))
+
+unfoldable pub update : ℕ → ℕ → Parser Update
+update opens room = made (λ x. record { table = x.0; assignments = x.1.0; filter = x.1.1 }) (both (behind m.Update name) (both (behind m.Set (commas (assignment opens room))) (filter opens room)))
+
+unfoldable pub delete : ℕ → ℕ → Parser Delete
+delete opens room = made (λ x. record { table = x.0; filter = x.1 }) (both (behind m.Delete (behind m.From name)) (filter opens room))
+
+-- ---- transactions
+
+unfoldable pub mode : Parser (Option Mode)
+mode = optional (λ t. is_some (grammar.mode_of t)) (one_of grammar.mode_of)
+
+unfoldable pub begin : Parser Statement
+begin = made (λ x. t.Begin x.0) (both (behind m.Begin mode) (eat m.Transaction))
+
+unfoldable pub ended : Mark → Statement → Parser Statement
+ended x s = made (λ _. s) (behind x (eat m.Transaction))
+
+unfoldable pub transaction : Parser Statement
+transaction =
+    choose (is_mark m.Begin) begin
+    (choose (is_mark m.Commit) (ended m.Commit t.Commit)
+    (choose (is_mark m.End) (ended m.End t.Commit)
+    (ended m.Rollback t.Rollback)))
+
+-- ---- what shows nothing
+
+unfoldable pub command : ℕ → ℕ → Parser Statement
+command opens room =
+    choose (is_mark m.Insert) (made t.Insert (insert opens room))
+    (choose (is_mark m.Update) (made t.Update (update opens room))
+    (choose (is_mark m.Delete) (made t.Delete (delete opens room))
+    transaction))

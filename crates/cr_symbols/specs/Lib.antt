@@ -1,0 +1,5 @@
+pub mod Marks
+pub mod Spelling
+pub mod Symbols
+pub mod Outside
+pub mod Laws

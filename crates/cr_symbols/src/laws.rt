@@ -1,0 +1,18 @@
+//! Laws of symbols. The contracts are the theorems; nothing runs.
+
+ghost use Rattle.cr_symbols.specs.Laws.{QuotesComeOff, KeywordsAreNoNames, OneEach};
+
+/// What was put in quotes comes out of them.
+pub fn quotes_come_off()
+    ensures { QuotesComeOff }
+{}
+
+/// A word that is a keyword is a mark or `Other`, and each other word is a name.
+pub fn keywords_are_no_names()
+    ensures { KeywordsAreNoNames }
+{}
+
+/// Each token has one symbol.
+pub fn each_token_has_one_symbol()
+    ensures { OneEach }
+{}
