@@ -8,6 +8,7 @@ pub mod fault;
 mod grammar;
 pub mod level;
 mod operand;
+pub mod sizes;
 mod tail;
 #[cfg(test)]
 mod tests;

@@ -9,6 +9,7 @@ ghost use Rattle.cr_parse.specs.Given.{Gives, Nests};
 use crate::cursor::Cursor;
 use crate::fault::Fault;
 use crate::grammar::{Grammar, leaf};
+use crate::sizes::sizes;
 use cr_tree::expr::{Expr, Unary, When};
 use cr_tree::symbol::{Mark, Symbol};
 use cr_value::text::Text;
@@ -38,47 +39,6 @@ fn is_count(name: &Text) -> bool
     ensures { result ≡ bytes_eq name.now grammar.count_name }
 {
     name.as_str() == "count"
-}
-
-#[tactic(auto, unfolding(cr_tree::specs::Reading::size))]
-fn size(tokens: &mut Cursor<'_>) -> Result<(), Fault>
-    ensures { Gives (λ _. tt) (spec.size tokens.old) result tokens.new }
-{
-    let is_size = match tokens.peek() {
-        Some(Symbol::Number(n)) => *n < 1 << 63,
-        Some(Symbol::Bits(_)) => true,
-        _ => false,
-    };
-    if !is_size {
-        return Err(Fault::Syntax);
-    }
-    tokens.take();
-    Ok(())
-}
-
-#[tactic(auto, unfolding(cr_tree::specs::Reading::second_size))]
-fn second_size(tokens: &mut Cursor<'_>) -> Result<(), Fault>
-    ensures { Gives (λ _. tt) (spec.second_size tokens.old) result tokens.new }
-{
-    if !tokens.sees(Mark::Comma) {
-        return Ok(());
-    }
-    tokens.expect(Mark::Comma)?;
-    size(tokens)
-}
-
-// The sizes of a type, which are dropped.
-#[tactic(auto, unfolding(cr_tree::specs::Reading::sizes))]
-fn sizes(tokens: &mut Cursor<'_>) -> Result<(), Fault>
-    ensures { Gives (λ _. tt) (spec.sizes tokens.old) result tokens.new }
-{
-    if !tokens.sees(Mark::Open) {
-        return Ok(());
-    }
-    tokens.expect(Mark::Open)?;
-    size(tokens)?;
-    second_size(tokens)?;
-    tokens.expect(Mark::Close)
 }
 
 /// The names of a type, as many as there are.

@@ -5,4 +5,6 @@ pub mod Choices
 pub mod Queries
 pub mod Shown
 pub mod Selects
+pub mod Columns
+pub mod Creates
 pub mod Whole

@@ -1,5 +1,5 @@
 -- How a parser of a language is put together of parsers of its parts.
-use Rattle.std.proofs.Common.{◌≡◌, ℕ, ◌+◌, ◌≤◌, Bool, true, false, if◌then◌else◌, List, [], ◌∷◌, ◌++◌, map, length, Option, Some, None, refl, sym, ◌∙◌, ap, subst, append_assoc, length-append, arith}
+use Rattle.std.proofs.Common.{◌≡◌, ℕ, zero, suc, ◌+◌, ◌≤◌, Bool, true, false, if◌then◌else◌, List, [], ◌∷◌, ◌++◌, map, length, Option, Some, None, refl, sym, ◌∙◌, ap, subst, append_assoc, length-append, arith}
 use Rattle.std.proofs.lemmas.List.{append-nil}
 use Rattle.cr_tree.specs.declared.symbol.Mark.{Mark}
 use Rattle.cr_tree.specs.declared.symbol.Mark.TheVariants as m
@@ -7,7 +7,7 @@ use Rattle.cr_tree.specs.declared.symbol.Symbol.{Symbol}
 use Rattle.cr_tree.specs.declared.symbol.Symbol.TheVariants as k
 use Rattle.cr_tree.specs.Marks.{is_mark}
 use Rattle.cr_tree.specs.Grammar.{spelled, tree}
-use Rattle.cr_tree.specs.Reading.{Reads, Fails, Syntax, Parser, and_then, ◌>>=◌, pure, head, look_by, after, when, expect, eat, name, many, listed, behind, others, expr, whole}
+use Rattle.cr_tree.specs.Reading.{Outcome, Reads, Fails, Syntax, Parser, and_then, ◌>>=◌, pure, head, look_by, after, when, expect, eat, name, many_from, many, listed, behind, others, expr, whole}
 use Rattle.cr_tree.specs.Language.{Language, IsWithin}
 use Rattle.cr_tree.specs.Language as language
 use Rattle.cr_tree.proofs.Forms.{Good, Right, good_as, by_test, if_true, if_false, mark_is, is_same, nothing_read, as_right, stop_right, map_right, mark_right, closed_right, then_right, pure_right, same_right}
@@ -20,7 +20,7 @@ use Rattle.cr_tree.proofs.Judged.{Masters, IsOver, expressions}
 use Rattle.cr_statement.specs.Languages.{◌◁◌, ◌▷◌, ◌⊗◌, ◌⟨$⟩◌, ◌∣◌, Either, One, Other, either_fits, by_either, option_fits, option_words, option_value, all_fit, all_words, maybe, maybe_mark, nothing}
 use Rattle.cr_statement.specs.Languages as languages
 use Rattle.cr_statement.specs.Queries.{regrouped}
-use Rattle.cr_statement.specs.Reading.{made, before, both, optional, choose, commas, told, one_of, ahead}
+use Rattle.cr_statement.specs.Reading.{made, before, both, optional, choose, by_option, found_from, found, commas, told, one_of, ahead}
 
 -- a parser of a language with as many open parentheses, and as high trees, where such symbols follow
 pub record MastersBefore {A : Type 0} (stop : List Symbol → Type 0) (L : Language A) (f : ℕ → ℕ → Parser A) : Type 0 where
@@ -254,16 +254,42 @@ module _ {A : Type 0} {s : List Symbol → Type 0} {L : Language A} {f : ℕ →
       link o r [] rest i st = st.1
       link o r (d ∷ ds) rest i st = comma ((L.words d ++ repeats.all_words (λ d. k.Mark m.Comma ∷ L.words d) ds) ++ rest)
 
+module _ {A : Type 0} (b : Symbol → Bool) (p : Parser A) where
+  found_many : (n : ℕ) (all : List A) (ts : List Symbol) → found_from (optional b p) n all ts ≡ many_from b p listed n all ts
+  unfolding found_from many_from
+  found_many zero all ts = refl
+  found_many (suc n) all [] = refl
+  found_many (suc n) all (t ∷ ts) = by (λ all ts. found_many n all ts) (b t)
+    where
+      next : Option A → Parser (List A)
+      next = by_option (pure all) (λ x. found_from (optional b p) n (listed all x))
+
+      some : ((all : List A) (ts : List Symbol) → found_from (optional b p) n all ts ≡ many_from b p listed n all ts) → (o : Outcome A) → and_then (and_then {A = A} {B = Option A} o (λ a. pure (Some a))) next ≡ and_then o (λ x. many_from b p listed n (listed all x))
+      some again (Reads a rest) = again (listed all a) rest
+      some again (Fails c rest) = refl
+
+      by : ((all : List A) (ts : List Symbol) → found_from (optional b p) n all ts ≡ many_from b p listed n all ts) → (c : Bool)
+          → and_then (if c then and_then {A = A} {B = Option A} (p (t ∷ ts)) (λ a. pure (Some a)) else Reads None (t ∷ ts)) next ≡ (if c then and_then (p (t ∷ ts)) (λ x. many_from b p listed n (listed all x)) else Reads all (t ∷ ts))
+      by again true = some again (p (t ∷ ts))
+      by again false = refl
+
+  found_optional : (ts : List Symbol) → found (optional b p) [] ts ≡ many b p listed [] ts
+  unfolding found many
+  found_optional ts = found_many (length ts) [] ts
+
 -- as many as there are, where an item takes the symbol that it begins with
 module _ {A : Type 0} {s : List Symbol → Type 0} {L : Language A} {f : ℕ → ℕ → Parser A} (b : Symbol → Bool) (starts : Begins b L) (links : (ts : List Symbol) → begins_next b ts ≡ true → s ts)
     (takes : (opens room : ℕ) (t : Symbol) (ts : List Symbol) → b t ≡ true → Within (length ts) (f opens room (t ∷ ts))) (p : MastersBefore s L f) where
-  pub many_of : MastersBefore (λ rest. (begins_next b rest ≡ false) × s rest) (languages.many L) (λ o r. many b (f o r) listed [])
-  many_of = record {
+  many_by : MastersBefore (λ rest. (begins_next b rest ≡ false) × s rest) (languages.many L) (λ o r. many b (f o r) listed [])
+  many_by = record {
     right = λ o r. as_right (λ d. d) (λ d. d) (all_to (L.fits o r)) (all_from (L.fits o r)) (all_spelled L.words) (λ d. sym (gathered L.value [] d)) (λ d. refl)
         (many_right b listed (p.right o r) (starts o r) links []);
     grows = λ o r o' r' d lo lr i. all_wider (L.fits o r) (L.fits o' r') (λ d j. p.grows o r o' r' d lo lr j) d i;
     regular = λ e v v' h o r o' r' lo so lr sr. many_regular e v v' h b listed (f o r) (f o' r') (p.regular e v v' h o r o' r' lo so lr sr) (takes o r) [];
   }
+
+  pub many_of : MastersBefore (λ rest. (begins_next b rest ≡ false) × s rest) (languages.many L) (λ o r. found (optional b (f o r)) [])
+  many_of = read_by many_by (λ o r ts. found_optional b (f o r) ts)
 
 -- what is left is no longer than what there was
 pub shrinks_of : {A : Type 0} {s : List Symbol → Type 0} {L : Language A} {f : ℕ → ℕ → Parser A} → MastersBefore s L f → (opens room : ℕ) (ts : List Symbol) → Within (length ts) (f opens room ts)

@@ -58,7 +58,7 @@ unfolding update
 update_of = made_of (and_then_by (behind_mark name_of m.Update) (and_then_by (behind_mark (commas_of stops_comma assignment_of) m.Set) filter_of (λ o r d rest i st. filter_last d rest st)) (λ o r d rest i st. tt))
     (λ x. record { table = x.0; assignments = x.1.0; filter = x.1.1 })
 
-names_of : MastersBefore Anything (m.Open ◁ grammar.names ▷ m.Close) (λ o r. names)
+pub names_of : MastersBefore Anything (m.Open ◁ grammar.names ▷ m.Close) (λ o r. names)
 unfolding names same_mark
 names_of = behind_mark (before_mark (commas_of (λ rest. tt) name_of) m.Close (λ rest. (refl, tt))) m.Open
 

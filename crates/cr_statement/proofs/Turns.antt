@@ -1,5 +1,5 @@
 -- The loops over items, turn by turn.
-use Rattle.std.proofs.Common.{◌≡◌, ℕ, suc, Bool, true, false, if◌then◌else◌, List, [], ◌∷◌, length, Option, Some, None, Result, Ok, Err, refl, sym, ap, subst, ◌∙◌}
+use Rattle.std.proofs.Common.{◌≡◌, ℕ, zero, suc, true, false, List, [], ◌∷◌, length, Option, Result, Ok, Err, refl, sym, ap, subst, ◌∙◌}
 use Rattle.cr_tree.specs.declared.symbol.Mark.TheVariants as m
 use Rattle.cr_tree.specs.declared.symbol.Symbol.{Symbol}
 use Rattle.cr_tree.specs.Marks.{is_mark}
@@ -8,7 +8,7 @@ use Rattle.cr_parse.specs.declared.fault.Fault.{Fault}
 use Rattle.cr_parse.specs.declared.fault.Fault.TheVariants as f
 use Rattle.cr_parse.specs.Given.{Gives}
 use Rattle.cr_parse.proofs.Turns.{marks_turn, marks_stop, many_ends, behind_seen}
-use Rattle.cr_statement.specs.Reading.{commas, optional}
+use Rattle.cr_statement.specs.Reading.{commas, by_option, found_from}
 
 abbrev pub more : {A : Type 0} → Parser A → ℕ → List A → Parser (List A)
 more p = many_from (is_mark m.Comma) (behind m.Comma p) listed
@@ -26,28 +26,21 @@ commas_stop p n all ts h = marks_stop m.Comma (behind m.Comma p) listed n all ts
 pub commas_end : {A : Type 0} (p : Parser A) (n : ℕ) (all : List A) (ts : List Symbol) → n ≡ 0 → more p n all ts ≡ Reads all ts
 commas_end p n all ts h = many_ends (is_mark m.Comma) (behind m.Comma p) listed n all ts h
 
--- ---- as many as there are, where an item that may be absent is asked for
+-- ---- as many as are found
 
--- with one more, or at the end
-abbrev pub onward : {A : Type 0} → (Symbol → Bool) → Parser A → ℕ → List A → Option A → Parser (List A)
-onward b p n all None = pure all
-onward b p n all (Some x) = many_from b p listed n (listed all x)
-
-pub option_turn : {A : Type 0} (b : Symbol → Bool) (p : Parser A) (n n' : ℕ) (all : List A) (ts : List Symbol) → n ≡ suc n' → many_from b p listed n all ts ≡ and_then (optional b p ts) (onward b p n' all)
-unfolding many_from
-option_turn {A} b p n n' all ts i = ap (λ n. many_from b p listed n all ts) i ∙ at ts
+pub found_turn : {A : Type 0} (p : Parser (Option A)) (n n' : ℕ) (all : List A) (ts : List Symbol) → n ≡ suc n' → found_from p n all ts ≡ and_then (p ts) (by_option (pure all) (λ x. found_from p n' (listed all x)))
+unfolding found_from
+found_turn {A} p n n' all ts i = ap (λ n. found_from p n all ts) i ∙ at
   where
-    some : (o : Outcome A) → and_then o (λ x. many_from b p listed n' (listed all x)) ≡ and_then (and_then {A = A} {B = Option A} o (λ a. pure (Some a))) (onward b p n' all)
-    some (Reads a rest) = refl
-    some (Fails c rest) = refl
+    at : found_from p (suc n') all ts ≡ and_then (p ts) (by_option (pure all) (λ x. found_from p n' (listed all x)))
+    at = refl
 
-    by : (c : Bool) (ts : List Symbol) → (if c then and_then (p ts) (λ x. many_from b p listed n' (listed all x)) else Reads all ts) ≡ and_then (if c then and_then {A = A} {B = Option A} (p ts) (λ a. pure (Some a)) else Reads None ts) (onward b p n' all)
-    by true ts = some (p ts)
-    by false ts = refl
-
-    at : (ts : List Symbol) → many_from b p listed (suc n') all ts ≡ and_then (optional b p ts) (onward b p n' all)
-    at [] = refl
-    at (t ∷ ts) = by (b t) (t ∷ ts)
+pub found_end : {A : Type 0} (p : Parser (Option A)) (n : ℕ) (all : List A) (ts : List Symbol) → n ≡ 0 → found_from p n all ts ≡ Reads all ts
+unfolding found_from
+found_end {A} p n all ts i = ap (λ n. found_from p n all ts) i ∙ at
+  where
+    at : found_from p zero all ts ≡ Reads all ts
+    at = refl
 
 -- ---- what a function that reads gives
 

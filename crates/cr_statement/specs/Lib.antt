@@ -3,4 +3,5 @@ pub mod Statements
 pub mod Reading
 pub mod Given
 pub mod Queries
+pub mod Creating
 pub mod Whole

@@ -6,7 +6,7 @@ use Rattle.cr_tree.specs.declared.symbol.Symbol.{Symbol}
 use Rattle.cr_tree.specs.declared.symbol.Symbol.TheVariants as k
 use Rattle.cr_tree.specs.declared.expr.Expr.{Expr}
 use Rattle.cr_tree.specs.Marks.{is_mark}
-use Rattle.cr_tree.specs.Reading.{Parser, pure, eat, name, is_name, sees, sees_name, rest_of, many, listed, behind, whole}
+use Rattle.cr_tree.specs.Reading.{Parser, pure, eat, name, is_name, sees, sees_name, rest_of, behind, whole}
 use Rattle.cr_statement.specs.declared.tree.Shown.{Shown}
 use Rattle.cr_statement.specs.declared.tree.Shown.TheVariants as s
 use Rattle.cr_statement.specs.declared.tree.Source.{Source}
@@ -17,7 +17,7 @@ use Rattle.cr_statement.specs.declared.tree.Tables.{Tables}
 use Rattle.cr_statement.specs.declared.tree.Term.{Term}
 use Rattle.cr_statement.specs.declared.tree.Limit.{Limit}
 use Rattle.cr_statement.specs.declared.tree.Select.{Select}
-use Rattle.cr_statement.specs.Reading.{made, before, both, optional, choose, ahead, commas, one_of, filter}
+use Rattle.cr_statement.specs.Reading.{made, before, both, optional, choose, ahead, found, commas, one_of, filter}
 use Rattle.cr_statement.specs.Statements as grammar
 
 abbrev pub begins_alias : Symbol → Bool
@@ -70,7 +70,7 @@ unfoldable pub join : ℕ → ℕ → Parser Join
 join opens room = choose (is_mark m.Comma) comma_join (choose (is_mark m.Left) (left_join opens room) (plain_join opens room))
 
 unfoldable pub tables : ℕ → ℕ → Parser Tables
-tables opens room = made (λ x. record { first = x.0; joins = x.1 }) (both source (many begins_join (join opens room) listed []))
+tables opens room = made (λ x. record { first = x.0; joins = x.1 }) (both source (found (optional begins_join (join opens room)) []))
 
 -- the one mark, or the other or nothing
 unfoldable pub flag : Mark → Mark → Parser Bool

@@ -1,6 +1,6 @@
 -- Reading a statement once, from left to right, with one symbol ahead. This is how the code goes about it; what is
 -- promised of it is in Statements.
-use Rattle.std.specs.Prelude.{ℕ, Bool, List, [], ◌∷◌, Option, Some, None, is_some, if◌then◌else◌}
+use Rattle.std.specs.Prelude.{ℕ, zero, suc, Bool, List, [], ◌∷◌, length, Option, Some, None, is_some, if◌then◌else◌}
 use Rattle.cr_tree.specs.declared.symbol.Mark.{Mark}
 use Rattle.cr_tree.specs.declared.symbol.Mark.TheVariants as m
 use Rattle.cr_tree.specs.declared.symbol.Symbol.{Symbol}
@@ -41,6 +41,18 @@ choose b p q = look q (λ t. when (b t) p q)
 -- the one if this comes next, and else the other
 abbrev pub ahead : {A : Type 0} → (List Symbol → Bool) → Parser A → Parser A → Parser A
 ahead b p q = λ ts. if b ts then p ts else q ts
+
+abbrev pub by_option : {A B : Type 0} → B → (A → B) → Option A → B
+by_option b f None = b
+by_option b f (Some a) = f a
+
+-- each that is found behind the last, added to what there is; the number bounds the turns
+unfoldable pub found_from : {A : Type 0} → Parser (Option A) → ℕ → List A → Parser (List A)
+found_from p zero all = pure all
+found_from p (suc n) all = p >>= by_option (pure all) (λ x. found_from p n (listed all x))
+
+unfoldable pub found : {A : Type 0} → Parser (Option A) → List A → Parser (List A)
+found p all = λ ts. found_from p (length ts) all ts
 
 -- one or more, with commas between
 unfoldable pub commas : {A : Type 0} → Parser A → Parser (List A)

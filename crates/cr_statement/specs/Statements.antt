@@ -1,5 +1,5 @@
 -- The grammar of statements. Source: "SQL As Understood By SQLite", the part of it that this project reads.
-use Rattle.std.specs.Prelude.{ℕ, ◌-◌, ◌^◌, ℤ, pos, neg_ℤ, negsuc, Bool, true, false, if◌then◌else◌, nat_lt, nat_le, int_le, List, Option, Some, None, is_some}
+use Rattle.std.specs.Prelude.{ℕ, ◌-◌, ◌^◌, ℤ, pos, neg_ℤ, negsuc, Bool, true, false, if◌then◌else◌, nat_lt, nat_le, int_le, List, Option, Some, None}
 use Rattle.cr_value.specs.declared.value.Value.{Value}
 use Rattle.cr_value.specs.declared.value.Value.TheVariants as v
 use Rattle.cr_tree.specs.declared.symbol.Mark.{Mark}
@@ -30,7 +30,7 @@ use Rattle.cr_statement.specs.declared.tree.Mode.TheVariants as o
 use Rattle.cr_statement.specs.declared.tree.Statement.{Statement}
 use Rattle.cr_statement.specs.declared.tree.Statement.TheVariants as t
 use Rattle.cr_tree.specs.Language.{Language, expr}
-use Rattle.cr_statement.specs.Languages.{◌◁◌, ◌▷◌, ◌⊗◌, ◌⟨$⟩◌, ◌∣◌, mark, maybe, maybe_mark, many, commas, name, one_of, sizes}
+use Rattle.cr_statement.specs.Languages.{◌◁◌, ◌▷◌, ◌⊗◌, ◌⟨$⟩◌, ◌∣◌, mark, maybe, maybe_mark, nothing, many, commas, name, one_of, sizes}
 
 -- ---- numbers and literals
 
@@ -142,9 +142,13 @@ column = (λ x. record { name = x.0; type_words = x.1.0; constraints = x.1.1.1 }
 abbrev pub key : Language (List (List ℕ))
 key = m.Comma ◁ m.Primary ◁ m.Key ◁ m.Open ◁ names ▷ m.Close
 
+-- `[IF NOT EXISTS]`
+abbrev pub if_not_exists : Language Bool
+if_not_exists = (m.If ◁ m.Not ◁ mark m.Exists true) ∣ nothing false
+
 abbrev pub create : Language Create
-create = (λ x. record { if_not_exists = is_some x.0; table = x.1.0; columns = x.1.1.0; key = x.1.1.1 })
-    ⟨$⟩ m.Create ◁ m.Table ◁ maybe (m.If ◁ m.Not ◁ mark m.Exists true) ⊗ name ⊗ m.Open ◁ (commas column ⊗ maybe key) ▷ m.Close
+create = (λ x. record { if_not_exists = x.0; table = x.1.0; columns = x.1.1.0; key = x.1.1.1 })
+    ⟨$⟩ m.Create ◁ m.Table ◁ if_not_exists ⊗ name ⊗ m.Open ◁ (commas column ⊗ maybe key) ▷ m.Close
 
 -- ---- transactions
 
@@ -171,4 +175,4 @@ abbrev pub command : Language Statement
 command = (t.Insert ⟨$⟩ insert) ∣ (t.Update ⟨$⟩ update) ∣ (t.Delete ⟨$⟩ delete) ∣ transaction
 
 abbrev pub statement : Language Statement
-statement = (t.Select ⟨$⟩ select) ∣ command
+statement = (t.Select ⟨$⟩ select) ∣ (t.Create ⟨$⟩ create) ∣ command

@@ -7,6 +7,7 @@ use Rattle.cr_statement.specs.declared.tree.Statement.{Statement}
 use Rattle.cr_statement.specs.declared.tree.Statement.TheVariants as t
 use Rattle.cr_statement.specs.Reading.{made, choose, command}
 use Rattle.cr_statement.specs.Queries.{select}
+use Rattle.cr_statement.specs.Creating.{create}
 
 unfoldable pub statement : ℕ → ℕ → Parser Statement
-statement opens room = choose (is_mark m.Select) (made t.Select (select opens room)) (command opens room)
+statement opens room = choose (is_mark m.Select) (made t.Select (select opens room)) (choose (is_mark m.Create) (made t.Create create) (command opens room))

@@ -1,8 +1,6 @@
 //! Lists, with commas between their items or without.
 
-ghost use Rattle.std.specs.Prelude.{Bool, []};
-ghost use Rattle.cr_tree.specs.declared.symbol.Symbol.{Symbol};
-ghost use Rattle.cr_tree.specs.Reading as spec;
+ghost use Rattle.std.specs.Prelude.{Option};
 ghost use Rattle.cr_tree.specs.Reading.{Parser};
 ghost use Rattle.cr_parse.specs.Given.{Gives};
 ghost use Rattle.cr_statement.specs.Given.{ReadsAs};
@@ -38,17 +36,17 @@ pub fn commas<T: Drop, F: Fn(Global, &mut Cursor<'_>) -> Result<T, Fault>>(
     Ok(all)
 }
 
-/// As many items as there are, with nothing between them.
-#[tactic(auto, unfolding(cr_tree::specs::Reading::many))]
+/// As many items as are found, with nothing between them, behind those that there are.
+#[tactic(auto, unfolding(crate::specs::Reading::found))]
 pub fn many<T: Drop, F: Fn(Global, &mut Cursor<'_>) -> Result<Option<T>, Fault>>(
     alloc: Global,
     tokens: &mut Cursor<'_>,
+    mut all: Items<T>,
     item: F,
 ) -> Result<Items<T>, Fault>
     requires { F.IsAlwaysCallable item }
-    ensures { (b : Symbol → Bool) (p : Parser T) → ReadsAs (reading.optional b p) (F.post item) → Gives (λ x. x) (spec.many b p spec.listed [] tokens.old) result tokens.new }
+    ensures { (p : Parser (Option T)) → ReadsAs p (F.post item) → Gives (λ x. x) (reading.found p all tokens.old) result tokens.new }
 {
-    let mut all = Items::new(alloc);
     for _turn in 0..tokens.len() {
         match item(alloc, tokens)? {
             Some(next) => all.push(next)?,

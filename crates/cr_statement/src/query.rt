@@ -1,14 +1,14 @@
 //! SELECT.
 
-ghost use Rattle.std.specs.Prelude.{◌≡◌, ◌^◌, pos, neg_ℤ, if◌then◌else◌, nat_le, [], Some, None};
+ghost use Rattle.std.specs.Prelude.{◌≡◌, []};
 ghost use Rattle.cr_tree.specs.Marks.{is_mark};
 ghost use Rattle.cr_tree.specs.Reading as spec;
 ghost use Rattle.cr_parse.specs.Given.{Gives};
-ghost use Rattle.cr_statement.specs.Statements as language;
 ghost use Rattle.cr_statement.specs.Reading as reading;
 ghost use Rattle.cr_statement.specs.Queries as query;
 
 use crate::list::{commas, many};
+use crate::number::{int, negative};
 use crate::part::{expr, expr_behind, exprs, filter};
 use crate::tree::{Join, JoinKind, Limit, Select, Shown, Source, Tables, Term};
 use cr_parse::cursor::Cursor;
@@ -175,9 +175,9 @@ fn next_join(alloc: Global, tokens: &mut Cursor<'_>) -> Result<Option<Join>, Fau
 }
 
 fn joins(alloc: Global, tokens: &mut Cursor<'_>) -> Result<Items<Join>, Fault>
-    ensures { Gives (λ x. x) (spec.many query.begins_join (query.join 200 99) spec.listed [] tokens.old) result tokens.new }
+    ensures { Gives (λ x. x) (reading.found (reading.optional query.begins_join (query.join 200 99)) [] tokens.old) result tokens.new }
 {
-    many(alloc, tokens, next_join)
+    many(alloc, tokens, Items::new(alloc), next_join)
 }
 
 #[tactic(auto, unfolding(crate::specs::Queries::tables))]
@@ -262,65 +262,6 @@ fn order(alloc: Global, tokens: &mut Cursor<'_>) -> Result<Option<Items<Term>>, 
 }
 
 // ---- LIMIT
-
-fn int_of(symbol: &Symbol) -> Option<i64>
-    ensures { result ≡ language.int_of symbol.now }
-{
-    match symbol {
-        Symbol::Number(n) if *n < 1 << 63 => Some(*n as i64),
-        Symbol::Bits(n) => Some(*n),
-        _ => None,
-    }
-}
-
-// The integer that a symbol is behind a minus.
-fn negative_of(symbol: &Symbol) -> Option<i64>
-    ensures { result ≡ language.negative_of symbol.now }
-{
-    match symbol {
-        Symbol::Number(n) => below_zero(*n),
-        Symbol::Bits(n) => n.checked_neg(),
-        _ => None,
-    }
-}
-
-fn below_zero(n: u64) -> Option<i64>
-    ensures { result ≡ (if nat_le n (2 ^ 63) then Some (neg_ℤ (pos n)) else None) }
-{
-    if n < 1 << 63 {
-        Some(-(n as i64))
-    } else if n == 1 << 63 {
-        Some(i64::MIN)
-    } else {
-        None
-    }
-}
-
-fn int(tokens: &mut Cursor<'_>) -> Result<i64, Fault>
-    ensures { Gives (λ x. x) (reading.one_of language.int_of tokens.old) result tokens.new }
-{
-    let Some(symbol) = tokens.peek() else {
-        return Err(Fault::Syntax);
-    };
-    let Some(int) = int_of(symbol) else {
-        return Err(Fault::Syntax);
-    };
-    tokens.take();
-    Ok(int)
-}
-
-fn negative(tokens: &mut Cursor<'_>) -> Result<i64, Fault>
-    ensures { Gives (λ x. x) (reading.one_of language.negative_of tokens.old) result tokens.new }
-{
-    let Some(symbol) = tokens.peek() else {
-        return Err(Fault::Syntax);
-    };
-    let Some(int) = negative_of(symbol) else {
-        return Err(Fault::Syntax);
-    };
-    tokens.take();
-    Ok(int)
-}
 
 #[tactic(auto, unfolding(crate::specs::Queries::count))]
 fn count(tokens: &mut Cursor<'_>) -> Result<i64, Fault>

@@ -10,6 +10,7 @@ ghost use Rattle.cr_statement.specs.Reading as reading;
 ghost use Rattle.cr_statement.specs.Whole as whole;
 ghost use Rattle.cr_statement.specs.declared.tree.Statement as trees;
 
+use crate::create::create;
 use crate::query::select;
 use crate::tree::{Mode, Statement};
 use crate::write::{delete, insert, update};
@@ -103,6 +104,9 @@ fn any(alloc: Global, tokens: &mut Cursor<'_>) -> Result<Statement, Fault>
     if tokens.sees(Mark::Select) {
         return Ok(Statement::Select(select(alloc, tokens)?));
     }
+    if tokens.sees(Mark::Create) {
+        return Ok(Statement::Create(create(alloc, tokens)?));
+    }
     command(alloc, tokens)
 }
 
@@ -126,8 +130,8 @@ fn read(alloc: Global, symbols: &[Symbol]) -> Result<Statement, ParseError>
     }
 }
 
-/// The tree of the statement that the symbols are, all of them, with no semicolon: SELECT, INSERT, UPDATE, DELETE,
-/// BEGIN, COMMIT, END or ROLLBACK. The grammar is a part of SQLite's "SQL As Understood By SQLite". Takes time in proportion
+/// The tree of the statement that the symbols are, all of them, with no semicolon: SELECT, CREATE TABLE, INSERT,
+/// UPDATE, DELETE, BEGIN, COMMIT, END or ROLLBACK. The grammar is a part of SQLite's "SQL As Understood By SQLite". Takes time in proportion
 /// to the number of symbols.
 ///
 /// # Errors

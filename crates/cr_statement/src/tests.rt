@@ -1,7 +1,7 @@
 //! Statements with known shapes.
 
 use crate::statement::statement;
-use crate::tree::{Delete, Insert, Mode, Select, Statement, Update};
+use crate::tree::{Create, Delete, Insert, Mode, Select, Statement, Update};
 use cr_parse::error::ParseError;
 use cr_tree::symbol::{Mark, Symbol};
 use cr_value::text::Text;
@@ -21,6 +21,8 @@ enum Shape {
     Update(&'static str, usize, bool),
     // A table, the number of columns that are named, and of rows.
     Insert(&'static str, Option<usize>, usize),
+    // Whether IF NOT EXISTS stands there, for each column the words of its type and its constraints, and the key's names.
+    Create(bool, &'static [(usize, usize)], Option<usize>),
     Select(Counts),
 }
 
@@ -47,7 +49,7 @@ const ONE_SHOWN: Counts = Counts {
 };
 
 // Each text, its words apart, with its shape.
-const SHAPES: [(&str, Shape); 16] = [
+const SHAPES: [(&str, Shape); 19] = [
     ("BEGIN", Shape::Begin(None)),
     (
         "BEGIN IMMEDIATE TRANSACTION",
@@ -70,6 +72,18 @@ const SHAPES: [(&str, Shape); 16] = [
     (
         "INSERT INTO t ( a , b ) VALUES ( 1 , ( 2 ) )",
         Shape::Insert("t", Some(2), 1),
+    ),
+    (
+        "CREATE TABLE t ( a )",
+        Shape::Create(false, &[(0, 0)], None),
+    ),
+    (
+        "CREATE TABLE IF NOT EXISTS t ( a b ( 5 , 2 ) NOT NULL DEFAULT - 1 , c d e PRIMARY KEY COLLATE f )",
+        Shape::Create(true, &[(1, 2), (2, 2)], None),
+    ),
+    (
+        "CREATE TABLE t ( a , b ( 3 ) , PRIMARY KEY ( b , a ) )",
+        Shape::Create(false, &[(0, 0), (0, 0)], Some(2)),
     ),
     ("SELECT *", Shape::Select(ONE_SHOWN)),
     (
@@ -106,7 +120,7 @@ const SHAPES: [(&str, Shape); 16] = [
 ];
 
 // Each text with the place of the first word that nothing goes on with.
-const REFUSED: [(&str, usize); 15] = [
+const REFUSED: [(&str, usize); 21] = [
     ("", 0),
     ("t", 0),
     ("DELETE t", 1),
@@ -117,6 +131,12 @@ const REFUSED: [(&str, usize); 15] = [
     ("INSERT INTO t VALUES ( 1", 6),
     ("COMMIT 1", 1),
     ("BEGIN IMMEDIATE IMMEDIATE", 2),
+    ("CREATE TABLE t ( )", 4),
+    ("CREATE TABLE t ( PRIMARY KEY ( a ) )", 4),
+    ("CREATE TABLE t ( a , )", 6),
+    ("CREATE TABLE t ( a DEFAULT b )", 6),
+    ("CREATE TABLE t ( a NOT NULL b )", 7),
+    ("CREATE TABLE t ( a , PRIMARY KEY ( a ) , b )", 11),
     ("SELECT FROM t", 1),
     ("SELECT t . FROM t", 3),
     ("SELECT a FROM t WHERE a GROUP a", 7),
@@ -124,33 +144,43 @@ const REFUSED: [(&str, usize); 15] = [
     ("SELECT a LIMIT a", 3),
 ];
 
-const MARKS: [(&str, Mark); 37] = [
+const MARKS: [(&str, Mark); 47] = [
     ("ALL", Mark::All),
     ("AS", Mark::As),
     ("ASC", Mark::Asc),
     ("BEGIN", Mark::Begin),
     ("BY", Mark::By),
+    ("COLLATE", Mark::Collate),
     ("COMMIT", Mark::Commit),
+    ("CREATE", Mark::Create),
+    ("DEFAULT", Mark::Default),
     ("DELETE", Mark::Delete),
     ("DESC", Mark::Desc),
     ("DISTINCT", Mark::Distinct),
     ("END", Mark::End),
+    ("EXISTS", Mark::Exists),
     ("FROM", Mark::From),
     ("GROUP", Mark::Group),
     ("HAVING", Mark::Having),
+    ("IF", Mark::If),
     ("IMMEDIATE", Mark::Immediate),
     ("INSERT", Mark::Insert),
     ("INTO", Mark::Into),
     ("JOIN", Mark::Join),
+    ("KEY", Mark::Key),
     ("LEFT", Mark::Left),
     ("LIMIT", Mark::Limit),
+    ("NOT", Mark::Not),
+    ("NULL", Mark::Null),
     ("OFFSET", Mark::Offset),
     ("ON", Mark::On),
     ("ORDER", Mark::Order),
     ("OUTER", Mark::Outer),
+    ("PRIMARY", Mark::Primary),
     ("ROLLBACK", Mark::Rollback),
     ("SELECT", Mark::Select),
     ("SET", Mark::Set),
+    ("TABLE", Mark::Table),
     ("TRANSACTION", Mark::Transaction),
     ("UPDATE", Mark::Update),
     ("VALUES", Mark::Values),
@@ -207,6 +237,31 @@ fn is_insert(insert: &Insert, table: &str, columns: Option<usize>, rows: usize) 
     insert.table.as_str() == table && named(insert) == columns && insert.rows.len() == rows
 }
 
+fn has_columns(create: &Create, columns: &[(usize, usize)]) -> bool {
+    if create.columns.len() != columns.len() {
+        return false;
+    }
+    for (column, (words, constraints)) in create.columns.as_slice().iter().zip(columns) {
+        if column.type_words.len() != *words || column.constraints.len() != *constraints {
+            return false;
+        }
+    }
+    true
+}
+
+fn is_create(
+    create: &Create,
+    if_not_exists: bool,
+    columns: &[(usize, usize)],
+    key: Option<usize>,
+) -> bool {
+    let names = match &create.key {
+        Some(names) => Some(names.len()),
+        None => None,
+    };
+    create.if_not_exists == if_not_exists && names == key && has_columns(create, columns)
+}
+
 fn count<T: Drop>(items: &Option<Items<T>>) -> usize {
     match items {
         None => 0,
@@ -252,6 +307,9 @@ fn has_shape(tree: &Statement, shape: Shape) -> bool {
         }
         (Statement::Insert(insert), Shape::Insert(table, columns, rows)) => {
             is_insert(insert, table, columns, rows)
+        }
+        (Statement::Create(create), Shape::Create(if_not_exists, columns, key)) => {
+            is_create(create, if_not_exists, columns, key)
         }
         (Statement::Select(select), Shape::Select(wanted)) => parts_of(select) == wanted,
         _ => false,

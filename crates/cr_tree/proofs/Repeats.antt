@@ -220,7 +220,7 @@ listing_right : Right size_fits size_words (λ d. tt {0}) (λ rest. Unit {0}) (b
 listing_right = then_right (λ _. second_size >>= (λ _. expect m.Close >>= (λ _. pure (tt {0})))) (mark_right m.Open size_right)
     (λ d i. closed_right m.Close (λ _. tt {0}) (λ rest. tt) second_right) (λ e rest i st. tt)
 
-sizes_right : Right AreSizes sizes_words (λ d. tt) (λ rest. (begins_next (is_mark m.Open) rest ≡ false) × Unit {0}) sizes
+pub sizes_right : Right AreSizes sizes_words (λ d. tt) (λ rest. (begins_next (is_mark m.Open) rest ≡ false) × Unit {0}) sizes
 unfolding sizes
 sizes_right = as_right sizes_of of_sizes sizes_fit fit_sizes sizes_spelled (λ d. refl) sizes_back
     (optional_right (is_mark m.Open) tt (λ d i. is_same m.Open) listing_right)

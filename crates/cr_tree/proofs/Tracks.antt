@@ -238,7 +238,7 @@ module _ (exact : Bool) (v v' : List Symbol) (heads : head v ≡ head v') where
   unfolding second_size
   second_regular = look_regular (pure_regular tt) (λ t. when_regular (is_mark m.Comma t) (mark_regular m.Comma size_regular) (pure_regular tt))
 
-  sizes_regular : Regular sizes sizes
+  pub sizes_regular : Regular sizes sizes
   unfolding sizes
   sizes_regular = look_regular (pure_regular tt) (λ t. when_regular (is_mark m.Open t) (then_regular (mark_regular m.Open size_regular) (λ a. then_regular second_regular (λ b. closed_regular m.Close tt))) (pure_regular tt))
 

@@ -1,0 +1,11 @@
+pub mod Written
+pub mod Follows
+pub mod Tables
+pub mod Quoted
+pub mod Words
+pub mod Signs
+pub mod Digits
+pub mod Blobs
+pub mod Sample
+pub mod Spelled
+pub mod Integers

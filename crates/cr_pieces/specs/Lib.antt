@@ -1,0 +1,5 @@
+pub mod Pieces
+pub mod Spelled
+pub mod Known
+pub mod Sample
+pub mod Laws

@@ -1,0 +1,4 @@
+pub mod Loops
+pub mod Nodes
+pub mod Quotes
+pub mod Steps

@@ -1,0 +1,12 @@
+pub mod Printed
+pub mod Written
+pub mod Texts
+pub mod Chain
+pub mod Rewriting
+pub mod Again
+pub mod Laid
+pub mod Layouts
+pub mod Back
+pub mod Seen
+pub mod Known
+pub mod Ends

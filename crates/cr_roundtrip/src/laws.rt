@@ -1,0 +1,15 @@
+//! Laws of what is printed. The contracts are the theorems; nothing runs.
+
+ghost use Rattle.cr_roundtrip.specs.Laws.{PrintedIsPhrase, PrintedReadsBack};
+
+/// What is printed of an expression is an expression of the grammar with the same tree and the same depth, and with at
+/// most one more than twice as many open parentheses as its depth less one, so that it is within the limits too.
+pub fn printed_is_a_phrase()
+    ensures { PrintedIsPhrase }
+{}
+
+/// What `print` gives for a statement that `statement` of `cr_sql` gave reads back: whatever tokens the text has, they are
+/// one statement to their end, with the same tree.
+pub fn printed_reads_back()
+    ensures { PrintedReadsBack }
+{}

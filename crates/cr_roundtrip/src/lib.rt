@@ -1,0 +1,6 @@
+//! What is printed reads back.
+#![tactic(auto)]
+
+pub mod laws;
+#[cfg(test)]
+mod tests;

@@ -1,0 +1,38 @@
+//! Why a statement is refused.
+
+use std::alloc::{AllocError, AllocFailed};
+
+/// Why a statement is refused.
+#[derive(Clone, Copy, Debug, PartialEq, Eq)]
+pub enum SqlError {
+    /// Memory ran out.
+    Memory,
+    /// The byte of the source where what can't stand begins; or where the statement ends, if more is wanted.
+    Syntax(usize),
+    /// What can't stand is out of this project's SQL: its word in upper case, `REAL` or `HEX`.
+    OutOfProfile(&'static str),
+    /// The depth or the open parentheses of an expression would pass their limit.
+    Depth,
+}
+
+impl From<AllocError> for SqlError {
+    ghost use Rattle.std.specs.Prelude.{◌≡◌};
+    ghost use Rattle.cr_sql.specs.declared.error.SqlError.TheVariants.{Memory};
+
+    ghost from_gives = { λ _ e. e ≡ Memory };
+
+    fn from(_e: AllocError) -> SqlError {
+        SqlError::Memory
+    }
+}
+
+impl<T: Drop> From<AllocFailed<T>> for SqlError {
+    ghost use Rattle.std.specs.Prelude.{◌≡◌};
+    ghost use Rattle.cr_sql.specs.declared.error.SqlError.TheVariants.{Memory};
+
+    ghost from_gives = { λ _ e. e ≡ Memory };
+
+    fn from(_e: AllocFailed<T>) -> SqlError {
+        SqlError::Memory
+    }
+}

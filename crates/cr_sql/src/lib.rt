@@ -1,0 +1,7 @@
+//! From the tokens of SQL texts to trees of statements.
+#![tactic(auto)]
+
+pub mod error;
+pub mod statement;
+#[cfg(test)]
+mod tests;
