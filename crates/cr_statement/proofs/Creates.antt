@@ -272,6 +272,7 @@ listing_of = record {
   grows = λ o r o' r' d lo lr i. ((column_of.grows o r o' r' d.0.0 lo lr i.0.0, all_grow o r o' r' d.0.1 lo lr i.0.1), key_of.grows o r o' r' d.1 lo lr i.1);
   regular = λ e v v' h o r o' r' lo so lr sr. record {
     shrinks = λ ts. subst (Within (length ts)) (sym (listed_so (length ts) ts (omega arith))) (((list_by_of (length ts)).regular e v v' h o r o' r' lo so lr sr).shrinks ts);
+    shrinks_too = λ ts. subst (Within (length ts)) (sym (listed_so (length ts) ts (omega arith))) (((list_by_of (length ts)).regular e v v' h o r o' r' lo so lr sr).shrinks_too ts);
     tracks = λ p. let n = length (p ++ v) + length (p ++ v') in
         subst (λ z. Track e v v' h z (both columns key (p ++ v'))) (sym (listed_so n (p ++ v) (omega arith)))
         (subst (λ z. Track e v v' h (list_by n (p ++ v)) z) (sym (listed_so n (p ++ v') (omega arith))) (((list_by_of n).regular e v v' h o r o' r' lo so lr sr).tracks p));

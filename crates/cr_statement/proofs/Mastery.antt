@@ -26,7 +26,7 @@ use Rattle.cr_statement.specs.Reading.{made, before, both, optional, choose, by_
 pub record MastersBefore {A : Type 0} (stop : List Symbol → Type 0) (L : Language A) (f : ℕ → ℕ → Parser A) : Type 0 where
   pub right : (opens room : ℕ) → Right (L.fits opens room) L.words L.value stop (f opens room)
   pub grows : (opens room opens' room' : ℕ) (d : L.D) → opens ≤ opens' → room ≤ room' → L.fits opens room d → L.fits opens' room' d
-  pub regular : (exact : Bool) (v v' : List Symbol) (heads : head v ≡ head v') (opens room opens' room' : ℕ) → opens ≤ opens' → (exact ≡ true → opens ≡ opens') → room ≤ room' → (exact ≡ true → room ≡ room') → Regular exact v v' heads (f opens room) (f opens' room')
+  pub regular : (exact : Bool) (v v' : List Symbol) (heads : head v ≡ head v') (opens room opens' room' : ℕ) → (exact ≡ false → opens + 2 ≤ opens') → (exact ≡ true → opens ≡ opens') → (exact ≡ false → room + 2 ≤ room') → (exact ≡ true → room ≡ room') → Regular exact v v' heads (f opens room) (f opens' room')
 
 abbrev pub Anything : List Symbol → Type 0
 Anything rest = Unit {0}
@@ -146,6 +146,7 @@ module _ {A : Type 0} {s : List Symbol → Type 0} {L M : Language A} {f g : ℕ
     grows = wider;
     regular = λ e v v' h o r o' r' lo so lr sr. record {
       shrinks = λ ts. by_test (Within (length ts)) (b ts) (f o r ts) (g o r ts) (λ i. (p.regular e v v' h o r o' r' lo so lr sr).shrinks ts) (λ i. (q.regular e v v' h o r o' r' lo so lr sr).shrinks ts);
+      shrinks_too = λ ts. by_test (Within (length ts)) (b ts) (f o' r' ts) (g o' r' ts) (λ i. (p.regular e v v' h o r o' r' lo so lr sr).shrinks_too ts) (λ i. (q.regular e v v' h o r o' r' lo so lr sr).shrinks_too ts);
       tracks = λ w. track e v v' h o r o' r' w ((p.regular e v v' h o r o' r' lo so lr sr).tracks w) ((q.regular e v v' h o r o' r' lo so lr sr).tracks w) (tells w v v' h);
     };
   }
@@ -196,8 +197,8 @@ refuses_later {A} f p t u u' r e = at (r.tracks p)
   where
     at : Track true (t ∷ u) (t ∷ u') refl (f (p ++ t ∷ u)) (f (p ++ t ∷ u')) → Within (length u) (f (p ++ t ∷ u))
     at (same_reads a q i j) = let clash : Fails Syntax [] ≡ Reads a (q ++ t ∷ u') = sym e ∙ j in absurd (cc)
-    at (same_fails c q i j) = let clash : Fails Syntax [] ≡ Fails c (q ++ t ∷ u') = sym e ∙ j in let none : [] ≡ q ++ t ∷ u' = cc in absurd (omega (arith, ap length none, length-append q (t ∷ u')))
-    at (deeper ts h i) = absurd (cc)
+    at (same_fails c q _ i j) = let clash : Fails Syntax [] ≡ Fails c (q ++ t ∷ u') = sym e ∙ j in let none : [] ≡ q ++ t ∷ u' = cc in absurd (omega (arith, ap length none, length-append q (t ∷ u')))
+    at (deeper q h i _) = absurd (cc)
     at (past x w i n) = let same : w ≡ u = cc in subst (λ z. Within (length z) (f (p ++ t ∷ u))) same n
 
 pub neither : {A : Type 0} (s : List Symbol → Type 0) (b : Symbol → Bool) (L M : Language A) → Avoids b s L → Avoids b s M → Avoids b s (L ∣ M)
@@ -293,7 +294,7 @@ module _ {A : Type 0} {s : List Symbol → Type 0} {L : Language A} {f : ℕ →
 
 -- what is left is no longer than what there was
 pub shrinks_of : {A : Type 0} {s : List Symbol → Type 0} {L : Language A} {f : ℕ → ℕ → Parser A} → MastersBefore s L f → (opens room : ℕ) (ts : List Symbol) → Within (length ts) (f opens room ts)
-shrinks_of p o r ts = (p.regular true [] [] refl o r o r (omega arith) (λ e. refl) (omega arith) (λ e. refl)).shrinks ts
+shrinks_of p o r ts = (p.regular true [] [] refl o r o r (λ e. absurd (cc)) (λ e. refl) (λ e. absurd (cc)) (λ e. refl)).shrinks ts
 
 -- ---- one symbol
 
@@ -341,11 +342,11 @@ module _ {A : Type 0} (means : Symbol → Option A) (x : Symbol) (a : A) (e : me
   symbol_of = record {
     right = λ o r. record { good = at; reads = λ d rest i st. ap (λ z. told z (d.symbol ∷ rest)) i };
     grows = λ o r o' r' d lo lr i. i;
-    regular = λ e v v' h o r o' r' lo so lr sr. look_regular e v v' h (refuse_regular e v v' h Syntax) (λ t. by e v v' h (means t));
+    regular = λ e v v' h o r o' r' lo so lr sr. look_regular e v v' h (refuse_regular e v v' h) (λ t. by e v v' h (means t));
   }
     where
       by : (exact : Bool) (v v' : List Symbol) (heads : head v ≡ head v') (z : Option A) → Regular exact v v' heads (told z) (told z)
-      by e v v' h None = refuse_regular e v v' h Syntax
+      by e v v' h None = refuse_regular e v v' h
       by e v v' h (Some a) = after_regular e v v' h (pure_regular e v v' h a)
 
       here : (t : Symbol) (ts : List Symbol) (z : Option A) → means t ≡ z

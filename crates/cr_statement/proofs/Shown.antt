@@ -91,10 +91,10 @@ labelled_refuses o r n = first_refuses (whole o r) alias (λ x. s.One x.0 x.1) (
 -- what refuses the end behind a name and a dot takes both
 module _ (L : Language Shown) (f : ℕ → ℕ → Parser Shown) (p : MastersBefore Shows L f) (n : List ℕ) (refuses : (o r : ℕ) → f o r (k.Name n ∷ k.Mark m.Dot ∷ []) ≡ Fails Syntax []) where
   takes_name : (u : List Symbol) (o r : ℕ) → Within (length u) (f o r (k.Name n ∷ u))
-  takes_name u o r = refuses_later (f o r) [] (k.Name n) u (k.Mark m.Dot ∷ []) (p.regular true (k.Name n ∷ u) (k.Name n ∷ k.Mark m.Dot ∷ []) refl o r o r (omega arith) (λ e. refl) (omega arith) (λ e. refl)) (refuses o r)
+  takes_name u o r = refuses_later (f o r) [] (k.Name n) u (k.Mark m.Dot ∷ []) (p.regular true (k.Name n ∷ u) (k.Name n ∷ k.Mark m.Dot ∷ []) refl o r o r (λ e. absurd (cc)) (λ e. refl) (λ e. absurd (cc)) (λ e. refl)) (refuses o r)
 
   takes_dot : (u : List Symbol) (o r : ℕ) → Within (length u) (f o r (k.Name n ∷ k.Mark m.Dot ∷ u))
-  takes_dot u o r = refuses_later (f o r) (k.Name n ∷ []) (k.Mark m.Dot) u [] (p.regular true (k.Mark m.Dot ∷ u) (k.Mark m.Dot ∷ []) refl o r o r (omega arith) (λ e. refl) (omega arith) (λ e. refl)) (refuses o r)
+  takes_dot u o r = refuses_later (f o r) (k.Name n ∷ []) (k.Mark m.Dot) u [] (p.regular true (k.Mark m.Dot ∷ u) (k.Mark m.Dot ∷ []) refl o r o r (λ e. absurd (cc)) (λ e. refl) (λ e. absurd (cc)) (λ e. refl)) (refuses o r)
 
 sees_same : (x : Mark) (v v' : List Symbol) → head v ≡ head v' → sees x v ≡ sees x v'
 sees_same x [] [] h = refl

@@ -1,5 +1,5 @@
 -- Whole expressions are read right, at every limit.
-use Rattle.std.proofs.Common.{◌≡◌, ℕ, zero, suc, ◌+◌, ◌-◌, ◌≤◌, ◌<◌, if◌then◌else◌, nat_lt, nat_le, List, [], ◌∷◌, ◌++◌, refl, sym, ◌∙◌, ap, subst, append_assoc, arith}
+use Rattle.std.proofs.Common.{◌≡◌, ℕ, zero, suc, ◌+◌, ◌-◌, ◌≤◌, ◌<◌, if◌then◌else◌, nat_lt, nat_le, List, [], ◌∷◌, ◌++◌, Some, refl, sym, ◌∙◌, ap, subst, append_assoc, arith}
 use Rattle.std.proofs.lemmas.Bool.{lt-ltb, leb-true, ltb-true}
 use Rattle.cr_tree.specs.declared.symbol.Symbol.{Symbol}
 use Rattle.cr_tree.specs.declared.symbol.Mark.TheVariants as m
@@ -179,3 +179,37 @@ expr_right (suc n) opens room least h p q = same_right (expr_level opens room le
     (λ i. stuck_argument opens room i)
     (λ l i j r. same_right (λ ts. below_expr opens room l ts i) (expr_right n opens (room - 1) l (omega (arith, h, i)) j r))
     (λ l i. stuck_below opens room l i) least p q)
+
+-- ---- what was read is no higher than the limit
+
+module _ (opens room : ℕ) where
+  abbrev Read_by : ℕ → ℕ → ℕ → Parser Sized → Type 0
+  Read_by o r l f = Right (Written o r l) spelled sized (Stops l) f
+
+  inside_right : 0 < opens → Read_by (opens - 1) room 1 (inside_of opens room)
+  inside_right i = same_right (λ ts. inside_expr opens room ts i) (expr_right (opens - 1 + room) (opens - 1) room 1 (omega arith) (omega arith) (omega arith))
+
+  argument_right : 0 < opens → 0 < room → Read_by (opens - 1) (room - 1) 1 (argument_of opens room)
+  argument_right i j = same_right (λ ts. argument_expr opens room ts i j) (expr_right (opens - 1 + (room - 1)) (opens - 1) (room - 1) 1 (omega arith) (omega arith) (omega arith))
+
+  below_right : (l : ℕ) → 0 < room → 0 < l → l ≤ 10 → Read_by opens (room - 1) l (below_of opens room l)
+  below_right l i j r = same_right (λ ts. below_expr opens room l ts i) (expr_right (opens + (room - 1)) opens (room - 1) l (omega arith) j r)
+
+  pub low_first : (least : ℕ) → 0 < least → least ≤ 10 → (t : Symbol) (ts : List Symbol) (x : Sized) (rest : List Symbol) → head ts ≡ Some t → first_by opens (inside_of opens room) (argument_of opens room) room (below_of opens room) least t ts ≡ Reads x rest → x.1 ≤ room
+  low_first least p q t [] x rest h e = absurd (cc)
+  low_first least p q t (u ∷ ts) x rest h e =
+      let same : u ≡ t = cc in
+      let read : first_by opens (inside_of opens room) (argument_of opens room) room (below_of opens room) least t (t ∷ ts) ≡ Reads x rest = subst (λ z. first_by opens (inside_of opens room) (argument_of opens room) room (below_of opens room) least t (z ∷ ts) ≡ Reads x rest) same e in
+      let g = subst (Good (Top opens (inside_of opens room) (argument_of opens room) room (below_of opens room) inside_right argument_right (stuck_argument opens room) below_right (stuck_below opens room) least q t) spelled sized (t ∷ ts)) read
+          (first_good opens (inside_of opens room) (argument_of opens room) room (below_of opens room) inside_right argument_right (stuck_argument opens room) below_right (stuck_below opens room) least q t ts) in
+      omega (arith, g.fitting.written.low, ap (λ (z : Sized). z.1) g.means)
+
+  pub low_tail : (left : Sized) (t : Symbol) (ts : List Symbol) (x : Sized) (rest : List Symbol) → head ts ≡ Some t → 0 < binding t → left.1 < room → tail opens (inside_of opens room) (argument_of opens room) room (below_of opens room) left ts ≡ Reads x rest → x.1 ≤ room
+  unfolding tail
+  low_tail left t [] x rest h b l e = absurd (cc)
+  low_tail left t (u ∷ ts) x rest h b l e =
+      let same : u ≡ t = cc in
+      let read : tail_by opens (inside_of opens room) (argument_of opens room) room (below_of opens room) left t (t ∷ ts) ≡ Reads x rest = subst (λ z. tail_by opens (inside_of opens room) (argument_of opens room) room (below_of opens room) left z (z ∷ ts) ≡ Reads x rest) same e in
+      let g = subst (Good (TailFits opens (inside_of opens room) (argument_of opens room) room (below_of opens room) argument_right below_right (binding t)) spelled_tail (tail_value left) (t ∷ ts)) read
+          (tail_good opens (inside_of opens room) (argument_of opens room) room (below_of opens room) argument_right below_right (omega (arith, l)) left t ts b) in
+      omega (arith, g.fitting.low, l, ap (λ (z : Sized). z.1) g.means)

@@ -9,3 +9,4 @@ pub mod Tails
 pub mod Climb
 pub mod Levels
 pub mod Judged
+pub mod Answers

@@ -1,6 +1,7 @@
--- What is answered depends on no symbol after the refused one, and a refusal stands where the limits are wider.
+-- What is answered depends on no symbol after the refused one. Where the limits are wider a refusal of syntax stands, and
+-- a symbol that met a limit is taken.
 use Rattle.std.proofs.Common.{◌≡◌, ℕ, zero, suc, ◌+◌, ◌≤◌, ◌<◌, Bool, true, false, if◌then◌else◌, ◌-◌, ◌^◌, max, min, nat_lt, nat_le, List, [], ◌∷◌, ◌++◌, length, Option, Some, None, refl, sym, ◌∙◌, ap, subst, length-append, pos, neg_ℤ, bytes_eq, arith}
-use Rattle.std.proofs.lemmas.Bool.{lt-ltb, ltb-true, ltb-false}
+use Rattle.std.proofs.lemmas.Bool.{lt-ltb, leb-true, ltb-true, ltb-false}
 use Rattle.cr_value.specs.declared.value.Value.TheVariants as values
 use Rattle.cr_tree.specs.declared.symbol.Mark.{Mark}
 use Rattle.cr_tree.specs.declared.symbol.Mark.TheVariants as m
@@ -17,6 +18,7 @@ use Rattle.cr_tree.specs.Marks.{is_mark}
 use Rattle.cr_tree.specs.Grammar.{leaf, is_size, count_name}
 use Rattle.cr_tree.specs.Reading.{Outcome, Reads, Fails, Cause, Syntax, Deep, Parser, and_then, ◌>>=◌, pure, refuse, head, rest_of, look, look_by, after, when, expect, eat, name, name_by, is_name, many_from, many, listed, behind, size, second_size, sizes, type_words, Sized, Maybe, binding, operator_of, begins, begins_by, begins_at, too_high, ceiling, above, joined, add_item, add_arm, arguments, called, call, call_by, named, named_by, minus, minus_by, parenthesized, cast, subject, otherwise, arm, arms, case, leaf_by, prefixed, first_by, operated, is, between, among, negated, negated_by, operated_by, tail, tail_by, climb, level, expr, inside_of, argument_of, below_of}
 use Rattle.cr_tree.proofs.Forms.{by_test, if_false}
+use Rattle.cr_tree.proofs.Levels.{low_first, low_tail}
 use Rattle.cr_tree.proofs.Knot.{expr_level, inside_expr, inside_shut, argument_expr, argument_high, argument_shut, below_expr, below_high}
 
 -- what is left is no longer than what there was
@@ -28,58 +30,152 @@ pub within_more : {A : Type 0} (m n : ℕ) (o : Outcome A) → m ≤ n → Withi
 within_more m n (Reads a rest) h w = omega arith
 within_more m n (Fails c rest) h w = omega arith
 
+-- what is left is less
+abbrev pub Under : {A : Type 0} → ℕ → Outcome A → Type 0
+Under n (Reads a rest) = length rest < n
+Under n (Fails c rest) = length rest < n
+
+under_more : {A : Type 0} (m n : ℕ) (o : Outcome A) → m < n → Within m o → Under n o
+under_more m n (Reads a rest) h w = omega (arith, h, w)
+under_more m n (Fails c rest) h w = omega (arith, h, w)
+
+under_then : {A B : Type 0} (g : A → Parser B) → ((a : A) (ts : List Symbol) → Within (length ts) (g a ts)) → (n : ℕ) (o : Outcome A) → Under n o → Under n (and_then o g)
+under_then g sg n (Reads a rest) h = under_more (length rest) n (g a rest) h (sg a rest)
+under_then g sg n (Fails c rest) h = h
+
+-- it takes the first symbol
+abbrev TakesOne : {A : Type 0} → Symbol → Parser A → Type 0
+TakesOne t f = (ts : List Symbol) → Within (length ts) (f (t ∷ ts))
+
+taken_under : {A : Type 0} (f : Parser A) (t : Symbol) (ts : List Symbol) → head ts ≡ Some t → TakesOne t f → Under (length ts) (f ts)
+taken_under f t [] i h = absurd (cc)
+taken_under f t (u ∷ ts) i h = let same : t ≡ u = cc in under_more (length ts) (suc (length ts)) (f (u ∷ ts)) (omega arith) (subst (λ z. Within (length ts) (f (z ∷ ts))) same (h ts))
+
+-- one that can begin an expression is taken
+abbrev Takes : {A : Type 0} → ℕ → Parser A → Type 0
+Takes least f = (t : Symbol) → begins least t ≡ true → TakesOne t f
+
+not_true : (b : Bool) → (b ≡ true → ⊥) → b ≡ false
+not_true true h = absurd (h refl)
+not_true false h = refl
+
+not_false : (b : Bool) → (b ≡ false → ⊥) → b ≡ true
+not_false true h = refl
+not_false false h = absurd (h refl)
+
 pub within_then : {A B : Type 0} (g : A → Parser B) → ((a : A) (ts : List Symbol) → Within (length ts) (g a ts)) → (n : ℕ) (o : Outcome A) → Within n o → Within n (and_then o g)
 within_then g sg n (Reads a rest) h = within_more (length rest) n (g a rest) h (sg a rest)
 within_then g sg n (Fails c rest) h = h
 
--- All causes are kept where the limits are the same, and where they are wider a refusal of syntax is.
+binding_low : (t : Symbol) → binding t ≤ 9
+binding_low (k.Mark m.Or) = omega arith
+binding_low (k.Mark m.And) = omega arith
+binding_low (k.Mark m.Equal) = omega arith
+binding_low (k.Mark m.DoubleEqual) = omega arith
+binding_low (k.Mark m.Unequal) = omega arith
+binding_low (k.Mark m.BangEqual) = omega arith
+binding_low (k.Mark m.Is) = omega arith
+binding_low (k.Mark m.In) = omega arith
+binding_low (k.Mark m.Like) = omega arith
+binding_low (k.Mark m.Between) = omega arith
+binding_low (k.Mark m.IsNull) = omega arith
+binding_low (k.Mark m.NotNull) = omega arith
+binding_low (k.Mark m.Not) = omega arith
+binding_low (k.Mark m.Less) = omega arith
+binding_low (k.Mark m.AtMost) = omega arith
+binding_low (k.Mark m.Greater) = omega arith
+binding_low (k.Mark m.AtLeast) = omega arith
+binding_low (k.Mark m.Plus) = omega arith
+binding_low (k.Mark m.Minus) = omega arith
+binding_low (k.Mark m.Star) = omega arith
+binding_low (k.Mark m.Slash) = omega arith
+binding_low (k.Mark m.Percent) = omega arith
+binding_low (k.Mark m.Bars) = omega arith
+binding_low (k.Mark m.Collate) = omega arith
+binding_low _ = omega arith
+
+climb_small : (opens : ℕ) (inside : Parser Sized) (argument : Parser Sized) (room : ℕ) (below : ℕ → Parser Sized) → ((left : Sized) (ts : List Symbol) → Within (length ts) (tail opens inside argument room below left ts))
+    → (n least most : ℕ) (left : Sized) (ts : List Symbol) → Within (length ts) (climb opens inside argument room below n least most left ts)
+unfolding climb
+climb_small opens inside argument room below small zero least most left [] = omega arith
+climb_small opens inside argument room below small (suc n) least most left [] = omega arith
+climb_small opens inside argument room below small zero least most left (t ∷ ts) = by_test (Within (suc (length ts))) (nat_le least (binding t)) (if nat_le (binding t) most then Fails Deep (t ∷ ts) else Reads left (t ∷ ts)) (Reads left (t ∷ ts))
+    (λ i. by_test (Within (suc (length ts))) (nat_le (binding t) most) (Fails Deep (t ∷ ts)) (Reads left (t ∷ ts)) (λ j. omega arith) (λ j. omega arith)) (λ i. omega arith)
+climb_small opens inside argument room below small (suc n) least most left (t ∷ ts) = turn (λ x us. climb_small opens inside argument room below small n least (binding t) x us)
+  where
+    turn : ((x : Sized) (us : List Symbol) → Within (length us) (climb opens inside argument room below n least (binding t) x us))
+        → Within (suc (length ts)) (if nat_le least (binding t) then if nat_le (binding t) most then if nat_lt left.1 room then and_then (tail opens inside argument room below left (t ∷ ts)) (climb opens inside argument room below n least (binding t)) else Fails Deep (t ∷ ts) else Reads left (t ∷ ts) else Reads left (t ∷ ts))
+    turn again = by_test (Within (suc (length ts))) (nat_le least (binding t)) (if nat_le (binding t) most then if nat_lt left.1 room then and_then (tail opens inside argument room below left (t ∷ ts)) (climb opens inside argument room below n least (binding t)) else Fails Deep (t ∷ ts) else Reads left (t ∷ ts)) (Reads left (t ∷ ts))
+        (λ i. by_test (Within (suc (length ts))) (nat_le (binding t) most) (if nat_lt left.1 room then and_then (tail opens inside argument room below left (t ∷ ts)) (climb opens inside argument room below n least (binding t)) else Fails Deep (t ∷ ts)) (Reads left (t ∷ ts))
+        (λ j. by_test (Within (suc (length ts))) (nat_lt left.1 room) (and_then (tail opens inside argument room below left (t ∷ ts)) (climb opens inside argument room below n least (binding t))) (Fails Deep (t ∷ ts))
+        (λ k. within_then (climb opens inside argument room below n least (binding t)) again (suc (length ts)) (tail opens inside argument room below left (t ∷ ts)) (small left (t ∷ ts))) (λ k. omega arith)) (λ j. omega arith)) (λ i. omega arith)
+
+-- Where `exact` holds the limits are the same, else they are wider by 2 at least.
 module _ (exact : Bool) (v v' : List Symbol) (heads : head v ≡ head v') where
   -- the run on a list that ends in v, beside the run on one that ends in v', which begins as v does: the same, unless
   -- the first symbol of v was taken
   pub data Track {A : Type 0} (o o' : Outcome A) : Type 0 where
     same_reads : (a : A) (p : List Symbol) → o ≡ Reads a (p ++ v) → o' ≡ Reads a (p ++ v') → Track o o'
-    same_fails : (c : Cause) (p : List Symbol) → o ≡ Fails c (p ++ v) → o' ≡ Fails c (p ++ v') → Track o o'
-    -- only the narrower limit is met
-    deeper : (ts : List Symbol) → exact ≡ false → o ≡ Fails Deep ts → Track o o'
+    same_fails : (c : Cause) (p : List Symbol) → (exact ≡ false → c ≡ Syntax) → o ≡ Fails c (p ++ v) → o' ≡ Fails c (p ++ v') → Track o o'
+    -- only the narrower limit is met, and the symbol there is taken
+    deeper : (p : List Symbol) → exact ≡ false → o ≡ Fails Deep (p ++ v) → Under (length (p ++ v')) o' → Track o o'
     past : (x : Symbol) (u : List Symbol) → v ≡ x ∷ u → Within (length u) o → Track o o'
 
   pub record Regular {A : Type 0} (f f' : Parser A) : Type 0 where
     pub shrinks : (ts : List Symbol) → Within (length ts) (f ts)
+    pub shrinks_too : (ts : List Symbol) → Within (length ts) (f' ts)
     pub tracks : (p : List Symbol) → Track (f (p ++ v)) (f' (p ++ v'))
 
-  pub pure_regular : {A : Type 0} (a : A) → Regular (pure a) (pure a)
-  pure_regular a = record { shrinks = λ ts. omega arith; tracks = λ p. same_reads a p refl refl }
+  -- the same of symbols that begin with this one
+  record RegularAt {A : Type 0} (t : Symbol) (f f' : Parser A) : Type 0 where
+    shrinks : (ts : List Symbol) → Within (length ts) (f ts)
+    shrinks_too : (ts : List Symbol) → Within (length ts) (f' ts)
+    tracks : (p : List Symbol) → head (p ++ v) ≡ Some t → Track (f (p ++ v)) (f' (p ++ v'))
 
-  pub refuse_regular : {A : Type 0} (c : Cause) → Regular {A = A} (refuse c) (refuse c)
-  refuse_regular c = record { shrinks = λ ts. omega arith; tracks = λ p. same_fails c p refl refl }
+  regular_at : {A : Type 0} {f f' : Parser A} (t : Symbol) → Regular f f' → RegularAt t f f'
+  regular_at t r = record { shrinks = r.shrinks; shrinks_too = r.shrinks_too; tracks = λ p h. r.tracks p }
+
+  heads_same : (p : List Symbol) → head (p ++ v) ≡ head (p ++ v')
+  heads_same [] = heads
+  heads_same (t ∷ p) = refl
+
+  pub pure_regular : {A : Type 0} (a : A) → Regular (pure a) (pure a)
+  pure_regular a = record { shrinks = λ ts. omega arith; shrinks_too = λ ts. omega arith; tracks = λ p. same_reads a p refl refl }
+
+  pub refuse_regular : {A : Type 0} → Regular {A = A} (refuse Syntax) (refuse Syntax)
+  refuse_regular = record { shrinks = λ ts. omega arith; shrinks_too = λ ts. omega arith; tracks = λ p. same_fails Syntax p (λ e. refl) refl refl }
 
   pub same_regular : {A : Type 0} {f f' g g' : Parser A} → ((ts : List Symbol) → g ts ≡ f ts) → ((ts : List Symbol) → g' ts ≡ f' ts) → Regular f f' → Regular g g'
   same_regular {A} {f} {f'} {g} {g'} e e' r = record {
     shrinks = λ ts. subst (Within (length ts)) (sym (e ts)) (r.shrinks ts);
+    shrinks_too = λ ts. subst (Within (length ts)) (sym (e' ts)) (r.shrinks_too ts);
     tracks = λ p. subst (λ o. Track o (g' (p ++ v'))) (sym (e (p ++ v))) (subst (λ o. Track (f (p ++ v)) o) (sym (e' (p ++ v'))) (r.tracks p));
   }
 
-  pub look_regular : {A : Type 0} {z z' : Parser A} {f f' : Symbol → Parser A} → Regular z z' → ((t : Symbol) → Regular (f t) (f' t)) → Regular (look z f) (look z' f')
-  look_regular {z} {z'} {f} {f'} rz rf = record { shrinks = small; tracks = at }
-    where
-      small : (ts : List Symbol) → Within (length ts) (look z f ts)
-      small [] = rz.shrinks []
-      small (t ∷ ts) = (rf t).shrinks (t ∷ ts)
+  look_small : {A : Type 0} (z : Parser A) (f : Symbol → Parser A) → ((ts : List Symbol) → Within (length ts) (z ts)) → ((t : Symbol) (ts : List Symbol) → Within (length ts) (f t ts)) → (ts : List Symbol) → Within (length ts) (look z f ts)
+  look_small z f sz sf [] = sz []
+  look_small z f sz sf (t ∷ ts) = sf t (t ∷ ts)
 
-      by_head : (h : Option Symbol) → Track (look_by z f h v) (look_by z' f' h v')
-      by_head None = rz.tracks []
-      by_head (Some t) = (rf t).tracks []
+  look_at : {A : Type 0} {z z' : Parser A} {f f' : Symbol → Parser A} → Regular z z' → ((t : Symbol) → RegularAt t (f t) (f' t)) → Regular (look z f) (look z' f')
+  look_at {z} {z'} {f} {f'} rz rf = record { shrinks = look_small z f rz.shrinks (λ t. (rf t).shrinks); shrinks_too = look_small z' f' rz.shrinks_too (λ t. (rf t).shrinks_too); tracks = at }
+    where
+      by_head : (h : Option Symbol) → head v ≡ h → Track (look_by z f h v) (look_by z' f' h v')
+      by_head None i = rz.tracks []
+      by_head (Some t) i = (rf t).tracks [] i
 
       at : (p : List Symbol) → Track (look z f (p ++ v)) (look z' f' (p ++ v'))
-      at [] = subst (λ h. Track (look_by z f (head v) v) (look_by z' f' h v')) heads (by_head (head v))
-      at (t ∷ p) = (rf t).tracks (t ∷ p)
+      at [] = subst (λ h. Track (look_by z f (head v) v) (look_by z' f' h v')) heads (by_head (head v) refl)
+      at (t ∷ p) = (rf t).tracks (t ∷ p) refl
+
+  pub look_regular : {A : Type 0} {z z' : Parser A} {f f' : Symbol → Parser A} → Regular z z' → ((t : Symbol) → Regular (f t) (f' t)) → Regular (look z f) (look z' f')
+  look_regular rz rf = look_at rz (λ t. regular_at t (rf t))
 
   pub after_regular : {A : Type 0} {f f' : Parser A} → Regular f f' → Regular (after f) (after f')
-  after_regular {f} {f'} r = record { shrinks = small; tracks = at }
+  after_regular {A} {f} {f'} r = record { shrinks = small f r.shrinks; shrinks_too = small f' r.shrinks_too; tracks = at }
     where
-      small : (ts : List Symbol) → Within (length ts) (after f ts)
-      small [] = r.shrinks []
-      small (t ∷ ts) = within_more (length ts) (suc (length ts)) (f ts) (omega arith) (r.shrinks ts)
+      small : (f : Parser A) → ((ts : List Symbol) → Within (length ts) (f ts)) → (ts : List Symbol) → Within (length ts) (after f ts)
+      small f s [] = s []
+      small f s (t ∷ ts) = within_more (length ts) (suc (length ts)) (f ts) (omega arith) (s ts)
 
       taken : (w w' : List Symbol) → v ≡ w → v' ≡ w' → head w ≡ head w' → Track (f (rest_of w)) (f' (rest_of w'))
       taken [] [] i j h = subst (λ y. Track (f y) (f' [])) i (subst (λ y. Track (f v) (f' y)) j (r.tracks []))
@@ -90,37 +186,55 @@ module _ (exact : Bool) (v v' : List Symbol) (heads : head v ≡ head v') where
       at [] = taken v v' refl refl heads
       at (t ∷ p) = r.tracks p
 
-  pub track_then : {A B : Type 0} (g g' : A → Parser B) → ((a : A) (ts : List Symbol) → Within (length ts) (g a ts)) → (o o' : Outcome A) → Track o o'
+  track_then : {A B : Type 0} (g g' : A → Parser B) → ((a : A) (ts : List Symbol) → Within (length ts) (g a ts)) → ((a : A) (ts : List Symbol) → Within (length ts) (g' a ts)) → (o o' : Outcome A) → Track o o'
       → ((a : A) (p : List Symbol) → o ≡ Reads a (p ++ v) → Track (g a (p ++ v)) (g' a (p ++ v'))) → Track (and_then o g) (and_then o' g')
-  track_then g g' sg o o' (same_reads a p i j) t = subst (λ y. Track (and_then y g) (and_then o' g')) (sym i) (subst (λ y. Track (g a (p ++ v)) (and_then y g')) (sym j) (t a p i))
-  track_then g g' sg o o' (same_fails c p i j) t = same_fails c p (ap (λ y. and_then y g) i) (ap (λ y. and_then y g') j)
-  track_then g g' sg o o' (deeper ts h i) t = deeper ts h (ap (λ y. and_then y g) i)
-  track_then g g' sg o o' (past x u i h) t = past x u i (within_then g sg (length u) o h)
+  track_then g g' sg sg' o o' (same_reads a p i j) t = subst (λ y. Track (and_then y g) (and_then o' g')) (sym i) (subst (λ y. Track (g a (p ++ v)) (and_then y g')) (sym j) (t a p i))
+  track_then g g' sg sg' o o' (same_fails c p s i j) t = same_fails c p s (ap (λ y. and_then y g) i) (ap (λ y. and_then y g') j)
+  track_then g g' sg sg' o o' (deeper p h i u) t = deeper p h (ap (λ y. and_then y g) i) (under_then g' sg' (length (p ++ v')) o' u)
+  track_then g g' sg sg' o o' (past x u i h) t = past x u i (within_then g sg (length u) o h)
 
   pub then_regular : {A B : Type 0} {f f' : Parser A} {g g' : A → Parser B} → Regular f f' → ((a : A) → Regular (g a) (g' a)) → Regular (f >>= g) (f' >>= g')
   then_regular {A} {B} {f} {f'} {g} {g'} rf rg = record {
     shrinks = λ ts. within_then g (λ a ts. (rg a).shrinks ts) (length ts) (f ts) (rf.shrinks ts);
-    tracks = λ p. track_then g g' (λ a ts. (rg a).shrinks ts) (f (p ++ v)) (f' (p ++ v')) (rf.tracks p) (λ a p i. (rg a).tracks p);
+    shrinks_too = λ ts. within_then g' (λ a ts. (rg a).shrinks_too ts) (length ts) (f' ts) (rf.shrinks_too ts);
+    tracks = λ p. track_then g g' (λ a ts. (rg a).shrinks ts) (λ a ts. (rg a).shrinks_too ts) (f (p ++ v)) (f' (p ++ v')) (rf.tracks p) (λ a p i. (rg a).tracks p);
   }
 
-  -- a test on a limit: where it fails only with the narrower one, the answer is that the limit is met
-  pub limit_regular : {A : Type 0} {b b' : Bool} {f f' : Parser A} → (b ≡ true → b' ≡ true) → (exact ≡ true → b ≡ b') → (b ≡ true → Regular f f') → Regular (when b f (refuse Deep)) (when b' f' (refuse Deep))
-  limit_regular {b = true} {b' = true} h e r = r refl
-  limit_regular {b = true} {b' = false} h e r = absurd (cc (h refl))
-  limit_regular {b = false} {b' = false} h e r = refuse_regular Deep
-  limit_regular {b = false} {b' = true} h e r = record { shrinks = λ ts. omega arith; tracks = λ p. deeper (p ++ v) (inexact e) refl }
+  -- where what comes next depends on what was read
+  then_at : {A B : Type 0} {t : Symbol} {f f' : Parser A} (g g' : A → Parser B) → RegularAt t f f' → ((a : A) (ts : List Symbol) → Within (length ts) (g a ts)) → ((a : A) (ts : List Symbol) → Within (length ts) (g' a ts))
+      → ((a : A) (ts p : List Symbol) → head ts ≡ Some t → f ts ≡ Reads a (p ++ v) → Track (g a (p ++ v)) (g' a (p ++ v'))) → RegularAt t (f >>= g) (f' >>= g')
+  then_at {f = f} {f' = f'} g g' rf sg sg' rg = record {
+    shrinks = λ ts. within_then g sg (length ts) (f ts) (rf.shrinks ts);
+    shrinks_too = λ ts. within_then g' sg' (length ts) (f' ts) (rf.shrinks_too ts);
+    tracks = λ p h. track_then g g' sg sg' (f (p ++ v)) (f' (p ++ v')) (rf.tracks p h) (λ a q i. rg a (p ++ v) q h i);
+  }
+
+  -- a test on a limit: where it fails only with the narrower one, the wider parser takes the symbol
+  limit_at : {A : Type 0} {t : Symbol} {b b' : Bool} {f f' : Parser A} → (b ≡ true → b' ≡ true) → (exact ≡ true → b ≡ b') → (exact ≡ false → b' ≡ true) → ((ts : List Symbol) → Within (length ts) (f' ts))
+      → (exact ≡ false → TakesOne t f') → (b ≡ true → RegularAt t f f') → RegularAt t (when b f (refuse Deep)) (when b' f' (refuse Deep))
+  limit_at {b = true} {b' = true} h e w s n r = r refl
+  limit_at {b = true} {b' = false} h e w s n r = absurd (cc (h refl))
+  limit_at {b = false} {b' = false} h e w s n r = record { shrinks = λ ts. omega arith; shrinks_too = λ ts. omega arith; tracks = λ p i. same_fails Deep p (λ x. absurd (cc (w x))) refl refl }
+  limit_at {t = t} {b = false} {b' = true} {f' = f'} h e w s n r = record { shrinks = λ ts. omega arith; shrinks_too = s; tracks = at }
     where
-      inexact : (exact ≡ true → false ≡ true) → exact ≡ false
-      inexact e = elim exact as (λ v. (v ≡ true → false ≡ true) → v ≡ false) [ true ↦ (λ e. absurd (cc (e refl))) | false ↦ (λ e. refl) ] e
+      inexact : exact ≡ false
+      inexact = not_true exact (λ x. absurd (cc (e x)))
+
+      at : (p : List Symbol) → head (p ++ v) ≡ Some t → Track (Fails Deep (p ++ v)) (f' (p ++ v'))
+      at p i = deeper p inexact refl (taken_under f' t (p ++ v') (sym (heads_same p) ∙ i) (n inexact))
 
   -- a test on the symbols alone
   pub when_regular : {A : Type 0} (b : Bool) {f f' g g' : Parser A} → Regular f f' → Regular g g' → Regular (when b f g) (when b f' g')
   when_regular true r q = r
   when_regular false r q = q
 
+  when_at : {A : Type 0} {t : Symbol} (b : Bool) {f f' g g' : Parser A} → (b ≡ true → RegularAt t f f') → RegularAt t g g' → RegularAt t (when b f g) (when b f' g')
+  when_at true r q = r refl
+  when_at false r q = q
+
   pub expect_regular : (x : Mark) → Regular (expect x) (expect x)
   unfolding expect
-  expect_regular x = look_regular (refuse_regular Syntax) (λ t. when_regular (is_mark x t) (after_regular (pure_regular tt)) (refuse_regular Syntax))
+  expect_regular x = look_regular refuse_regular (λ t. when_regular (is_mark x t) (after_regular (pure_regular tt)) refuse_regular)
 
   -- behind a mark
   pub mark_regular : {A : Type 0} {f f' : Parser A} (x : Mark) → Regular f f' → Regular (expect x >>= (λ _. f)) (expect x >>= (λ _. f'))
@@ -135,21 +249,18 @@ module _ (exact : Bool) (v v' : List Symbol) (heads : head v ≡ head v') where
 
   pub name_regular : Regular name name
   unfolding name
-  name_regular = look_regular (refuse_regular Syntax) by
+  name_regular = look_regular refuse_regular by
     where
       by : (t : Symbol) → Regular (name_by t) (name_by t)
       by (k.Name n) = after_regular (pure_regular n)
-      by t = refuse_regular Syntax
+      by t = refuse_regular
 
-  heads_same : (p : List Symbol) → head (p ++ v) ≡ head (p ++ v')
-  heads_same [] = heads
-  heads_same (t ∷ p) = refl
-
-  pub too_high_regular : {A : Type 0} (least : ℕ) → Regular {A = A} (too_high least) (too_high least)
+  too_high_regular : {A : Type 0} (least : ℕ) → exact ≡ true → Regular {A = A} (too_high least) (too_high least)
   unfolding too_high
-  too_high_regular {A} least = record {
+  too_high_regular {A} least e = record {
     shrinks = λ ts. omega arith;
-    tracks = λ p. same_fails (if begins_at least (head (p ++ v)) then Deep else Syntax) p refl (ap (λ h. Fails (if begins_at least h then Deep else Syntax) (p ++ v')) (sym (heads_same p)));
+    shrinks_too = λ ts. omega arith;
+    tracks = λ p. same_fails (if begins_at least (head (p ++ v)) then Deep else Syntax) p (λ i. absurd (cc)) refl (ap (λ h. Fails (if begins_at least h then Deep else Syntax) (p ++ v')) (sym (heads_same p)));
   }
 
   -- at the end and at a symbol that begins no expression the answer is a refusal of syntax
@@ -157,31 +268,35 @@ module _ (exact : Bool) (v v' : List Symbol) (heads : head v ≡ head v') where
   Refuses least f = (ts : List Symbol) → begins_at least (head ts) ≡ false → f ts ≡ Fails Syntax ts
 
   -- where there is no room, one that can begin an expression meets the limit, and another is refused
-  pub high_regular : {A : Type 0} (least : ℕ) (f' : Parser A) → exact ≡ false → Refuses least f' → Regular (too_high least) f'
+  high_regular : {A : Type 0} (least : ℕ) (f' : Parser A) → exact ≡ false → Refuses least f' → Takes least f' → ((ts : List Symbol) → Within (length ts) (f' ts)) → Regular (too_high least) f'
   unfolding too_high
-  high_regular {A} least f' inexact refuses = record { shrinks = λ ts. omega arith; tracks = at }
+  high_regular {A} least f' inexact refuses takes small = record { shrinks = λ ts. omega arith; shrinks_too = small; tracks = at }
     where
+      under : (ts : List Symbol) → begins_at least (head ts) ≡ true → Under (length ts) (f' ts)
+      under [] i = absurd (cc)
+      under (t ∷ ts) i = taken_under f' t (t ∷ ts) refl (takes t i)
+
       by : (p : List Symbol) (b : Bool) → begins_at least (head (p ++ v)) ≡ b → Track {A = A} (Fails (if b then Deep else Syntax) (p ++ v)) (f' (p ++ v'))
-      by p true i = deeper (p ++ v) inexact refl
-      by p false i = same_fails Syntax p refl (refuses (p ++ v') (ap (begins_at least) (sym (heads_same p)) ∙ i))
+      by p true i = deeper p inexact refl (under (p ++ v') (ap (begins_at least) (sym (heads_same p)) ∙ i))
+      by p false i = same_fails Syntax p (λ e. refl) refl (refuses (p ++ v') (ap (begins_at least) (sym (heads_same p)) ∙ i))
 
       at : (p : List Symbol) → Track {A = A} (Fails (if begins_at least (head (p ++ v)) then Deep else Syntax) (p ++ v)) (f' (p ++ v'))
       at p = by p (begins_at least (head (p ++ v))) refl
 
   -- ---- as many as there are
 
+  many_small : {A S : Type 0} (b : Symbol → Bool) (add : S → A → S) (item : Parser A) → ((ts : List Symbol) → Within (length ts) (item ts)) → (n : ℕ) (a : S) (ts : List Symbol) → Within (length ts) (many_from b item add n a ts)
+  unfolding many_from
+  many_small b add item small zero a ts = omega arith
+  many_small b add item small (suc n) a [] = omega arith
+  many_small {S = S} b add item small (suc n) a (t ∷ ts) = turn (λ a ts. many_small b add item small n a ts)
+    where
+      turn : ((a : S) (ts : List Symbol) → Within (length ts) (many_from b item add n a ts)) → Within (suc (length ts)) (if b t then and_then (item (t ∷ ts)) (λ x. many_from b item add n (add a x)) else Reads a (t ∷ ts))
+      turn again = by_test (Within (suc (length ts))) (b t) (and_then (item (t ∷ ts)) (λ x. many_from b item add n (add a x))) (Reads a (t ∷ ts))
+          (λ e. within_then (λ x. many_from b item add n (add a x)) (λ x ts. again (add a x) ts) (suc (length ts)) (item (t ∷ ts)) (small (t ∷ ts))) (λ e. omega arith)
+
   module _ {A S : Type 0} (b : Symbol → Bool) (add : S → A → S) (item item' : Parser A) (r : Regular item item')
       (takes : (t : Symbol) (ts : List Symbol) → b t ≡ true → Within (length ts) (item (t ∷ ts))) where
-    many_small : (n : ℕ) (a : S) (ts : List Symbol) → Within (length ts) (many_from b item add n a ts)
-    unfolding many_from
-    many_small zero a ts = omega arith
-    many_small (suc n) a [] = omega arith
-    many_small (suc n) a (t ∷ ts) = turn (λ a ts. many_small n a ts)
-      where
-        turn : ((a : S) (ts : List Symbol) → Within (length ts) (many_from b item add n a ts)) → Within (suc (length ts)) (if b t then and_then (item (t ∷ ts)) (λ x. many_from b item add n (add a x)) else Reads a (t ∷ ts))
-        turn again = by_test (Within (suc (length ts))) (b t) (and_then (item (t ∷ ts)) (λ x. many_from b item add n (add a x))) (Reads a (t ∷ ts))
-            (λ e. within_then (λ x. many_from b item add n (add a x)) (λ x ts. again (add a x) ts) (suc (length ts)) (item (t ∷ ts)) (r.shrinks (t ∷ ts))) (λ e. omega arith)
-
     many_track : (n n' : ℕ) (a : S) (p : List Symbol) → length (p ++ v) ≤ n → length (p ++ v') ≤ n' → Track (many_from b item add n a (p ++ v)) (many_from b item' add n' a (p ++ v'))
     unfolding many_from
     many_track n n' a [] h h' = at_end v v' refl refl heads n n' h h'
@@ -201,7 +316,7 @@ module _ (exact : Bool) (v v' : List Symbol) (heads : head v ≡ head v') where
           where
             by : (c : Bool) → b t ≡ c → v' ≡ t ∷ w' → Track (if b t then and_then (item (t ∷ w)) (λ x. many_from b item add n (add a x)) else Reads a (t ∷ w)) (if b t then and_then (item' (t ∷ w')) (λ x. many_from b item' add n' (add a x)) else Reads a (t ∷ w'))
             by true c same = past t w i (subst (λ z. Within (length w) (if z then and_then (item (t ∷ w)) (λ x. many_from b item add n (add a x)) else Reads a (t ∷ w))) (sym c)
-                (within_then (λ x. many_from b item add n (add a x)) (λ x ts. many_small n (add a x) ts) (length w) (item (t ∷ w)) (takes t w c)))
+                (within_then (λ x. many_from b item add n (add a x)) (λ x ts. many_small b add item r.shrinks n (add a x) ts) (length w) (item (t ∷ w)) (takes t w c)))
             by false c same = same_reads a [] (if_false (b t) (and_then (item (t ∷ w)) (λ x. many_from b item add n (add a x))) (Reads a (t ∷ w)) c ∙ ap (Reads a) (sym i))
                 (if_false (b t) (and_then (item' (t ∷ w')) (λ x. many_from b item' add n' (add a x))) (Reads a (t ∷ w')) c ∙ ap (Reads a) (sym same))
     many_track zero n' a (t ∷ p) h h' = absurd (omega (arith, h))
@@ -210,14 +325,14 @@ module _ (exact : Bool) (v v' : List Symbol) (heads : head v ≡ head v') where
       where
         by : ((a : S) (q : List Symbol) → length (q ++ v) ≤ n → length (q ++ v') ≤ n' → Track (many_from b item add n a (q ++ v)) (many_from b item' add n' a (q ++ v'))) → (c : Bool) → b t ≡ c
             → Track (if c then and_then (item (t ∷ p ++ v)) (λ x. many_from b item add n (add a x)) else Reads a (t ∷ p ++ v)) (if c then and_then (item' (t ∷ p ++ v')) (λ x. many_from b item' add n' (add a x)) else Reads a (t ∷ p ++ v'))
-        by again true c = track_then (λ x. many_from b item add n (add a x)) (λ x. many_from b item' add n' (add a x)) (λ x ts. many_small n (add a x) ts) (item (t ∷ p ++ v)) (item' (t ∷ p ++ v')) (r.tracks (t ∷ p))
+        by again true c = track_then (λ x. many_from b item add n (add a x)) (λ x. many_from b item' add n' (add a x)) (λ x ts. many_small b add item r.shrinks n (add a x) ts) (λ x ts. many_small b add item' r.shrinks_too n' (add a x) ts) (item (t ∷ p ++ v)) (item' (t ∷ p ++ v')) (r.tracks (t ∷ p))
             (λ x q i. let w : length (q ++ v) ≤ length (p ++ v) = subst (Within (length (p ++ v))) i (takes t (p ++ v) c) in
             again (add a x) q (omega (arith, w, h)) (omega (arith, w, h', length-append q v, length-append q v', length-append p v, length-append p v')))
         by again false c = same_reads a (t ∷ p) refl refl
 
     pub many_regular : (a : S) → Regular (many b item add a) (many b item' add a)
     unfolding many
-    many_regular a = record { shrinks = λ ts. many_small (length ts) a ts; tracks = λ p. many_track (length (p ++ v)) (length (p ++ v')) a p (omega arith) (omega arith) }
+    many_regular a = record { shrinks = λ ts. many_small b add item r.shrinks (length ts) a ts; shrinks_too = λ ts. many_small b add item' r.shrinks_too (length ts) a ts; tracks = λ p. many_track (length (p ++ v)) (length (p ++ v')) a p (omega arith) (omega arith) }
 
   -- ---- types and marks
 
@@ -232,7 +347,7 @@ module _ (exact : Bool) (v v' : List Symbol) (heads : head v ≡ head v') where
 
   size_regular : Regular size size
   unfolding size
-  size_regular = look_regular (refuse_regular Syntax) (λ t. when_regular (is_size t) (after_regular (pure_regular tt)) (refuse_regular Syntax))
+  size_regular = look_regular refuse_regular (λ t. when_regular (is_size t) (after_regular (pure_regular tt)) refuse_regular)
 
   second_regular : Regular second_size second_size
   unfolding second_size
@@ -250,19 +365,28 @@ module _ (exact : Bool) (v v' : List Symbol) (heads : head v ≡ head v') where
 
   module _ (opens : ℕ) (inside : Parser Sized) (argument : Parser Sized) (room : ℕ) (below : ℕ → Parser Sized)
       (opens' : ℕ) (inside' : Parser Sized) (argument' : Parser Sized) (room' : ℕ) (below' : ℕ → Parser Sized)
-      (more_opens : opens ≤ opens') (same_opens : exact ≡ true → opens ≡ opens') (more_room : room ≤ room') (same_room : exact ≡ true → room ≡ room')
-      (inside_regular : Regular inside inside') (argument_regular : Regular argument argument') (below_regular : (l : ℕ) → Regular (below l) (below' l)) where
-    more_low : {m n : ℕ} → m ≤ n → (a : ℕ) → nat_lt a m ≡ true → nat_lt a n ≡ true
-    more_low {m} {n} h a t = lt-ltb a n (omega (arith, ltb-true a m t))
+      (more_opens : exact ≡ false → opens + 2 ≤ opens') (same_opens : exact ≡ true → opens ≡ opens') (more_room : exact ≡ false → room + 2 ≤ room') (same_room : exact ≡ true → room ≡ room')
+      (inside_regular : Regular inside inside') (argument_regular : Regular argument argument') (below_regular : (l : ℕ) → 0 < l → l ≤ 10 → Regular (below l) (below' l))
+      (first_low : exact ≡ false → (least : ℕ) → 0 < least → least ≤ 10 → (t : Symbol) (ts : List Symbol) (x : Sized) (rest : List Symbol) → head ts ≡ Some t → first_by opens inside argument room below least t ts ≡ Reads x rest → x.1 ≤ room)
+      (tail_low : exact ≡ false → (left : Sized) (t : Symbol) (ts : List Symbol) (x : Sized) (rest : List Symbol) → head ts ≡ Some t → 0 < binding t → left.1 < room → tail opens inside argument room below left ts ≡ Reads x rest → x.1 ≤ room) where
+    -- what is within the narrower limit is within the wider one
+    wider : {m n : ℕ} → (exact ≡ false → m + 2 ≤ n) → (exact ≡ true → m ≡ n) → (a : ℕ) → nat_lt a m ≡ true → nat_lt a n ≡ true
+    wider {m} {n} w s a i = at exact refl
+      where
+        at : (b : Bool) → exact ≡ b → nat_lt a n ≡ true
+        at true e = ap (nat_lt a) (sym (s e)) ∙ i
+        at false e = lt-ltb a n (omega (arith, w e, ltb-true a m i))
 
-    same_low : {m n : ℕ} → (exact ≡ true → m ≡ n) → (a : ℕ) → exact ≡ true → nat_lt a m ≡ nat_lt a n
-    same_low h a t = ap (nat_lt a) (h t)
+    open_at : {A : Type 0} {t : Symbol} {f f' : Parser A} → (exact ≡ false → TakesOne t f') → RegularAt t f f' → RegularAt t (when (nat_lt 0 opens) f (refuse Deep)) (when (nat_lt 0 opens') f' (refuse Deep))
+    open_at n r = limit_at (wider more_opens same_opens 0) (λ e. ap (nat_lt 0) (same_opens e)) (λ e. lt-ltb 0 opens' (omega (arith, more_opens e))) r.shrinks_too n (λ i. r)
 
-    open_regular : {A : Type 0} {f f' : Parser A} → Regular f f' → Regular (when (nat_lt 0 opens) f (refuse Deep)) (when (nat_lt 0 opens') f' (refuse Deep))
-    open_regular r = limit_regular (more_low more_opens 0) (same_low same_opens 0) (λ h. r)
+    -- a symbol that opens a parenthesis is taken
+    opened : {A : Type 0} {f f' : Parser A} (t : Symbol) → Regular f f' → RegularAt t (when (nat_lt 0 opens) (after f) (refuse Deep)) (when (nat_lt 0 opens') (after f') (refuse Deep))
+    opened t r = open_at (λ e ts. r.shrinks_too ts) (regular_at t (after_regular r))
 
-    room_regular : {A : Type 0} (n : ℕ) {f f' : Parser A} → Regular f f' → Regular (when (nat_lt n room) f (refuse Deep)) (when (nat_lt n room') f' (refuse Deep))
-    room_regular n r = limit_regular (more_low more_room n) (same_low same_room n) (λ h. r)
+    -- a symbol that makes a tree higher is taken
+    roomed : {A : Type 0} {f f' : Parser A} (t : Symbol) → Regular f f' → RegularAt t (when (nat_lt 0 room) (after f) (refuse Deep)) (when (nat_lt 0 room') (after f') (refuse Deep))
+    roomed t r = let a = regular_at t (after_regular r) in limit_at (wider more_room same_room 0) (λ e. ap (nat_lt 0) (same_room e)) (λ e. lt-ltb 0 room' (omega (arith, more_room e))) a.shrinks_too (λ e ts. r.shrinks_too ts) (λ i. a)
 
     arguments_regular : Regular (arguments opens inside argument room below) (arguments opens' inside' argument' room' below')
     unfolding arguments
@@ -274,29 +398,29 @@ module _ (exact : Bool) (v v' : List Symbol) (heads : head v ≡ head v') where
 
     call_regular : (f : List ℕ) → Regular (call opens inside argument room below f) (call opens' inside' argument' room' below' f)
     unfolding call
-    call_regular f = look_regular (refuse_regular Syntax) by
+    call_regular f = look_regular refuse_regular by
       where
         by : (t : Symbol) → Regular (call_by opens inside argument room below f t) (call_by opens' inside' argument' room' below' f t)
         by (k.Mark m.Close) = after_regular (pure_regular (e.Call f [], 0))
-        by (k.Mark m.Star) = when_regular (bytes_eq f count_name) (after_regular (closed_regular m.Close (e.CountAll, 0))) (refuse_regular Syntax)
+        by (k.Mark m.Star) = when_regular (bytes_eq f count_name) (after_regular (closed_regular m.Close (e.CountAll, 0))) refuse_regular
         by t = called_regular f
 
     named_regular : (f : List ℕ) → Regular (named opens inside argument room below f) (named opens' inside' argument' room' below' f)
     unfolding named
-    named_regular f = look_regular (pure_regular (e.Column None f, 0)) by
+    named_regular f = look_at (pure_regular (e.Column None f, 0)) by
       where
-        by : (t : Symbol) → Regular (named_by opens inside argument room below f t) (named_by opens' inside' argument' room' below' f t)
-        by (k.Mark m.Dot) = after_regular (then_regular name_regular (λ n. pure_regular (e.Column (Some f) n, 0)))
-        by (k.Mark m.Open) = open_regular (after_regular (call_regular f))
-        by t = pure_regular (e.Column None f, 0)
+        by : (t : Symbol) → RegularAt t (named_by opens inside argument room below f t) (named_by opens' inside' argument' room' below' f t)
+        by (k.Mark m.Dot) = regular_at (k.Mark m.Dot) (after_regular (then_regular name_regular (λ n. pure_regular (e.Column (Some f) n, 0))))
+        by (k.Mark m.Open) = opened (k.Mark m.Open) (call_regular f)
+        by t = regular_at t (pure_regular (e.Column None f, 0))
 
     minus_regular : Regular (minus opens inside argument room below) (minus opens' inside' argument' room' below')
     unfolding minus
-    minus_regular = look_regular (refuse_regular Syntax) by
+    minus_regular = look_regular refuse_regular by
       where
         by : (t : Symbol) → Regular (minus_by opens inside argument room below t) (minus_by opens' inside' argument' room' below' t)
-        by (k.Number n) = when_regular (nat_le n (2 ^ 63)) (after_regular (pure_regular (e.Literal (values.Int (neg_ℤ (pos n))), 0))) (refuse_regular Syntax)
-        by t = then_regular (below_regular 10) (λ x. pure_regular (above (e.Unary u.Minus) x))
+        by (k.Number n) = when_regular (nat_le n (2 ^ 63)) (after_regular (pure_regular (e.Literal (values.Int (neg_ℤ (pos n))), 0))) refuse_regular
+        by t = then_regular (below_regular 10 (omega arith) (omega arith)) (λ x. pure_regular (above (e.Unary u.Minus) x))
 
     parenthesized_regular : Regular (parenthesized opens inside argument room below) (parenthesized opens' inside' argument' room' below')
     unfolding parenthesized
@@ -307,19 +431,19 @@ module _ (exact : Bool) (v v' : List Symbol) (heads : head v ≡ head v') where
     cast_regular = mark_regular m.Open (then_regular argument_regular (λ x. mark_regular m.As (then_regular type_words_regular (λ ns. closed_regular m.Close (e.Cast x.0 ns, suc x.1)))))
 
     maybe_regular : Regular {A = Maybe} (below 1 >>= (λ x. pure (Some x.0, x.1))) (below' 1 >>= (λ x. pure (Some x.0, x.1)))
-    maybe_regular = then_regular (below_regular 1) (λ x. pure_regular (Some x.0, x.1))
+    maybe_regular = then_regular (below_regular 1 (omega arith) (omega arith)) (λ x. pure_regular (Some x.0, x.1))
 
     subject_regular : Regular (subject opens inside argument room below) (subject opens' inside' argument' room' below')
     unfolding subject
-    subject_regular = look_regular (refuse_regular Syntax) (λ t. when_regular (is_mark m.When t) (pure_regular (None, 0)) maybe_regular)
+    subject_regular = look_regular refuse_regular (λ t. when_regular (is_mark m.When t) (pure_regular (None, 0)) maybe_regular)
 
     otherwise_regular : Regular (otherwise opens inside argument room below) (otherwise opens' inside' argument' room' below')
     unfolding otherwise
-    otherwise_regular = look_regular (pure_regular (None, 0)) (λ t. when_regular (is_mark m.Else t) (then_regular (mark_regular m.Else (below_regular 1)) (λ x. pure_regular (Some x.0, x.1))) (pure_regular (None, 0)))
+    otherwise_regular = look_regular (pure_regular (None, 0)) (λ t. when_regular (is_mark m.Else t) (then_regular (mark_regular m.Else (below_regular 1 (omega arith) (omega arith))) (λ x. pure_regular (Some x.0, x.1))) (pure_regular (None, 0)))
 
     pair_regular : Regular {A = When × ℕ} (below 1 >>= (λ x. expect m.Then >>= (λ _. below 1 >>= (λ y. pure (roll-When (record { when = x.0; then = y.0 }), max x.1 y.1)))))
         (below' 1 >>= (λ x. expect m.Then >>= (λ _. below' 1 >>= (λ y. pure (roll-When (record { when = x.0; then = y.0 }), max x.1 y.1)))))
-    pair_regular = then_regular (below_regular 1) (λ x. mark_regular m.Then (then_regular (below_regular 1) (λ y. pure_regular (roll-When (record { when = x.0; then = y.0 }), max x.1 y.1))))
+    pair_regular = then_regular (below_regular 1 (omega arith) (omega arith)) (λ x. mark_regular m.Then (then_regular (below_regular 1 (omega arith) (omega arith)) (λ y. pure_regular (roll-When (record { when = x.0; then = y.0 }), max x.1 y.1))))
 
     arm_regular : Regular (arm opens inside argument room below) (arm opens' inside' argument' room' below')
     unfolding arm
@@ -338,34 +462,43 @@ module _ (exact : Bool) (v v' : List Symbol) (heads : head v ≡ head v') where
     case_regular = then_regular subject_regular (λ s. then_regular arms_regular (λ all. then_regular otherwise_regular (λ o. closed_regular m.End (e.Case s.0 all.0 o.0, suc (max s.1 (max all.1 o.1))))))
 
     leaf_regular : (o : Option Expr) → Regular (leaf_by opens inside argument room below o) (leaf_by opens' inside' argument' room' below' o)
-    leaf_regular None = refuse_regular Syntax
+    leaf_regular None = refuse_regular
     leaf_regular (Some x) = after_regular (pure_regular (x, 0))
 
-    prefixed_regular : (op : Unary) (l : ℕ) → Regular (prefixed opens inside argument room below op l) (prefixed opens' inside' argument' room' below' op l)
+    below_made : (op : Unary) (l : ℕ) → 0 < l → l ≤ 10 → Regular (below l >>= (λ x. pure (above (e.Unary op) x))) (below' l >>= (λ x. pure (above (e.Unary op) x)))
+    below_made op l p q = then_regular (below_regular l p q) (λ x. pure_regular (above (e.Unary op) x))
+
+    prefixed_at : (op : Unary) (l : ℕ) (t : Symbol) → 0 < l → l ≤ 10 → RegularAt t (prefixed opens inside argument room below op l) (prefixed opens' inside' argument' room' below' op l)
     unfolding prefixed
-    prefixed_regular op l = room_regular 0 (after_regular (then_regular (below_regular l) (λ x. pure_regular (above (e.Unary op) x))))
+    prefixed_at op l t p q = roomed t (below_made op l p q)
 
-    first_regular : (least : ℕ) (t : Symbol) → Regular (first_by opens inside argument room below least t) (first_by opens' inside' argument' room' below' least t)
-    first_regular least (k.Mark m.Not) = when_regular (nat_le least 3) (prefixed_regular u.Not 3) (refuse_regular Syntax)
-    first_regular least (k.Mark m.Plus) = prefixed_regular u.Plus 10
-    first_regular least (k.Mark m.Minus) = after_regular minus_regular
-    first_regular least (k.Mark m.Open) = open_regular (after_regular parenthesized_regular)
-    first_regular least (k.Mark m.Case) = room_regular 0 (after_regular case_regular)
-    first_regular least (k.Mark m.Cast) = open_regular (room_regular 0 (after_regular cast_regular))
-    first_regular least (k.Name n) = after_regular (named_regular n)
-    first_regular least t = leaf_regular (leaf t)
+    first_at : (least : ℕ) (t : Symbol) → RegularAt t (first_by opens inside argument room below least t) (first_by opens' inside' argument' room' below' least t)
+    first_at least (k.Mark m.Not) = when_at (nat_le least 3) (λ i. prefixed_at u.Not 3 (k.Mark m.Not) (omega arith) (omega arith)) (regular_at (k.Mark m.Not) refuse_regular)
+    first_at least (k.Mark m.Plus) = prefixed_at u.Plus 10 (k.Mark m.Plus) (omega arith) (omega arith)
+    first_at least (k.Mark m.Minus) = regular_at (k.Mark m.Minus) (after_regular minus_regular)
+    first_at least (k.Mark m.Open) = opened (k.Mark m.Open) parenthesized_regular
+    first_at least (k.Mark m.Case) = roomed (k.Mark m.Case) case_regular
+    first_at least (k.Mark m.Cast) = open_at takes (roomed (k.Mark m.Cast) cast_regular)
+      where
+        takes : exact ≡ false → (ts : List Symbol) → Within (length ts) (if nat_lt 0 room' then cast opens' inside' argument' room' below' ts else Fails Deep (k.Mark m.Cast ∷ ts))
+        takes e ts = subst (λ z. Within (length ts) (if z then cast opens' inside' argument' room' below' ts else Fails Deep (k.Mark m.Cast ∷ ts))) (sym (lt-ltb 0 room' (omega (arith, more_room e)))) (cast_regular.shrinks_too ts)
+    first_at least (k.Name n) = regular_at (k.Name n) (after_regular (named_regular n))
+    first_at least t = regular_at t (leaf_regular (leaf t))
 
-    operated_regular : (left : Sized) (l : ℕ) (op : Binary) → Regular (operated opens inside argument room below left l op) (operated opens' inside' argument' room' below' left l op)
+    operated_regular : (left : Sized) (l : ℕ) (op : Binary) → 0 < l → l ≤ 10 → Regular (operated opens inside argument room below left l op) (operated opens' inside' argument' room' below' left l op)
     unfolding operated
-    operated_regular left l op = then_regular (below_regular l) (λ x. pure_regular (joined op left x))
+    operated_regular left l op p q = then_regular (below_regular l p q) (λ x. pure_regular (joined op left x))
+
+    tied_regular : (left : Sized) (op : Binary) → Regular (operated opens inside argument room below left 5 op) (operated opens' inside' argument' room' below' left 5 op)
+    tied_regular left op = operated_regular left 5 op (omega arith) (omega arith)
 
     is_regular : (left : Sized) → Regular (is opens inside argument room below left) (is opens' inside' argument' room' below' left)
     unfolding is
-    is_regular left = then_regular (eat_regular m.Not) (λ n. operated_regular left 5 (if n then b.IsNot else b.Is))
+    is_regular left = then_regular (eat_regular m.Not) (λ n. tied_regular left (if n then b.IsNot else b.Is))
 
     between_regular : (n : Bool) (left : Sized) → Regular (between opens inside argument room below n left) (between opens' inside' argument' room' below' n left)
     unfolding between
-    between_regular n left = then_regular (below_regular 5) (λ low. mark_regular m.And (then_regular (below_regular 5) (λ high. pure_regular (e.Between n left.0 low.0 high.0, suc (max left.1 (max low.1 high.1))))))
+    between_regular n left = then_regular (below_regular 5 (omega arith) (omega arith)) (λ low. mark_regular m.And (then_regular (below_regular 5 (omega arith) (omega arith)) (λ high. pure_regular (e.Between n left.0 low.0 high.0, suc (max left.1 (max low.1 high.1))))))
 
     among_regular : (n : Bool) (left : Sized) → Regular (among opens inside argument room below n left) (among opens' inside' argument' room' below' n left)
     unfolding among
@@ -373,54 +506,143 @@ module _ (exact : Bool) (v v' : List Symbol) (heads : head v ≡ head v') where
 
     negated_regular : (left : Sized) → Regular (negated opens inside argument room below left) (negated opens' inside' argument' room' below' left)
     unfolding negated
-    negated_regular left = look_regular (refuse_regular Syntax) by
+    negated_regular left = look_at refuse_regular by
       where
-        by : (t : Symbol) → Regular (negated_by opens inside argument room below left t) (negated_by opens' inside' argument' room' below' left t)
-        by (k.Mark m.Null) = after_regular (pure_regular (above (e.Unary u.NotNull) left))
-        by (k.Mark m.Like) = after_regular (operated_regular left 5 b.NotLike)
-        by (k.Mark m.Between) = after_regular (between_regular true left)
-        by (k.Mark m.In) = open_regular (after_regular (among_regular true left))
-        by t = refuse_regular Syntax
+        by : (t : Symbol) → RegularAt t (negated_by opens inside argument room below left t) (negated_by opens' inside' argument' room' below' left t)
+        by (k.Mark m.Null) = regular_at (k.Mark m.Null) (after_regular (pure_regular (above (e.Unary u.NotNull) left)))
+        by (k.Mark m.Like) = regular_at (k.Mark m.Like) (after_regular (tied_regular left b.NotLike))
+        by (k.Mark m.Between) = regular_at (k.Mark m.Between) (after_regular (between_regular true left))
+        by (k.Mark m.In) = opened (k.Mark m.In) (among_regular true left)
+        by t = regular_at t refuse_regular
 
     operator_regular : (left : Sized) (t : Symbol) (o : Option Binary) → Regular (operated_by opens inside argument room below left t o) (operated_by opens' inside' argument' room' below' left t o)
-    operator_regular left t None = refuse_regular Syntax
-    operator_regular left t (Some op) = after_regular (operated_regular left (suc (binding t)) op)
+    operator_regular left t None = refuse_regular
+    operator_regular left t (Some op) = after_regular (operated_regular left (suc (binding t)) op (omega arith) (omega (arith, binding_low t)))
+
+    named_collation : (left : Sized) → Regular {A = Sized} (name >>= (λ c. pure (e.Collate left.0 c, suc left.1))) (name >>= (λ c. pure (e.Collate left.0 c, suc left.1)))
+    named_collation left = then_regular name_regular (λ c. pure_regular (e.Collate left.0 c, suc left.1))
 
     tail_regular : (left : Sized) → Regular (tail opens inside argument room below left) (tail opens' inside' argument' room' below' left)
     unfolding tail
-    tail_regular left = look_regular (refuse_regular Syntax) by
+    tail_regular left = look_at refuse_regular by
       where
-        by : (t : Symbol) → Regular (tail_by opens inside argument room below left t) (tail_by opens' inside' argument' room' below' left t)
-        by (k.Mark m.Not) = after_regular (negated_regular left)
-        by (k.Mark m.Is) = after_regular (is_regular left)
-        by (k.Mark m.In) = open_regular (after_regular (among_regular false left))
-        by (k.Mark m.Between) = after_regular (between_regular false left)
-        by (k.Mark m.IsNull) = after_regular (pure_regular (above (e.Unary u.IsNull) left))
-        by (k.Mark m.NotNull) = after_regular (pure_regular (above (e.Unary u.NotNull) left))
-        by (k.Mark m.Collate) = after_regular (then_regular name_regular (λ c. pure_regular (e.Collate left.0 c, suc left.1)))
-        by t = operator_regular left t (operator_of t)
+        by : (t : Symbol) → RegularAt t (tail_by opens inside argument room below left t) (tail_by opens' inside' argument' room' below' left t)
+        by (k.Mark m.Not) = regular_at (k.Mark m.Not) (after_regular (negated_regular left))
+        by (k.Mark m.Is) = regular_at (k.Mark m.Is) (after_regular (is_regular left))
+        by (k.Mark m.In) = opened (k.Mark m.In) (among_regular false left)
+        by (k.Mark m.Between) = regular_at (k.Mark m.Between) (after_regular (between_regular false left))
+        by (k.Mark m.IsNull) = regular_at (k.Mark m.IsNull) (after_regular (pure_regular (above (e.Unary u.IsNull) left)))
+        by (k.Mark m.NotNull) = regular_at (k.Mark m.NotNull) (after_regular (pure_regular (above (e.Unary u.NotNull) left)))
+        by (k.Mark m.Collate) = regular_at (k.Mark m.Collate) (after_regular (named_collation left))
+        by t = regular_at t (operator_regular left t (operator_of t))
 
-    climb_regular : (n n' least most : ℕ) (left : Sized) → n ≤ n' → (exact ≡ true → n ≡ n') → Regular (climb opens inside argument room below n least most left) (climb opens' inside' argument' room' below' n' least most left)
+    -- what can stand behind an operand is taken
+    operator_taken : (left : Sized) (l : ℕ) (op : Binary) (ts : List Symbol) → 0 < l → l ≤ 10 → Within (length ts) (operated opens' inside' argument' room' below' left l op ts)
+    operator_taken left l op ts p q = (operated_regular left l op p q).shrinks_too ts
+
+    tail_takes : exact ≡ false → (left : Sized) (t : Symbol) → 0 < binding t → TakesOne t (tail opens' inside' argument' room' below' left)
+    unfolding tail
+    tail_takes i left (k.Mark m.Not) h ts = (negated_regular left).shrinks_too ts
+    tail_takes i left (k.Mark m.Is) h ts = (is_regular left).shrinks_too ts
+    tail_takes i left (k.Mark m.In) h ts = subst (λ z. Within (length ts) (if z then among opens' inside' argument' room' below' false left ts else Fails Deep (k.Mark m.In ∷ ts))) (sym (lt-ltb 0 opens' (omega (arith, more_opens i)))) ((among_regular false left).shrinks_too ts)
+    tail_takes i left (k.Mark m.Between) h ts = (between_regular false left).shrinks_too ts
+    tail_takes i left (k.Mark m.IsNull) h ts = omega arith
+    tail_takes i left (k.Mark m.NotNull) h ts = omega arith
+    tail_takes i left (k.Mark m.Collate) h ts = (named_collation left).shrinks_too ts
+    tail_takes i left (k.Mark m.Or) h ts = operator_taken left 2 b.Or ts (omega arith) (omega arith)
+    tail_takes i left (k.Mark m.And) h ts = operator_taken left 3 b.And ts (omega arith) (omega arith)
+    tail_takes i left (k.Mark m.Equal) h ts = operator_taken left 5 b.Equal ts (omega arith) (omega arith)
+    tail_takes i left (k.Mark m.DoubleEqual) h ts = operator_taken left 5 b.Equal ts (omega arith) (omega arith)
+    tail_takes i left (k.Mark m.Unequal) h ts = operator_taken left 5 b.Unequal ts (omega arith) (omega arith)
+    tail_takes i left (k.Mark m.BangEqual) h ts = operator_taken left 5 b.Unequal ts (omega arith) (omega arith)
+    tail_takes i left (k.Mark m.Like) h ts = operator_taken left 5 b.Like ts (omega arith) (omega arith)
+    tail_takes i left (k.Mark m.Less) h ts = operator_taken left 6 b.Less ts (omega arith) (omega arith)
+    tail_takes i left (k.Mark m.AtMost) h ts = operator_taken left 6 b.AtMost ts (omega arith) (omega arith)
+    tail_takes i left (k.Mark m.Greater) h ts = operator_taken left 6 b.Greater ts (omega arith) (omega arith)
+    tail_takes i left (k.Mark m.AtLeast) h ts = operator_taken left 6 b.AtLeast ts (omega arith) (omega arith)
+    tail_takes i left (k.Mark m.Plus) h ts = operator_taken left 7 b.Add ts (omega arith) (omega arith)
+    tail_takes i left (k.Mark m.Minus) h ts = operator_taken left 7 b.Subtract ts (omega arith) (omega arith)
+    tail_takes i left (k.Mark m.Star) h ts = operator_taken left 8 b.Multiply ts (omega arith) (omega arith)
+    tail_takes i left (k.Mark m.Slash) h ts = operator_taken left 8 b.Divide ts (omega arith) (omega arith)
+    tail_takes i left (k.Mark m.Percent) h ts = operator_taken left 8 b.Remainder ts (omega arith) (omega arith)
+    tail_takes i left (k.Mark m.Bars) h ts = operator_taken left 9 b.Join ts (omega arith) (omega arith)
+    tail_takes i left _ h ts = absurd (omega (arith, h))
+
+    climbs : (n least most : ℕ) (left : Sized) (ts : List Symbol) → Within (length ts) (climb opens inside argument room below n least most left ts)
+    climbs = climb_small opens inside argument room below (λ left ts. (tail_regular left).shrinks ts)
+
+    climbs_too : (n least most : ℕ) (left : Sized) (ts : List Symbol) → Within (length ts) (climb opens' inside' argument' room' below' n least most left ts)
+    climbs_too = climb_small opens' inside' argument' room' below' (λ left ts. (tail_regular left).shrinks_too ts)
+
+    -- one more turn of climbing
+    turn_at : (b : Bool) (n n' least : ℕ) (left : Sized) (t : Symbol) → (b ≡ true → nat_lt left.1 room' ≡ true) → (exact ≡ true → b ≡ nat_lt left.1 room') → (exact ≡ false → left.1 ≤ room) → 0 < binding t
+        → (b ≡ true → (x : Sized) (ts p : List Symbol) → head ts ≡ Some t → tail opens inside argument room below left ts ≡ Reads x (p ++ v)
+        → Track (climb opens inside argument room below n least (binding t) x (p ++ v)) (climb opens' inside' argument' room' below' n' least (binding t) x (p ++ v')))
+        → RegularAt t (when b (tail opens inside argument room below left >>= climb opens inside argument room below n least (binding t)) (refuse Deep))
+        (when (nat_lt left.1 room') (tail opens' inside' argument' room' below' left >>= climb opens' inside' argument' room' below' n' least (binding t)) (refuse Deep))
+    turn_at b n n' least left t h s low some again = limit_at h s (λ e. lt-ltb left.1 room' (omega (arith, low e, more_room e)))
+        (λ ts. within_then (climb opens' inside' argument' room' below' n' least (binding t)) (climbs_too n' least (binding t)) (length ts) (tail opens' inside' argument' room' below' left ts) ((tail_regular left).shrinks_too ts))
+        (λ e ts. within_then (climb opens' inside' argument' room' below' n' least (binding t)) (climbs_too n' least (binding t)) (length ts) (tail opens' inside' argument' room' below' left (t ∷ ts)) (tail_takes e left t some ts))
+        (λ i. then_at (climb opens inside argument room below n least (binding t)) (climb opens' inside' argument' room' below' n' least (binding t)) (regular_at t (tail_regular left)) (climbs n least (binding t)) (climbs_too n' least (binding t)) (again i))
+
+    climb_regular : (n n' least most : ℕ) (left : Sized) → (exact ≡ false → n < n') → (exact ≡ true → n ≡ n') → 0 < least → (exact ≡ false → left.1 ≤ room)
+        → Regular (climb opens inside argument room below n least most left) (climb opens' inside' argument' room' below' n' least most left)
     unfolding climb
-    climb_regular zero zero least most left h s = look_regular (pure_regular left) (λ t. when_regular (nat_le least (binding t)) (when_regular (nat_le (binding t) most) (refuse_regular Deep) (pure_regular left)) (pure_regular left))
-    climb_regular zero (suc n') least most left h s = look_regular (pure_regular left) (λ t. when_regular (nat_le least (binding t)) (when_regular (nat_le (binding t) most) (out t) (pure_regular left)) (pure_regular left))
+    climb_regular zero zero least most left h s p low = look_at (pure_regular left) (λ t. when_at (nat_le least (binding t)) (λ i. when_at (nat_le (binding t) most) (λ j. shut t) (regular_at t (pure_regular left))) (regular_at t (pure_regular left)))
       where
-        inexact : exact ≡ false
-        inexact = elim exact as (λ v. (v ≡ true → zero ≡ suc n') → v ≡ false) [ true ↦ (λ s. absurd (omega (arith, s refl))) | false ↦ (λ s. refl) ] s
-
-        out : (t : Symbol) → Regular (refuse Deep) (when (nat_lt left.1 room') (tail opens' inside' argument' room' below' left >>= climb opens' inside' argument' room' below' n' least (binding t)) (refuse Deep))
-        out t = record { shrinks = λ ts. omega arith; tracks = λ p. deeper (p ++ v) inexact refl }
-    climb_regular (suc n) zero least most left h s = absurd (omega (arith, h))
-    climb_regular (suc n) (suc n') least most left h s = look_regular (pure_regular left) (λ t. turn (λ b x. climb_regular n n' least b x (omega (arith, h)) (λ i. omega (arith, s i))) t)
+        shut : (t : Symbol) → RegularAt {A = Sized} t (refuse Deep) (refuse Deep)
+        shut t = record { shrinks = λ ts. omega arith; shrinks_too = λ ts. omega arith; tracks = λ p i. same_fails Deep p (λ e. absurd (omega (arith, h e))) refl refl }
+    climb_regular zero (suc n') least most left h s p low = look_at (pure_regular left) (λ t. when_at (nat_le least (binding t)) (λ i. when_at (nat_le (binding t) most) (λ j. out t (omega (arith, p, leb-true least (binding t) i))) (regular_at t (pure_regular left))) (regular_at t (pure_regular left)))
       where
-        turn : ((b : ℕ) (x : Sized) → Regular (climb opens inside argument room below n least b x) (climb opens' inside' argument' room' below' n' least b x)) → (t : Symbol)
-            → Regular (when (nat_le least (binding t)) (when (nat_le (binding t) most) (when (nat_lt left.1 room) (tail opens inside argument room below left >>= climb opens inside argument room below n least (binding t)) (refuse Deep)) (pure left)) (pure left))
+        out : (t : Symbol) → 0 < binding t → RegularAt t (refuse Deep) (when (nat_lt left.1 room') (tail opens' inside' argument' room' below' left >>= climb opens' inside' argument' room' below' n' least (binding t)) (refuse Deep))
+        out t some = turn_at false n' n' least left t (λ i. absurd (cc)) (λ e. absurd (omega (arith, s e))) low some (λ i. absurd (cc))
+    climb_regular (suc n) zero least most left h s p low = let i : exact ≡ false = not_true exact (λ e. omega (arith, s e)) in absurd (omega (arith, h i))
+    climb_regular (suc n) (suc n') least most left h s p low = look_at (pure_regular left) (λ t. turn (λ b x l. climb_regular n n' least b x (λ e. omega (arith, h e)) (λ e. omega (arith, s e)) p l) t)
+      where
+        turn : ((b : ℕ) (x : Sized) → (exact ≡ false → x.1 ≤ room) → Regular (climb opens inside argument room below n least b x) (climb opens' inside' argument' room' below' n' least b x)) → (t : Symbol)
+            → RegularAt t (when (nat_le least (binding t)) (when (nat_le (binding t) most) (when (nat_lt left.1 room) (tail opens inside argument room below left >>= climb opens inside argument room below n least (binding t)) (refuse Deep)) (pure left)) (pure left))
             (when (nat_le least (binding t)) (when (nat_le (binding t) most) (when (nat_lt left.1 room') (tail opens' inside' argument' room' below' left >>= climb opens' inside' argument' room' below' n' least (binding t)) (refuse Deep)) (pure left)) (pure left))
-        turn again t = when_regular (nat_le least (binding t)) (when_regular (nat_le (binding t) most) (room_regular left.1 (then_regular (tail_regular left) (λ x. again (binding t) x))) (pure_regular left)) (pure_regular left)
+        turn again t = when_at (nat_le least (binding t)) (λ i. when_at (nat_le (binding t) most) (λ j. let some : 0 < binding t = omega (arith, p, leb-true least (binding t) i) in
+            turn_at (nat_lt left.1 room) n n' least left t (wider more_room same_room left.1) (λ e. ap (nat_lt left.1) (same_room e)) low some
+            (λ c x ts q hd eq. (again (binding t) x (λ e. tail_low e left t ts x (q ++ v) hd some (ltb-true left.1 room c) eq)).tracks q))
+            (regular_at t (pure_regular left))) (regular_at t (pure_regular left))
 
-    level_regular : (least : ℕ) → Regular (level opens inside argument room below least) (level opens' inside' argument' room' below' least)
+    level_regular : (least : ℕ) → 0 < least → least ≤ 10 → Regular (level opens inside argument room below least) (level opens' inside' argument' room' below' least)
     unfolding level
-    level_regular least = look_regular (refuse_regular Syntax) (λ t. then_regular (first_regular least t) (λ x. climb_regular room room' least (ceiling t) x more_room same_room))
+    level_regular least p q = look_at refuse_regular (λ t. then_at (climb opens inside argument room below room least (ceiling t)) (climb opens' inside' argument' room' below' room' least (ceiling t)) (first_at least t) (climbs room least (ceiling t)) (climbs_too room' least (ceiling t))
+        (λ x ts r hd eq. (climb_regular room room' least (ceiling t) x (λ e. omega (arith, more_room e)) same_room p (λ e. first_low e least p q t ts x (r ++ v) hd eq)).tracks r))
+
+    -- ---- what begins an expression is taken where there is room
+
+    module _ (some_opens : 0 < opens) (some_room : 0 < room) where
+      prefixed_takes : (op : Unary) (l : ℕ) (t : Symbol) (ts : List Symbol) → 0 < l → l ≤ 10 → Within (length ts) (prefixed opens inside argument room below op l (t ∷ ts))
+      unfolding prefixed
+      prefixed_takes op l t ts p q = subst (λ z. Within (length ts) (if z then and_then (below l ts) (λ x. pure (above (e.Unary op) x)) else Fails Deep (t ∷ ts))) (sym (lt-ltb 0 room some_room)) ((below_made op l p q).shrinks ts)
+
+      number_takes : (least n : ℕ) (ts : List Symbol) (o : Option Expr) → begins_by least (k.Number n) o ≡ true → Within (length ts) (leaf_by opens inside argument room below o (k.Number n ∷ ts))
+      number_takes least n ts None h = absurd (cc)
+      number_takes least n ts (Some x) h = omega arith
+
+      first_takes : (least : ℕ) (t : Symbol) (ts : List Symbol) → begins_by least t (leaf t) ≡ true → Within (length ts) (first_by opens inside argument room below least t (t ∷ ts))
+      first_takes least (k.Mark m.Not) ts h = subst (λ z. Within (length ts) (if z then prefixed opens inside argument room below u.Not 3 (k.Mark m.Not ∷ ts) else Fails Syntax (k.Mark m.Not ∷ ts))) (sym h) (prefixed_takes u.Not 3 (k.Mark m.Not) ts (omega arith) (omega arith))
+      first_takes least (k.Mark m.Plus) ts h = prefixed_takes u.Plus 10 (k.Mark m.Plus) ts (omega arith) (omega arith)
+      first_takes least (k.Mark m.Minus) ts h = minus_regular.shrinks ts
+      first_takes least (k.Mark m.Open) ts h = subst (λ z. Within (length ts) (if z then parenthesized opens inside argument room below ts else Fails Deep (k.Mark m.Open ∷ ts))) (sym (lt-ltb 0 opens some_opens)) (parenthesized_regular.shrinks ts)
+      first_takes least (k.Mark m.Case) ts h = subst (λ z. Within (length ts) (if z then case opens inside argument room below ts else Fails Deep (k.Mark m.Case ∷ ts))) (sym (lt-ltb 0 room some_room)) (case_regular.shrinks ts)
+      first_takes least (k.Mark m.Cast) ts h = subst (λ z. Within (length ts) (if z then if nat_lt 0 room then cast opens inside argument room below ts else Fails Deep (k.Mark m.Cast ∷ ts) else Fails Deep (k.Mark m.Cast ∷ ts))) (sym (lt-ltb 0 opens some_opens))
+          (subst (λ z. Within (length ts) (if z then cast opens inside argument room below ts else Fails Deep (k.Mark m.Cast ∷ ts))) (sym (lt-ltb 0 room some_room)) (cast_regular.shrinks ts))
+      first_takes least (k.Name n) ts h = (named_regular n).shrinks ts
+      first_takes least (k.Number n) ts h = number_takes least n ts (leaf (k.Number n)) h
+      first_takes least (k.Bits i) ts h = omega arith
+      first_takes least (k.Text x) ts h = omega arith
+      first_takes least (k.Blob x) ts h = omega arith
+      first_takes least (k.Param n) ts h = omega arith
+      first_takes least (k.Mark m.Null) ts h = omega arith
+      first_takes least _ ts h = absurd (cc)
+
+      level_takes : (least : ℕ) → Takes least (level opens inside argument room below least)
+      unfolding level begins
+      level_takes least t h ts = within_then (climb opens inside argument room below room least (ceiling t)) (climbs room least (ceiling t)) (length ts) (first_by opens inside argument room below least t (t ∷ ts)) (first_takes least t ts h)
 
   -- ---- what begins no expression is refused
 
@@ -449,44 +671,91 @@ module _ (exact : Bool) (v v' : List Symbol) (heads : head v ≡ head v') where
 
   -- ---- at every two limits
 
-  -- a parser that there is only where the limits leave room
-  limited : (b b' : Bool) (least : ℕ) (f f' g g' : Parser Sized) → (b ≡ true → b' ≡ true) → (exact ≡ true → b ≡ b') → (b ≡ true → (ts : List Symbol) → f ts ≡ g ts) → (b ≡ false → (ts : List Symbol) → f ts ≡ too_high least ts)
-      → (b' ≡ true → (ts : List Symbol) → f' ts ≡ g' ts) → (b' ≡ false → (ts : List Symbol) → f' ts ≡ too_high least ts) → Refuses least g' → (b ≡ true → b' ≡ true → Regular g g') → Regular f f'
-  limited true true least f f' g g' h s i j i' j' n r = same_regular (i refl) (i' refl) (r refl refl)
-  limited true false least f f' g g' h s i j i' j' n r = absurd (cc (h refl))
-  limited false false least f f' g g' h s i j i' j' n r = same_regular (j refl) (j' refl) (too_high_regular least)
-  limited false true least f f' g g' h s i j i' j' n r = same_regular (j refl) (i' refl) (high_regular least g' (inexact s) n)
-    where
-      inexact : (exact ≡ true → false ≡ true) → exact ≡ false
-      inexact s = elim exact as (λ v. (v ≡ true → false ≡ true) → v ≡ false) [ true ↦ (λ s. absurd (cc (s refl))) | false ↦ (λ s. refl) ] s
+  -- what the wider parsers do, where the limits are not the same
+  record Roomy (f : Parser Sized) (least : ℕ) : Type 0 where
+    small : (ts : List Symbol) → Within (length ts) (f ts)
+    taking : Takes least f
 
-  more_below : (x y : ℕ) → x ≤ y → nat_lt 0 x ≡ true → nat_lt 0 y ≡ true
-  more_below x y h t = lt-ltb 0 y (omega (arith, h, ltb-true 0 x t))
+  -- a parser that there is only where the limits leave room
+  limited : (b b' : Bool) (least : ℕ) (f f' g g' : Parser Sized) → (b ≡ true → b' ≡ true) → (exact ≡ true → b ≡ b') → (exact ≡ false → b' ≡ true) → (b ≡ true → (ts : List Symbol) → f ts ≡ g ts) → (b ≡ false → (ts : List Symbol) → f ts ≡ too_high least ts)
+      → (b' ≡ true → (ts : List Symbol) → f' ts ≡ g' ts) → (b' ≡ false → (ts : List Symbol) → f' ts ≡ too_high least ts) → Refuses least g' → (exact ≡ false → Roomy g' least) → (b ≡ true → b' ≡ true → Regular g g') → Regular f f'
+  limited true true least f f' g g' h s w i j i' j' n k r = same_regular (i refl) (i' refl) (r refl refl)
+  limited true false least f f' g g' h s w i j i' j' n k r = absurd (cc (h refl))
+  limited false false least f f' g g' h s w i j i' j' n k r = same_regular (j refl) (j' refl) (too_high_regular least (not_false exact (λ e. absurd (cc (w e)))))
+  limited false true least f f' g g' h s w i j i' j' n k r = let inexact : exact ≡ false = not_true exact (λ e. absurd (cc (s e))) in same_regular (j refl) (i' refl) (high_regular least g' inexact n (k inexact).taking (k inexact).small)
 
   argument_none : (opens room : ℕ) (ts : List Symbol) → min opens room ≡ 0 → argument_of opens room ts ≡ too_high {A = Sized} 1 ts
   argument_none zero room ts h = argument_shut zero room ts refl
   argument_none (suc opens) zero ts h = argument_high (suc opens) zero ts refl
   argument_none (suc opens) (suc room) ts h = absurd (omega (arith, h))
 
-  step : (opens room opens' room' least : ℕ) → opens ≤ opens' → (exact ≡ true → opens ≡ opens') → room ≤ room' → (exact ≡ true → room ≡ room')
-      → ((o r o' r' l : ℕ) → o' + r' < opens' + room' → o ≤ o' → (exact ≡ true → o ≡ o') → r ≤ r' → (exact ≡ true → r ≡ r') → Regular (expr o r l) (expr o' r' l)) → Regular (expr opens room least) (expr opens' room' least)
-  step opens room opens' room' least o so r sr smaller = same_regular (expr_level opens room least) (expr_level opens' room' least)
-      (level_regular opens (inside_of opens room) (argument_of opens room) room (below_of opens room) opens' (inside_of opens' room') (argument_of opens' room') room' (below_of opens' room') o so r sr
-      (limited (nat_lt 0 opens) (nat_lt 0 opens') 1 (inside_of opens room) (inside_of opens' room') (expr (opens - 1) room 1) (expr (opens' - 1) room' 1) (more_below opens opens' o) (λ i. ap (nat_lt 0) (so i))
-      (λ t ts. inside_expr opens room ts (ltb-true 0 opens t)) (λ t ts. inside_shut opens room ts (omega (arith, ltb-false 0 opens t)))
-      (λ t ts. inside_expr opens' room' ts (ltb-true 0 opens' t)) (λ t ts. inside_shut opens' room' ts (omega (arith, ltb-false 0 opens' t))) (expr_refuses (opens' - 1) room' 1)
-      (λ t t'. smaller (opens - 1) room (opens' - 1) room' 1 (omega (arith, ltb-true 0 opens' t')) (omega (arith, o)) (λ i. ap (λ z. z - 1) (so i)) r sr))
-      (limited (nat_lt 0 (min opens room)) (nat_lt 0 (min opens' room')) 1 (argument_of opens room) (argument_of opens' room') (expr (opens - 1) (room - 1) 1) (expr (opens' - 1) (room' - 1) 1)
-      (more_below (min opens room) (min opens' room') (omega (arith, o, r))) (λ i. ap (λ z. nat_lt 0 (min z room)) (so i) ∙ ap (λ z. nat_lt 0 (min opens' z)) (sr i))
-      (λ t ts. argument_expr opens room ts (omega (arith, ltb-true 0 (min opens room) t)) (omega (arith, ltb-true 0 (min opens room) t))) (λ t ts. argument_none opens room ts (omega (arith, ltb-false 0 (min opens room) t)))
-      (λ t ts. argument_expr opens' room' ts (omega (arith, ltb-true 0 (min opens' room') t)) (omega (arith, ltb-true 0 (min opens' room') t))) (λ t ts. argument_none opens' room' ts (omega (arith, ltb-false 0 (min opens' room') t))) (expr_refuses (opens' - 1) (room' - 1) 1)
-      (λ t t'. smaller (opens - 1) (room - 1) (opens' - 1) (room' - 1) 1 (omega (arith, ltb-true 0 (min opens' room') t')) (omega (arith, o)) (λ i. ap (λ z. z - 1) (so i)) (omega (arith, r)) (λ i. ap (λ z. z - 1) (sr i))))
-      (λ l. limited (nat_lt 0 room) (nat_lt 0 room') l (below_of opens room l) (below_of opens' room' l) (expr opens (room - 1) l) (expr opens' (room' - 1) l) (more_below room room' r) (λ i. ap (nat_lt 0) (sr i))
-      (λ t ts. below_expr opens room l ts (ltb-true 0 room t)) (λ t ts. below_high opens room l ts (omega (arith, ltb-false 0 room t)))
-      (λ t ts. below_expr opens' room' l ts (ltb-true 0 room' t)) (λ t ts. below_high opens' room' l ts (omega (arith, ltb-false 0 room' t))) (expr_refuses opens' (room' - 1) l)
-      (λ t t'. smaller opens (room - 1) opens' (room' - 1) l (omega (arith, ltb-true 0 room' t')) o so (omega (arith, r)) (λ i. ap (λ z. z - 1) (sr i))))
-      least)
+  record Parts (opens room opens' room' : ℕ) : Type 0 where
+    of_inside : Regular (inside_of opens room) (inside_of opens' room')
+    of_argument : Regular (argument_of opens room) (argument_of opens' room')
+    of_below : (l : ℕ) → 0 < l → l ≤ 10 → Regular (below_of opens room l) (below_of opens' room' l)
 
-  pub expr_regular : (n opens room opens' room' least : ℕ) → opens' + room' ≤ n → opens ≤ opens' → (exact ≡ true → opens ≡ opens') → room ≤ room' → (exact ≡ true → room ≡ room') → Regular (expr opens room least) (expr opens' room' least)
-  expr_regular zero opens room opens' room' least h o so r sr = step opens room opens' room' least o so r sr (λ p q p' q' l i. absurd (omega (arith, h, i)))
-  expr_regular (suc n) opens room opens' room' least h o so r sr = step opens room opens' room' least o so r sr (λ p q p' q' l i. expr_regular n p q p' q' l (omega (arith, h, i)))
+  module _ (wide : exact ≡ false → (opens room least : ℕ) → 0 < least → least ≤ 10 → 0 < opens → 0 < room → Roomy (expr opens room least) least) where
+    parts : (opens room opens' room' : ℕ) → (exact ≡ false → opens + 2 ≤ opens') → (exact ≡ true → opens ≡ opens') → (exact ≡ false → room + 2 ≤ room') → (exact ≡ true → room ≡ room')
+        → ((o r o' r' l : ℕ) → o' + r' < opens' + room' → (exact ≡ false → o + 2 ≤ o') → (exact ≡ true → o ≡ o') → (exact ≡ false → r + 2 ≤ r') → (exact ≡ true → r ≡ r') → 0 < l → l ≤ 10 → Regular (expr o r l) (expr o' r' l)) → Parts opens room opens' room'
+    parts opens room opens' room' o so r sr smaller = record {
+      of_inside = limited (nat_lt 0 opens) (nat_lt 0 opens') 1 (inside_of opens room) (inside_of opens' room') (expr (opens - 1) room 1) (expr (opens' - 1) room' 1) (more opens opens' o so) (λ i. ap (nat_lt 0) (so i)) (λ i. lt-ltb 0 opens' (omega (arith, o i)))
+          (λ t ts. inside_expr opens room ts (ltb-true 0 opens t)) (λ t ts. inside_shut opens room ts (omega (arith, ltb-false 0 opens t)))
+          (λ t ts. inside_expr opens' room' ts (ltb-true 0 opens' t)) (λ t ts. inside_shut opens' room' ts (omega (arith, ltb-false 0 opens' t))) (expr_refuses (opens' - 1) room' 1)
+          (λ i. wide i (opens' - 1) room' 1 (omega arith) (omega arith) (omega (arith, o i)) (omega (arith, r i)))
+          (λ t t'. smaller (opens - 1) room (opens' - 1) room' 1 (omega (arith, ltb-true 0 opens' t')) (λ i. omega (arith, o i, ltb-true 0 opens t)) (λ i. ap (λ z. z - 1) (so i)) r sr (omega arith) (omega arith));
+      of_argument = limited (nat_lt 0 (min opens room)) (nat_lt 0 (min opens' room')) 1 (argument_of opens room) (argument_of opens' room') (expr (opens - 1) (room - 1) 1) (expr (opens' - 1) (room' - 1) 1)
+          (more (min opens room) (min opens' room') (λ i. omega (arith, o i, r i)) (λ i. ap (λ z. min z room) (so i) ∙ ap (λ z. min opens' z) (sr i))) (λ i. ap (λ z. nat_lt 0 (min z room)) (so i) ∙ ap (λ z. nat_lt 0 (min opens' z)) (sr i)) (λ i. lt-ltb 0 (min opens' room') (omega (arith, o i, r i)))
+          (λ t ts. argument_expr opens room ts (omega (arith, ltb-true 0 (min opens room) t)) (omega (arith, ltb-true 0 (min opens room) t))) (λ t ts. argument_none opens room ts (omega (arith, ltb-false 0 (min opens room) t)))
+          (λ t ts. argument_expr opens' room' ts (omega (arith, ltb-true 0 (min opens' room') t)) (omega (arith, ltb-true 0 (min opens' room') t))) (λ t ts. argument_none opens' room' ts (omega (arith, ltb-false 0 (min opens' room') t))) (expr_refuses (opens' - 1) (room' - 1) 1)
+          (λ i. wide i (opens' - 1) (room' - 1) 1 (omega arith) (omega arith) (omega (arith, o i)) (omega (arith, r i)))
+          (λ t t'. smaller (opens - 1) (room - 1) (opens' - 1) (room' - 1) 1 (omega (arith, ltb-true 0 (min opens' room') t')) (λ i. omega (arith, o i, ltb-true 0 (min opens room) t)) (λ i. ap (λ z. z - 1) (so i)) (λ i. omega (arith, r i, ltb-true 0 (min opens room) t)) (λ i. ap (λ z. z - 1) (sr i)) (omega arith) (omega arith));
+      of_below = λ l p q. limited (nat_lt 0 room) (nat_lt 0 room') l (below_of opens room l) (below_of opens' room' l) (expr opens (room - 1) l) (expr opens' (room' - 1) l) (more room room' r sr) (λ i. ap (nat_lt 0) (sr i)) (λ i. lt-ltb 0 room' (omega (arith, r i)))
+          (λ t ts. below_expr opens room l ts (ltb-true 0 room t)) (λ t ts. below_high opens room l ts (omega (arith, ltb-false 0 room t)))
+          (λ t ts. below_expr opens' room' l ts (ltb-true 0 room' t)) (λ t ts. below_high opens' room' l ts (omega (arith, ltb-false 0 room' t))) (expr_refuses opens' (room' - 1) l)
+          (λ i. wide i opens' (room' - 1) l p q (omega (arith, o i)) (omega (arith, r i)))
+          (λ t t'. smaller opens (room - 1) opens' (room' - 1) l (omega (arith, ltb-true 0 room' t')) o so (λ i. omega (arith, r i, ltb-true 0 room t)) (λ i. ap (λ z. z - 1) (sr i)) p q);
+    }
+      where
+        more : (x y : ℕ) → (exact ≡ false → x + 2 ≤ y) → (exact ≡ true → x ≡ y) → nat_lt 0 x ≡ true → nat_lt 0 y ≡ true
+        more x y w s t = at exact refl
+          where
+            at : (b : Bool) → exact ≡ b → nat_lt 0 y ≡ true
+            at true e = ap (nat_lt 0) (sym (s e)) ∙ t
+            at false e = lt-ltb 0 y (omega (arith, w e))
+
+    step : (opens room opens' room' least : ℕ) → (exact ≡ false → opens + 2 ≤ opens') → (exact ≡ true → opens ≡ opens') → (exact ≡ false → room + 2 ≤ room') → (exact ≡ true → room ≡ room') → 0 < least → least ≤ 10
+        → Parts opens room opens' room' → Regular (expr opens room least) (expr opens' room' least)
+    step opens room opens' room' least o so r sr p q of = same_regular (expr_level opens room least) (expr_level opens' room' least)
+        (level_regular opens (inside_of opens room) (argument_of opens room) room (below_of opens room) opens' (inside_of opens' room') (argument_of opens' room') room' (below_of opens' room') o so r sr of.of_inside of.of_argument of.of_below
+        (λ e. low_first opens room) (λ e. low_tail opens room) least p q)
+
+    expr_regular_by : (n opens room opens' room' least : ℕ) → opens' + room' ≤ n → (exact ≡ false → opens + 2 ≤ opens') → (exact ≡ true → opens ≡ opens') → (exact ≡ false → room + 2 ≤ room') → (exact ≡ true → room ≡ room') → 0 < least → least ≤ 10 → Regular (expr opens room least) (expr opens' room' least)
+    expr_regular_by zero opens room opens' room' least h o so r sr p q = step opens room opens' room' least o so r sr p q (parts opens room opens' room' o so r sr (λ x y x' y' l i. absurd (omega (arith, h, i))))
+    expr_regular_by (suc n) opens room opens' room' least h o so r sr p q = step opens room opens' room' least o so r sr p q (parts opens room opens' room' o so r sr (λ x y x' y' l i. expr_regular_by n x y x' y' l (omega (arith, h, i))))
+
+-- ---- at the same limits
+
+no_wide : {P : Type 0} → true ≡ false → P
+no_wide e = absurd (cc)
+
+narrow_regular : (opens room least : ℕ) → 0 < least → least ≤ 10 → Regular true [] [] refl (expr opens room least) (expr opens room least)
+narrow_regular opens room least p q = expr_regular_by true [] [] refl (λ e. no_wide e) (opens + room) opens room opens room least (omega arith) (λ e. no_wide e) (λ e. refl) (λ e. no_wide e) (λ e. refl) p q
+
+narrow_parts : (opens room : ℕ) → Parts true [] [] refl opens room opens room
+narrow_parts opens room = parts true [] [] refl (λ e. no_wide e) opens room opens room (λ e. no_wide e) (λ e. refl) (λ e. no_wide e) (λ e. refl)
+    (λ x y x' y' l i o so r sr p q. expr_regular_by true [] [] refl (λ e. no_wide e) (x' + y') x y x' y' l (omega arith) o so r sr p q)
+
+expr_roomy : (exact : Bool) (v v' : List Symbol) (heads : head v ≡ head v') (opens room least : ℕ) → 0 < least → least ≤ 10 → 0 < opens → 0 < room → Roomy exact v v' heads (expr opens room least) least
+expr_roomy exact v v' heads opens room least p q i j = record { small = (narrow_regular opens room least p q).shrinks; taking = takes }
+  where
+    takes : Takes least (expr opens room least)
+    takes t h ts = let of = narrow_parts opens room in subst (Within (length ts)) (sym (expr_level opens room least (t ∷ ts)))
+        (level_takes true [] [] refl opens (inside_of opens room) (argument_of opens room) room (below_of opens room) opens (inside_of opens room) (argument_of opens room) room (below_of opens room)
+        (λ e. no_wide e) (λ e. refl) (λ e. no_wide e) (λ e. refl) of.of_inside of.of_argument of.of_below (λ e. no_wide e) (λ e. no_wide e) i j least t h ts)
+
+-- ---- at all
+
+pub expr_regular : (exact : Bool) (v v' : List Symbol) (heads : head v ≡ head v') (opens room opens' room' least : ℕ) → (exact ≡ false → opens + 2 ≤ opens') → (exact ≡ true → opens ≡ opens') → (exact ≡ false → room + 2 ≤ room') → (exact ≡ true → room ≡ room')
+    → 0 < least → least ≤ 10 → Regular exact v v' heads (expr opens room least) (expr opens' room' least)
+expr_regular exact v v' heads opens room opens' room' least o so r sr p q =
+    expr_regular_by exact v v' heads (λ e. expr_roomy exact v v' heads) (opens' + room') opens room opens' room' least (omega arith) o so r sr p q

@@ -24,6 +24,15 @@ pub record OneBegins {A : Type 0} (L : Language A) (ts : List Symbol) : Type 0 w
   pub more : List Symbol
   pub written : L.words what ≡ ts ++ more
 
+-- something does, whatever its depth and its parentheses
+pub record SomeBegins {A : Type 0} (L : Language A) (ts : List Symbol) : Type 0 where
+  pub opens : ℕ
+  pub room : ℕ
+  pub what : L.D
+  pub fitting : L.fits opens room what
+  pub more : List Symbol
+  pub written : L.words what ≡ ts ++ more
+
 -- nothing does, whatever the limits
 abbrev pub NoneBegins : {A : Type 0} → Language A → List Symbol → Type 0
 NoneBegins L ts = (opens room : ℕ) (d : L.D) (more : List Symbol) → L.fits opens room d → L.words d ≡ ts ++ more → ⊥
@@ -39,8 +48,11 @@ pub record IsBadPlace {A : Type 0} (L : Language A) (ts : List Symbol) (n : ℕ)
   pub here : n < length ts → NoneBegins L (take (suc n) ts)
   pub ended : n ≡ length ts → (opens room : ℕ) (d : L.D) → L.fits opens room d → L.words d ≡ ts → ⊥
 
--- Up to some symbol something within the limits begins so, and with that symbol nothing does.
+-- Up to some symbol something within the limits begins so; with that symbol nothing within them does, and something
+-- beyond them does.
 pub record MeetsLimit {A : Type 0} (L : Language A) (ts : List Symbol) : Type 0 where
   pub place : ℕ
+  pub within : place < length ts
   pub before : OneBegins L (take place ts)
-  pub here : place < length ts → NoneWithin L (take (suc place) ts)
+  pub here : NoneWithin L (take (suc place) ts)
+  pub beyond : SomeBegins L (take (suc place) ts)
