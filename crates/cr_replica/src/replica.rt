@@ -114,12 +114,13 @@ impl<C: Drop> Model for Replica<C> {
 }
 
 impl<C: Cells> Replica<C> {
-    ghost use Rattle.std.specs.Prelude.{◌≡◌, ◌++◌, List, find, true, OnOk, OnErr};
+    ghost use Rattle.std.specs.Prelude.{◌≡◌, ◌++◌, List, find, true, Err, OnOk, OnErr};
     ghost use Rattle.cr_lattice.specs.declared.change.Change.{Change};
     ghost use Rattle.cr_cells.specs.Tables.{is_named, has_folded_names};
     ghost use Rattle.cr_cells.specs.Holding.{Holding, IsSound, since};
     ghost use Rattle.cr_cells.specs.Calls.{Reads};
     ghost use Rattle.cr_replica.specs.Definition.{DefinesTable};
+    ghost use Rattle.cr_replica.specs.declared.replica.TakeError.TheVariants.{SameSite};
     ghost use Rattle.cr_replica.specs.Taking.{Stands, Takes, Pulls, IsOffer};
     ghost use Rattle.cr_replica.specs.Showing.{Shows};
 
@@ -211,6 +212,7 @@ impl<C: Cells> Replica<C> {
         ensures was_clean { C.is_clean self.new → C.is_clean self.old }
         ensures pulls { C.is_clean self.new → (peer : Holding) → IsOffer peer offer.now
             → Pulls peer (C.holding self.old) (C.holding self.new) result }
+        ensures own { C.is_clean self.new → offer.now.site ≡ (C.holding self.old).site → result ≡ Err SameSite }
         ensures refused { C.is_clean self.new → OnErr result (C.holding self.new ≡ C.holding self.old) }
         ensures joins { C.is_clean self.new → OnOk result ((peer : Holding) (mine theirs : List Change) → IsSound peer
             → IsOffer peer offer.now → Stands mine (C.holding self.old) → Stands theirs peer

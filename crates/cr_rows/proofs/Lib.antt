@@ -7,3 +7,4 @@ pub mod TableLemmas
 pub mod DeleteLemmas
 pub mod UpdateLemmas
 pub mod TextLemmas
+pub mod WriteLemmas

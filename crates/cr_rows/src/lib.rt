@@ -3,12 +3,14 @@
 //! `proofs/` has a lemma for each kind of statement on a table whose schema is written out, generic over the table.
 #![tactic(auto)]
 
-ghost use Rattle.std.specs.Prelude.{◌≡◌, ℕ, Ok, false, IsTrue, IfOk, OnOk};
+ghost use Rattle.std.specs.Prelude.{◌≡◌, ◌≢◌, ◌⊎◌, ◌<◌, ℕ, List, length, Ok, Err, false, IsTrue, IsUtf8, IfOk, IfErr, OnOk, OnErr};
 ghost use Rattle.std.specs.String.{string_bytes};
 ghost use Rattle.sqlite.specs.declared.types.Value.TheVariants.{Text, Blob, Int};
-ghost use Rattle.sqlite.specs.Values.{bound};
+ghost use Rattle.sqlite.specs.declared.error.Error.TheVariants.{SqliteFailure};
+ghost use Rattle.sqlite.specs.declared.error.ErrorCode.TheVariants.{OutOfMemory};
+ghost use Rattle.sqlite.specs.Values.{IsInt, bound};
 ghost use Rattle.sqlite.specs.Listing.{understood};
-ghost use Rattle.sqlite.specs.State.{HasCleanDisk, KeepsCommit, Survives, ExecutesIn, Shown};
+ghost use Rattle.sqlite.specs.State.{HasCleanDisk, KeepsCommit, IsUnchanged, IsRolledBack, Survives, ExecutesIn, ExecutesInside, FailsToQuery, Shown};
 ghost use Rattle.sqlite.specs.Given.{IsPlain};
 ghost use Rattle.sqlite.specs.Held.{state};
 ghost use Rattle.sqlite_value.specs.Order.{column};
@@ -21,7 +23,8 @@ use sqlite::{Alter, Connection, Error, Row, Transaction};
 /// # Errors
 /// Where the column has no text, or for want of memory.
 pub fn text_at(row: &Row, at: usize) -> Result<String, Error>
-    ensures { IfOk result (λ t. column row.now at ≡ Text (string_bytes t)) }
+    ensures ok { IfOk result (λ t. column row.now at ≡ Text (string_bytes t)) }
+    ensures err { IfErr result (λ e. e ≢ SqliteFailure OutOfMemory → at < length row.now → ¬ ((t : List ℕ) × (column row.now at ≡ Text t) × IsUtf8 t)) }
 {
     row.get(at)
 }
@@ -31,7 +34,8 @@ pub fn text_at(row: &Row, at: usize) -> Result<String, Error>
 /// # Errors
 /// Where the column has no blob, or for want of memory.
 pub fn blob_at(row: &Row, at: usize) -> Result<Vec<u8>, Error>
-    ensures { IfOk result (λ b. column row.now at ≡ Blob b.items) }
+    ensures ok { IfOk result (λ b. column row.now at ≡ Blob b.items) }
+    ensures err { IfErr result (λ e. e ≢ SqliteFailure OutOfMemory → at < length row.now → ¬ ((b : List ℕ) × (column row.now at ≡ Blob b))) }
 {
     row.get(at)
 }
@@ -41,7 +45,8 @@ pub fn blob_at(row: &Row, at: usize) -> Result<Vec<u8>, Error>
 /// # Errors
 /// Where the column has no integer.
 pub fn int_at(row: &Row, at: usize) -> Result<i64, Error>
-    ensures { IfOk result (λ n. column row.now at ≡ Int n) }
+    ensures ok { IfOk result (λ n. column row.now at ≡ Int n) }
+    ensures err { IfErr result (λ e. e ≢ SqliteFailure OutOfMemory → at < length row.now → ¬ IsInt (column row.now at)) }
 {
     row.get(at)
 }
@@ -58,6 +63,8 @@ pub fn write<S: Alter>(
     ensures same_reference { tx.new.conn.ghost_name ≡ tx.old.conn.ghost_name }
     ensures ran { HasCleanDisk (state S.Store tx.new.conn.now) → OnOk result ((count : ℕ) × ExecutesIn false sql.now (bound params.now) (state S.Store tx.old.conn.now) (state S.Store tx.new.conn.now) (Ok count)) }
     ensures inside { HasCleanDisk (state S.Store tx.new.conn.now) → OnOk result (tx.new.conn.now.in_transaction ≡ tx.old.conn.now.in_transaction) }
+    ensures told { HasCleanDisk (state S.Store tx.new.conn.now) → IsTrue (state S.Store tx.old.conn.now).in_transaction → IfErr result (λ e. ExecutesInside 0 sql.now (bound params.now) (state S.Store tx.old.conn.now) (state S.Store tx.new.conn.now) (Err e)) }
+    ensures failed { HasCleanDisk (state S.Store tx.new.conn.now) → IsTrue (state S.Store tx.new.conn.now).is_open → OnErr result (IsUnchanged (state S.Store tx.old.conn.now) (state S.Store tx.new.conn.now) ⊎ IsRolledBack (state S.Store tx.old.conn.now) (state S.Store tx.new.conn.now)) }
     ensures kept { HasCleanDisk (state S.Store tx.new.conn.now) → KeepsCommit (state S.Store tx.old.conn.now) (state S.Store tx.new.conn.now) }
     ensures survives { Survives (state S.Store tx.old.conn.now) (state S.Store tx.new.conn.now) (λ _. ⊥) }
 {
@@ -75,6 +82,7 @@ pub fn ask<S: Alter>(
     params: &[ValueRef<'_>],
 ) -> Result<Vec<Row>, Error>
     ensures found { HasCleanDisk (state S.Store conn.new) → IfOk result (λ rows. Shown sql.now (bound params.now) (state S.Store conn.old) (state S.Store conn.new) rows.items) }
+    ensures failed { HasCleanDisk (state S.Store conn.new) → IfErr result (FailsToQuery sql.now (bound params.now) (state S.Store conn.old) (state S.Store conn.new)) }
     ensures same { HasCleanDisk (state S.Store conn.new) → IsPlain (understood (state S.Store conn.old).now.schema sql.now) → (state S.Store conn.old).now ≡ (state S.Store conn.old).committed
         → IsTrue (state S.Store conn.new).is_open → (state S.Store conn.new).now ≡ (state S.Store conn.old).now }
     ensures was_open { HasCleanDisk (state S.Store conn.new) → IsTrue (state S.Store conn.new).is_open → IsTrue (state S.Store conn.old).is_open }

@@ -1,6 +1,6 @@
 -- How refusals are told, and their result codes. Source: this project's own; the codes are those of SQLite's "Result and
 -- Error Codes".
-use Rattle.std.specs.Prelude.{ℕ, List, [], codes, Option, Some, None, slice_get}
+use Rattle.std.specs.Prelude.{ℕ, Bool, true, false, List, [], codes, Option, Some, None, slice_get}
 use Rattle.cr_lattice.specs.declared.profile.ProfileFault.{ProfileFault}
 use Rattle.cr_lattice.specs.declared.profile.ProfileFault.TheVariants as profile
 use Rattle.cr_lattice.specs.declared.table.ColumnDef.{ColumnDef}
@@ -71,6 +71,24 @@ of_definition def define.TableExists = TableExists def.name
 of_definition def (define.Duplicate i) = AmbiguousColumn (column_at def.columns i)
 of_definition def (define.NoSuchCollation i) = NoSuchCollation (collation_at def.columns i)
 of_definition def (define.NoDefault i) = NoDefault (column_at def.columns i)
+
+-- a refusal that is told with a name, which takes memory
+abbrev pub has_name : Refusal → Bool
+has_name (NoSuchTable name) = true
+has_name (AmbiguousColumn name) = true
+has_name (NoSuchCollation name) = true
+has_name (TableExists name) = true
+has_name (NoDefault name) = true
+has_name (BadName name) = true
+has_name (OutOfProfile what) = false
+has_name VersionLimit = false
+has_name (BadChange b) = false
+has_name (Limit which) = false
+has_name (Store f) = false
+has_name Memory = false
+has_name NoReplica = false
+has_name SameSite = false
+has_name Command = false
 
 -- ---- how a refusal is printed
 

@@ -1,7 +1,7 @@
 //! Why a command is refused.
 
-ghost use Rattle.std.specs.Prelude.{◌≡◌, ◌⊎◌, IfOk};
-ghost use Rattle.cr_session.specs.Refusals.{column_at, collation_at, of_profile, of_definition, of_rows};
+ghost use Rattle.std.specs.Prelude.{◌≡◌, ◌⊎◌, true, false, IfOk, OnErr};
+ghost use Rattle.cr_session.specs.Refusals.{column_at, collation_at, of_profile, of_definition, of_rows, has_name};
 ghost use Rattle.cr_session.specs.declared.refusal.Refusal.TheVariants.{Memory};
 
 use cr_cells::store::{CellsError, StoreFault};
@@ -175,7 +175,8 @@ fn collation_at(columns: &[ColumnDef], at: usize) -> &str
 }
 
 fn of_profile(alloc: Global, def: &TableDef, fault: ProfileFault) -> Result<Refusal, AllocError>
-    ensures { IfOk result (λ r. r ≡ of_profile def.now fault) }
+    ensures value { IfOk result (λ r. r ≡ of_profile def.now fault) }
+    ensures named { OnErr result (has_name (of_profile def.now fault) ≡ true) }
 {
     Ok(match fault {
         ProfileFault::PrimaryKey => Refusal::OutOfProfile(OutOfProfile::PrimaryKey),
@@ -193,7 +194,8 @@ fn try_of_definition(
     def: &TableDef,
     error: DefineError,
 ) -> Result<Refusal, AllocError>
-    ensures { IfOk result (λ r. r ≡ of_definition def.now error) }
+    ensures value { IfOk result (λ r. r ≡ of_definition def.now error) }
+    ensures named { OnErr result (has_name (of_definition def.now error) ≡ true) }
 {
     let columns = def.columns.as_slice();
     Ok(match error {
@@ -216,14 +218,16 @@ fn try_of_definition(
 /// How a refused definition is told: with the name of the table, of the column or of the collation that stands
 /// against it, or as want of memory where there is none for the name.
 pub fn of_definition(alloc: Global, def: &TableDef, error: DefineError) -> Refusal
-    ensures { (result ≡ Memory) ⊎ (result ≡ of_definition def.now error) }
+    ensures told { (result ≡ Memory) ⊎ (result ≡ of_definition def.now error) }
+    ensures nameless { has_name (of_definition def.now error) ≡ false → result ≡ of_definition def.now error }
 {
     try_of_definition(alloc, def, error).unwrap_or(Refusal::Memory)
 }
 
 /// How rows that are not shown are told, of the table of this name, or as want of memory where there is none for it.
 pub fn of_rows(alloc: Global, name: &Text, error: RowsError) -> Refusal
-    ensures { (result ≡ Memory) ⊎ (result ≡ of_rows name.now error) }
+    ensures told { (result ≡ Memory) ⊎ (result ≡ of_rows name.now error) }
+    ensures nameless { has_name (of_rows name.now error) ≡ false → result ≡ of_rows name.now error }
 {
     match error {
         RowsError::Memory => Refusal::Memory,

@@ -3,7 +3,7 @@ use Rattle.std.proofs.Common.{◌≡◌, ◌∙◌, refl, sym, ap, subst, ℕ, B
 use Rattle.std.specs.List.{flat_map, list_all, AllByRecursion}
 use Rattle.std.proofs.lemmas.Bool.{ne_eqb}
 use Rattle.std.proofs.lemmas.Grind.{flat_map-append}
-use Rattle.std.specs.Io.KnownBytes.{Consumes}
+use Rattle.std.specs.Io.KnownBytes.{Consumes, IsAtEnd}
 use Rattle.cr_cells.specs.Holding.{Holding}
 use Rattle.cr_session.specs.declared.command.Command.{Command}
 use Rattle.cr_session.specs.declared.command.FleetReply.{FleetReply}
@@ -178,22 +178,24 @@ module _ {R W C : Type 0} (remaining : R → Option (List ℕ)) (contents : W �
         are_lines = g.3;
         heard = same_heard w0 w1 w2 f0 f1 f2 g.0 t.1 t.2 g.6;
         caused = ap (λ (w : W × Bool). w.1) t.1 ∙ ok;
+        stops = tt;
       }
 
   -- the writer failed at a line
-  pub serves_write : (r0 r1 r2 : R × Bool) (w0 w1 w2 : W × Bool) (f0 f1 f2 : FleetOf C) (old new : Line) (n : ℕ) → Going r0 r1 w0 w1 f0 f1 old n → (x : ℕ) → Consumes (remaining r1.0) (remaining r2.0) (x ∷ [])
+  pub serves_write : (r0 r1 r2 : R × Bool) (w0 w1 w2 : W × Bool) (f0 f1 f2 : FleetOf C) (old new : Line) (n : ℕ) → Going r0 r1 w0 w1 f0 f1 old n → (x : ℕ) → Consumes (remaining r1.0) (remaining r2.0) (x ∷ []) → w1.1 ≡ false
       → Takes contents is_clean holding w1 w2 f1 f2 old new x next.Fails → Serves remaining contents is_clean holding (Err fault.Write) r0 r2 w0 w2 f0 f2
-  serves_write r0 r1 r2 w0 w1 w2 f0 f1 f2 old new n h x c p =
-      let g = going_line r0 r1 r2 w0 w1 w2 f0 f1 f2 old new n h (subst (λ (y : ℕ). Consumes (remaining r1.0) (remaining r2.0) (y ∷ [])) p.0 c) p.1 p.2.0 in
-      let none : g.1 ≡ [] = sym (kept_bytes new g.1 g.5 p.2.1) ∙ p.2.0 in
+  serves_write r0 r1 r2 w0 w1 w2 f0 f1 f2 old new n g x cx ok p =
+      let c : Consumes (remaining r1.0) (remaining r2.0) (10 ∷ []) = subst (λ (y : ℕ). Consumes (remaining r1.0) (remaining r2.0) (y ∷ [])) p.0 cx in
+      let t = p.1 g.1 g.5 in
       record {
-        input = ended g.0 ++ g.1;
-        lines = g.0;
-        read = g.2;
-        cut = inl (ap (λ l. ended g.0 ++ l) none ∙ append-nil (ended g.0));
-        are_lines = g.3;
-        heard = g.6;
+        input = ended (g.0 ++ g.1 ∷ []);
+        lines = g.0 ++ g.1 ∷ [];
+        read = subst (Consumes (remaining r0.0) (remaining r2.0)) (sym (ended_more g.0 g.1)) (consumes_more (remaining r0.0) (remaining r1.0) (remaining r2.0) (ended g.0 ++ g.1) (10 ∷ []) g.2 c);
+        cut = inl refl;
+        are_lines = all_more IsLine g.0 (g.1 ∷ []) g.3 (g.4, tt);
+        heard = heard_more contents is_clean holding w0 w1 w2 f0 f1 f2 g.0 (g.1 ∷ []) g.6 t;
         caused = p.3;
+        stops = record { before = g.0; last = g.1; lines_are = refl; writer = w1; fleet = f1; heard_before = g.6; had_not_failed = ok; heard_last = t };
       }
 
   -- the reader failed, or its limit is reached
@@ -207,32 +209,35 @@ module _ {R W C : Type 0} (remaining : R → Option (List ℕ)) (contents : W �
     are_lines = g.3;
     heard = g.6;
     caused = (elim why [ inl f ↦ inl f | inr e ↦ inr (g.7 ∙ e) ], ok);
+    stops = tt;
   }
 
   -- the end of the input
-  pub serves_end : (result : Result End ServeFault) (r0 r1 r2 : R × Bool) (w0 w1 w2 : W × Bool) (f0 f1 f2 : FleetOf C) (line : Line) (n : ℕ) → Going r0 r1 w0 w1 f0 f1 line n → Consumes (remaining r1.0) (remaining r2.0) [] → w1.1 ≡ false
+  pub serves_end : (result : Result End ServeFault) (r0 r1 r2 : R × Bool) (w0 w1 w2 : W × Bool) (f0 f1 f2 : FleetOf C) (line : Line) (n : ℕ) → Going r0 r1 w0 w1 f0 f1 line n → Consumes (remaining r1.0) (remaining r2.0) [] × IsAtEnd (remaining r2.0) → w1.1 ≡ false
       → ((b : List ℕ) → IsKept line b → Ends contents is_clean holding w1 w2 f1 f2 b result) → Serves remaining contents is_clean holding result r0 r2 w0 w2 f0 f2
   serves_end (Ok end.Quit) r0 r1 r2 w0 w1 w2 f0 f1 f2 line n g c ok q =
       let t = q g.1 g.5 in
       record {
         input = ended g.0 ++ g.1;
         lines = g.0;
-        read = subst (Consumes (remaining r0.0) (remaining r2.0)) (append-nil (ended g.0 ++ g.1)) (consumes_more (remaining r0.0) (remaining r1.0) (remaining r2.0) (ended g.0 ++ g.1) [] g.2 c);
-        cut = (g.1, g.4, t.0, inr (g.0, g.1, refl, refl));
+        read = subst (Consumes (remaining r0.0) (remaining r2.0)) (append-nil (ended g.0 ++ g.1)) (consumes_more (remaining r0.0) (remaining r1.0) (remaining r2.0) (ended g.0 ++ g.1) [] g.2 c.0);
+        cut = (g.1, g.4, t.0, inr (g.0, g.1, refl, refl, c.1));
         are_lines = g.3;
         heard = same_heard w0 w1 w2 f0 f1 f2 g.0 t.1 t.2 g.6;
         caused = ap (λ (w : W × Bool). w.1) t.1 ∙ ok;
+        stops = tt;
       }
   serves_end (Ok end.Input) r0 r1 r2 w0 w1 w2 f0 f1 f2 line n g c ok q =
       let t = q g.1 g.5 in
       record {
         input = ended g.0 ++ g.1;
         lines = g.0 ++ g.1 ∷ [];
-        read = subst (Consumes (remaining r0.0) (remaining r2.0)) (append-nil (ended g.0 ++ g.1)) (consumes_more (remaining r0.0) (remaining r1.0) (remaining r2.0) (ended g.0 ++ g.1) [] g.2 c);
-        cut = inr (g.0, g.1, refl, refl);
+        read = subst (Consumes (remaining r0.0) (remaining r2.0)) (append-nil (ended g.0 ++ g.1)) (consumes_more (remaining r0.0) (remaining r1.0) (remaining r2.0) (ended g.0 ++ g.1) [] g.2 c.0);
+        cut = (inr (g.0, g.1, refl, refl, c.1), c.1);
         are_lines = all_more IsLine g.0 (g.1 ∷ []) g.3 (g.4, tt);
         heard = heard_more contents is_clean holding w0 w1 w2 f0 f1 f2 g.0 (g.1 ∷ []) g.6 t.0;
         caused = t.1;
+        stops = tt;
       }
   serves_end (Err fault.Read) r0 r1 r2 w0 w1 w2 f0 f1 f2 line n g c ok q = absurd (q g.1 g.5)
   serves_end (Err fault.Write) r0 r1 r2 w0 w1 w2 f0 f1 f2 line n g c ok q =
@@ -240,9 +245,10 @@ module _ {R W C : Type 0} (remaining : R → Option (List ℕ)) (contents : W �
       record {
         input = ended g.0 ++ g.1;
         lines = g.0 ++ g.1 ∷ [];
-        read = subst (Consumes (remaining r0.0) (remaining r2.0)) (append-nil (ended g.0 ++ g.1)) (consumes_more (remaining r0.0) (remaining r1.0) (remaining r2.0) (ended g.0 ++ g.1) [] g.2 c);
-        cut = inr (g.0, g.1, refl, refl);
+        read = subst (Consumes (remaining r0.0) (remaining r2.0)) (append-nil (ended g.0 ++ g.1)) (consumes_more (remaining r0.0) (remaining r1.0) (remaining r2.0) (ended g.0 ++ g.1) [] g.2 c.0);
+        cut = inr (g.0, g.1, refl, refl, c.1);
         are_lines = all_more IsLine g.0 (g.1 ∷ []) g.3 (g.4, tt);
         heard = heard_more contents is_clean holding w0 w1 w2 f0 f1 f2 g.0 (g.1 ∷ []) g.6 t.0;
         caused = t.1;
+        stops = record { before = g.0; last = g.1; lines_are = refl; writer = w1; fleet = f1; heard_before = g.6; had_not_failed = ok; heard_last = t.0 };
       }

@@ -1,7 +1,7 @@
 -- What is read, what it asks, and what is written for it. Source: this project's own line format.
 use Rattle.std.specs.Prelude.{◌≡◌, ◌≢◌, ◌⊎◌, ℕ, Bool, true, false, not, ◌==◌, List, [], ◌∷◌, ◌++◌, length, map, Option, Some, None, Result, Ok, Err}
 use Rattle.std.specs.List.{flat_map, list_all, AllByRecursion}
-use Rattle.std.specs.Io.KnownBytes.{Consumes}
+use Rattle.std.specs.Io.KnownBytes.{Consumes, IsAtEnd}
 use Rattle.cr_cells.specs.Holding.{Holding}
 use Rattle.cr_session.specs.declared.command.Command.{Command}
 use Rattle.cr_session.specs.declared.command.FleetReply.{FleetReply}
@@ -128,17 +128,17 @@ Ends contents is_clean holding w0 w1 f0 f1 line (Err fault.Write) = Heard conten
 abbrev pub input_limit : ℕ
 input_limit = 16000000
 
--- the input is these lines, of which the last may end without a line feed
-abbrev pub IsAllOf : List ℕ → List (List ℕ) → Type 0
-IsAllOf input lines = (input ≡ ended lines) ⊎ ((before : List (List ℕ)) × (last : List ℕ) × (lines ≡ before ++ last ∷ []) × (input ≡ ended before ++ last))
+-- the input is these lines, of which the last may end without a line feed where nothing is left of the input
+abbrev pub IsAllOf : List ℕ → Option (List ℕ) → List (List ℕ) → Type 0
+IsAllOf input left lines = (input ≡ ended lines) ⊎ ((before : List (List ℕ)) × (last : List ℕ) × (lines ≡ before ++ last ∷ []) × (input ≡ ended before ++ last) × IsAtEnd left)
 
--- How the input that was read is made of the lines that were heard: they are all of it; all but `.quit` at its end; all
--- but the unfinished line before a reader's fault.
-abbrev pub IsCut : Result End ServeFault → List ℕ → List (List ℕ) → Type 0
-IsCut (Ok end.Input) input lines = IsAllOf input lines
-IsCut (Ok end.Quit) input lines = (last : List ℕ) × IsLine last × (asked last ≡ Quit) × IsAllOf input (lines ++ last ∷ [])
-IsCut (Err fault.Read) input lines = (rest : List ℕ) × IsLine rest × (input ≡ ended lines ++ rest)
-IsCut (Err fault.Write) input lines = IsAllOf input lines
+-- How the input that was read is made of the lines that were heard: they are all of it, and nothing is left; all but
+-- `.quit` at its end; all but the unfinished line before a reader's fault.
+abbrev pub IsCut : Result End ServeFault → List ℕ → Option (List ℕ) → List (List ℕ) → Type 0
+IsCut (Ok end.Input) input left lines = IsAllOf input left lines × IsAtEnd left
+IsCut (Ok end.Quit) input left lines = (last : List ℕ) × IsLine last × (asked last ≡ Quit) × IsAllOf input left (lines ++ last ∷ [])
+IsCut (Err fault.Read) input left lines = (rest : List ℕ) × IsLine rest × (input ≡ ended lines ++ rest)
+IsCut (Err fault.Write) input left lines = IsAllOf input left lines
 
 -- A fault is told with its cause: the writer failed, or the reader failed or the input reached its limit; without one all
 -- was written.
@@ -147,12 +147,30 @@ IsCaused (Ok e) input read_failed write_failed = write_failed ≡ false
 IsCaused (Err fault.Read) input read_failed write_failed = ((read_failed ≡ true) ⊎ (length input ≡ input_limit)) × (write_failed ≡ false)
 IsCaused (Err fault.Write) input read_failed write_failed = write_failed ≡ true
 
+-- the last line that was heard is the one at which the writer failed
+pub record FailedLast {W C : Type 0} (contents : W → Option (List ℕ)) (is_clean : C → Type 0) (holding : C → Holding) (w0 w1 : W × Bool) (f0 f1 : FleetOf C) (lines : List (List ℕ)) : Type 0 where
+  pub before : List (List ℕ)
+  pub last : List ℕ
+  pub lines_are : lines ≡ before ++ last ∷ []
+  pub writer : W × Bool
+  pub fleet : FleetOf C
+  pub heard_before : Heard contents is_clean holding w0 writer f0 fleet before
+  pub had_not_failed : writer.1 ≡ false
+  pub heard_last : Heard contents is_clean holding writer w1 fleet f1 (last ∷ [])
+
+-- once the writer has failed no line more is heard
+abbrev pub Stops : Result End ServeFault → Type 0 → Type 0
+Stops (Ok e) failed_last = Unit {0}
+Stops (Err fault.Read) failed_last = Unit {0}
+Stops (Err fault.Write) failed_last = failed_last
+
 pub record Serves {R W C : Type 0} (remaining : R → Option (List ℕ)) (contents : W → Option (List ℕ)) (is_clean : C → Type 0) (holding : C → Holding)
     (result : Result End ServeFault) (r0 r1 : R × Bool) (w0 w1 : W × Bool) (f0 f1 : FleetOf C) : Type 0 where
   pub input : List ℕ
   pub lines : List (List ℕ)
   pub read : Consumes (remaining r0.0) (remaining r1.0) input
-  pub cut : IsCut result input lines
+  pub cut : IsCut result input (remaining r1.0) lines
   pub are_lines : AllByRecursion IsLine lines
   pub heard : Heard contents is_clean holding w0 w1 f0 f1 lines
   pub caused : IsCaused result input r1.1 w1.1
+  pub stops : Stops result (FailedLast contents is_clean holding w0 w1 f0 f1 lines)

@@ -19,7 +19,7 @@ returns-in-Quits g c =
 
 pub returns-in-Fails : goal.returns-in-Fails
 returns-in-Fails g c =
-    serves_write g.R.Read.remaining g.W.Write.contents g.C.Cells.is_clean g.C.Cells.holding c.args.reader.now c.loop.reader c.read_byte.new.self c.args.writer.now c.loop.writer c.take_byte.new.writer c.args.fleet.now c.loop.fleet c.take_byte.new.fleet c.loop.line c.take_byte.new.line c.loop.counter c.loop.invariant.so_far c.in-Ok-Some.byte (rw c.in-Ok-Some.field-0-is at c.in-Ok-Some.ensures.byte) c.in-Fails.ensures
+    serves_write g.R.Read.remaining g.W.Write.contents g.C.Cells.is_clean g.C.Cells.holding c.args.reader.now c.loop.reader c.read_byte.new.self c.args.writer.now c.loop.writer c.take_byte.new.writer c.args.fleet.now c.loop.fleet c.take_byte.new.fleet c.loop.line c.take_byte.new.line c.loop.counter c.loop.invariant.so_far c.in-Ok-Some.byte (rw c.in-Ok-Some.field-0-is at c.in-Ok-Some.ensures.byte) c.loop.invariant.writer c.in-Fails.ensures
 
 pub loop-preserved : goal.loop-preserved
 loop-preserved g c =

@@ -16,6 +16,10 @@ returns-clause-pulls g c = λ clean peer offered.
     pulls_taking peer old new c.take.result (λ same. other_sites _ _ (sym c.same_bytes.ensures ∙ c.if-same_bytes.false) (offered.0 ∙ same ∙ sym (c.site_id.ensures (c.take.ensures.was_clean clean))))
     (subst (λ (more : List Change). Takes old new more c.take.result) taken (c.take.ensures.takes clean))
 
+pub returns-clause-own : goal.returns-clause-own
+returns-clause-own g c = λ clean same.
+    absurd (other_sites _ _ (sym c.same_bytes.ensures ∙ c.if-same_bytes.false) (same ∙ sym (c.site_id.ensures (c.take.ensures.was_clean clean))))
+
 pub returns-clause-joins : goal.returns-clause-joins
 returns-clause-joins g c = λ clean.
     let new = g.C.Cells.holding c.take.new.self in

@@ -24,5 +24,5 @@ returns g c =
       | in-Ok w ↦ rw w.result-is (rw c.in-Table.is (rw (← c.self.view_is) (viewed g.C.Cells.is_clean g.C.Cells.holding replicas.items c.self.inside.in_use c.in_ok-at.at _ _ _
           (define_ok g.C.Cells.is_clean g.C.Cells.holding _ c.in_ok-at.at _ _ (search rules) paired refl c.define.ensures.was_clean c.in-Table.def ready w.in-Ok.ensures.defines))))
       | in-Err w ↦ rw w.result-is (rw c.in-Table.is (rw (← c.self.view_is) (viewed g.C.Cells.is_clean g.C.Cells.holding replicas.items c.self.inside.in_use c.in_ok-at.at _ _ _
-          (define_err g.C.Cells.is_clean g.C.Cells.holding _ c.in_ok-at.at _ _ (search rules) paired refl c.define.ensures.was_clean c.in-Table.def ready w.in-Err.error w.of_definition.result w.in-Err.ensures.defines w.of_definition.ensures))))
+          (define_err g.C.Cells.is_clean g.C.Cells.holding _ c.in_ok-at.at _ _ (search rules) paired refl c.define.ensures.was_clean c.in-Table.def ready w.in-Err.error w.of_definition.result w.in-Err.ensures.defines w.of_definition.ensures.told))))
     ]
