@@ -1,5 +1,5 @@
 -- What a commit leaves. Source: this project's own; the kept changes are what no committed change beats.
-use Rattle.std.specs.Prelude.{◌^◌, ◌-◌, ℤ, pos, ◌+ℤ◌, Bool, not, List, [], ◌∷◌, ◌++◌, filter, Option, if◌then◌else◌}
+use Rattle.std.specs.Prelude.{◌^◌, ◌-◌, ℤ, pos, ◌+ℤ◌, Bool, not, List, [], ◌∷◌, ◌++◌, filter, map, Option, None, if◌then◌else◌}
 use Rattle.std.specs.List.{list_any, flat_map}
 use Rattle.cr_lattice.specs.declared.change.Change.{Change}
 use Rattle.cr_lattice.specs.declared.stamped.Stamped.{Stamped}
@@ -45,6 +45,10 @@ committed h more peer = record h {
 -- a commit's changes and mark
 abbrev pub Batch : Type 0
 Batch = List Change × Option Mark
+
+-- batches of changes alone, without a mark
+abbrev pub unmarked : List (List Change) → List Batch
+unmarked batches = map (λ changes. (changes, None)) batches
 
 -- what a store holds after commits, one after another
 abbrev pub after_all : Holding → List Batch → Holding

@@ -1,10 +1,11 @@
 //! What follows of any store from the contract alone.
 
-ghost use Rattle.std.specs.Prelude.{◌≡◌, ◌++◌, List, IfOk, OnOk, IfErr};
+ghost use Rattle.std.specs.Prelude.{◌≡◌, ℕ, [], ◌∷◌, ◌++◌, List, take, IfOk, OnOk, IfErr, OnErr};
 ghost use Rattle.std.specs.List.{flat_map, AllByRecursion};
 ghost use Rattle.cr_lattice.specs.Keep.{join, SameMembers};
 ghost use Rattle.cr_cells.specs.Tables.{AreWellFormed};
 ghost use Rattle.cr_cells.specs.Holding.{kept_of, changes_of};
+ghost use Rattle.cr_cells.specs.Commit.{unmarked, after_all};
 ghost use Rattle.cr_cells.specs.Calls.{IsCommitRefusal};
 
 use crate::store::{Cells, CellsError};
@@ -13,7 +14,8 @@ use cr_lattice::stamped::Stamped;
 use cr_lattice::table::Items;
 use std::alloc::Global;
 
-/// Commits changes in several commits: what is kept then is what all of them together with what was kept keep.
+/// Commits changes in several commits, one after another and without a mark: what is kept then is what all of them
+/// together with what was kept keep.
 ///
 /// # Errors
 /// Those of `commit`; the commits before it stand.
@@ -24,6 +26,8 @@ pub fn commit_all<C: Cells>(
 ) -> Result<(), CellsError>
     requires { C.is_clean cells.old → AllByRecursion (λ batch. AreWellFormed (C.holding cells.old).tables batch) batches.now }
     ensures was_clean { C.is_clean cells.new → C.is_clean cells.old }
+    ensures holds { C.is_clean cells.new → OnOk result (C.holding cells.new ≡ after_all (C.holding cells.old) (unmarked batches.now)) }
+    ensures stands { C.is_clean cells.new → OnErr result ((made : ℕ) × (C.holding cells.new ≡ after_all (C.holding cells.old) (unmarked (take made batches.now)))) }
     ensures kept { C.is_clean cells.new → OnOk result (kept_of (C.holding cells.new)
         ≡ join (kept_of (C.holding cells.old)) (flat_map (λ batch. batch) batches.now)) }
     ensures refused { C.is_clean cells.new → IfErr result IsCommitRefusal }
@@ -48,6 +52,8 @@ pub fn commit_twice<C: Cells>(
     requires first { C.is_clean cells.old → AreWellFormed (C.holding cells.old).tables first.now }
     requires second { C.is_clean cells.old → AreWellFormed (C.holding cells.old).tables second.now }
     ensures refused { C.is_clean cells.new → IfErr result IsCommitRefusal }
+    ensures holds { C.is_clean cells.new → OnOk result (C.holding cells.new ≡ after_all (C.holding cells.old) (unmarked (first.now ∷ second.now ∷ []))) }
+    ensures stands { C.is_clean cells.new → OnErr result ((made : ℕ) × (C.holding cells.new ≡ after_all (C.holding cells.old) (unmarked (take made (first.now ∷ second.now ∷ []))))) }
     ensures listed { C.is_clean cells.new → IfOk result (λ listed. SameMembers (changes_of listed.items)
         (join (kept_of (C.holding cells.old)) (first.now ++ second.now))) }
 {

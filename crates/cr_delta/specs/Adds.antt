@@ -5,10 +5,10 @@ use Rattle.cr_delta.specs.Delta.{is_past_limit, passes_limit}
 use Rattle.cr_delta.specs.declared.error.DeltaError.{DeltaError}
 use Rattle.cr_delta.specs.declared.error.DeltaError.TheVariants.{Memory, VersionLimit}
 
--- one more, where the limit is not passed
+-- one more, where the limit is not passed; it takes no memory
 abbrev pub IsNext : Result ℤ DeltaError → ℤ → Type 0
 IsNext (Ok m) n = (m ≡ n +ℤ pos 1) × (is_past_limit m ≡ false)
-IsNext (Err Memory) n = Unit {0}
+IsNext (Err Memory) n = ⊥
 IsNext (Err VersionLimit) n = is_past_limit (n +ℤ pos 1) ≡ true
 
 -- more stands behind what was there, where it passes no limit

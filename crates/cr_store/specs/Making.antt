@@ -11,7 +11,7 @@ use Rattle.cr_store.specs.Words.{is_ours}
 abbrev pub has_store : Schema → Bool
 has_store s = list_any (λ t. is_ours t.name) s.tables
 
--- refused for this, and for nothing else
-abbrev pub IsRefused : {A B : Type 0} → Result A (CellsError × B) → StoreFault → Type 0
-IsRefused (Ok a) f = ⊥
-IsRefused (Err e) f = e.0 ≡ error.Store f
+-- refused for this, and for nothing else, and what was given comes back as it was
+abbrev pub IsRefused : {A B : Type 0} → Result A (CellsError × B) → StoreFault → B → Type 0
+IsRefused (Ok a) f given = ⊥
+IsRefused (Err e) f given = (e.0 ≡ error.Store f) × (e.1 ≡ given)

@@ -101,8 +101,9 @@ impl<S: Alter> Store<S> {
     ///
     /// # Errors
     /// With the connection, whose database is as it was: `Store(Refused)` where a transaction is open; else `Store(Taken)`
-    /// where the database has a table of a store; else `Store(Refused)` where it has anything else. Over a database that
-    /// has nothing, `Store(Refused)` where sqlite refuses the tables, and `Memory`.
+    /// where the database has a table of a store; else `Store(Refused)` where it has anything else; in these three cases
+    /// all of the connection is as it was. Over a database that has nothing, `Store(Refused)` where sqlite refuses the
+    /// tables, and `Memory`.
     pub fn create(
         alloc: Global,
         mut conn: Connection<S>,
@@ -110,10 +111,10 @@ impl<S: Alter> Store<S> {
     ) -> Result<Store<S>, (CellsError, Connection<S>)>
         ensures made { IfOk result (λ it. IsClean S.Store it.0 → holding_of (state S.Store it.0).now it.1 ≡ empty_holding site) }
         ensures limit { IfOk result (λ it. it.0.step_limit ≡ None) }
-        ensures busy { (state S.Store conn).in_transaction ≡ true → IsRefused result StoreFault.Refused }
-        ensures taken { (state S.Store conn).in_transaction ≡ false → has_store (state S.Store conn).now.schema ≡ true → IsRefused result StoreFault.Taken }
+        ensures busy { (state S.Store conn).in_transaction ≡ true → IsRefused result StoreFault.Refused conn }
+        ensures taken { (state S.Store conn).in_transaction ≡ false → has_store (state S.Store conn).now.schema ≡ true → IsRefused result StoreFault.Taken conn }
         ensures foreign { (state S.Store conn).in_transaction ≡ false → has_store (state S.Store conn).now.schema ≡ false → (state S.Store conn).now.schema ≢ no_schema
-            → IsRefused result StoreFault.Refused }
+            → IsRefused result StoreFault.Refused conn }
         ensures why { (state S.Store conn).in_transaction ≡ false → (state S.Store conn).now.schema ≡ no_schema → IfErr result (λ e. IsRefusal e.0) }
         ensures same { IfErr result (λ e. IsClean S.Store e.1 → (state S.Store e.1).now ≡ (state S.Store conn).now) }
         ensures mode { IfErr result (λ e. e.1.in_transaction ≡ conn.in_transaction) }
@@ -310,7 +311,9 @@ impl Store<MemStore> {
     /// # Errors
     /// `Memory`, or `Store(Refused)`.
     pub fn in_memory(alloc: Global, site: Site) -> Result<Store<MemStore>, CellsError>
-        ensures { IfOk result (λ it. IsClean over_memory it.0 → holding_of (state over_memory it.0).now it.1 ≡ empty_holding site) }
+        ensures made { IfOk result (λ it. IsClean over_memory it.0 → holding_of (state over_memory it.0).now it.1 ≡ empty_holding site) }
+        ensures limit { IfOk result (λ it. it.0.step_limit ≡ None) }
+        ensures why { IfErr result IsRefusal }
     {
         let conn = Connection::open_in_memory(alloc)?;
         match Store::create(alloc, conn, site) {

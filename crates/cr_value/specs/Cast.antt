@@ -1,6 +1,6 @@
 -- What CAST makes of a value. Source: SQLite's "CAST expressions"; that a blob which is no UTF-8 is refused, and that
 -- spaces alone are skipped before a number, is this project's own.
-use Rattle.std.specs.Prelude.{◌≡◌, ℕ, ℤ, pos, neg_ℤ, List, Option, Some, None, Result, Ok, Err, if◌then◌else◌}
+use Rattle.std.specs.Prelude.{◌≡◌, ◌≢◌, ℕ, ℤ, pos, neg_ℤ, List, Option, Some, None, Result, Ok, Err, if◌then◌else◌}
 use Rattle.std.specs.List.{take_while}
 use Rattle.std.specs.Char.{is_ascii_digit}
 use Rattle.std.specs.Fmt.{signed_decimal}
@@ -53,9 +53,9 @@ cast_to to.Integer v = as_integer v
 cast_to to.Text v = as_text v
 cast_to to.Blob v = as_blob v
 
--- what a cast answers: want of memory aside, the value, or that a blob is no text
+-- what a cast answers: the value, or that a blob is no text, which takes no memory to tell
 abbrev pub Refuses : CastError → Option Value → Type 0
-Refuses error.Memory value = Unit {0}
+Refuses error.Memory value = value ≢ None
 Refuses error.NotUtf8 value = value ≡ None
 
 abbrev pub Casts : Result Value CastError → Option Value → Type 0

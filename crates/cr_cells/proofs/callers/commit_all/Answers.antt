@@ -4,7 +4,8 @@ use Rattle.std.proofs.lemmas.List.{take_more, flat_map_more}
 use Rattle.cr_lattice.specs.declared.change.Change.{Change}
 use Rattle.cr_lattice.specs.Keep.{join}
 use Rattle.cr_cells.specs.Holding.{Holding, kept_of}
-use Rattle.cr_cells.proofs.CallerLemmas.{kept-once_more}
+use Rattle.cr_cells.specs.Commit.{committed, unmarked, after_all}
+use Rattle.cr_cells.proofs.CallerLemmas.{kept-once_more, unmarked-more}
 use Rattle.cr_cells.proofs.callers.commit_all.Goals as goal
 
 pub loop-batch-preserved : goal.loop-batch-preserved
@@ -18,6 +19,13 @@ loop-batch-preserved g c =
       was_clean = λ clean. c.loop-batch.invariant.was_clean (c.in_ok-commit.ensures.was_clean clean);
       tables = λ clean. ap (λ (h : Holding). h.tables) (c.in_ok-commit.ensures.commits clean).0 ∙ c.loop-batch.invariant.tables (c.in_ok-commit.ensures.was_clean clean);
       sound = c.in_ok-commit.ensures.sound;
+      holds = λ clean. (
+          let first = g.C.Cells.holding c.args.cells.now in
+          (c.in_ok-commit.ensures.commits clean).0
+          ∙ ap (λ h. committed h c.as_slice.result.now None) (c.loop-batch.invariant.holds (c.in_ok-commit.ensures.was_clean clean))
+          ∙ ap (λ m. committed (after_all first (unmarked (take i bs))) m None) c.as_slice.ensures
+          ∙ sym (unmarked-more first (take i bs) c.batch-item.result)
+          ∙ ap (λ l. after_all first (unmarked l)) cut);
       kept = λ clean. (
           let before = c.in_ok-commit.ensures.was_clean clean in
           let kept : List Change = kept_of (g.C.Cells.holding c.args.cells.now) in
