@@ -1,28 +1,32 @@
-//! A store of cells in sqlite's memory.
+//! A store of cells in memory.
 #![tactic(auto)]
 
+ghost use Rattle.std.specs.Prelude.{IfErr};
+ghost use Rattle.cr_cells.specs.Calls.{IsRefusal};
+
 use cr_cells::store::{Cells, CellsError, NewCells, StoreFault};
+use cr_disk::MemoryFile;
 use cr_lattice::change::{Change, Site};
 use cr_lattice::stamped::Stamped;
 use cr_lattice::table::{Table, TableDef};
 use cr_store::store::Store;
-use sqlite::MemStore;
+use sqlite::{Connection, FileStore, Files, Options};
 use std::alloc::Global;
 
 /// A store over a database in memory, which can be made new.
 #[derive(Drop)]
 pub struct MemoryCells {
-    store: Store<MemStore>,
+    store: Store<FileStore<MemoryFile>>,
 }
 
 impl Cells for MemoryCells {
     ghost use Rattle.sqlite.specs.Held.{state};
-    ghost use Rattle.sqlite.specs.Steps.{over_memory};
+    ghost use Rattle.sqlite.specs.Files.{over_files};
     ghost use Rattle.cr_store.specs.Kept.{IsClean, holding_of};
 
-    ghost holding = { λ m. holding_of (state over_memory m.store.0).now m.store.1 };
+    ghost holding = { λ m. holding_of (state over_files m.store.0).now m.store.1 };
 
-    ghost is_clean = { λ m. IsClean over_memory m.store.0 };
+    ghost is_clean = { λ m. IsClean over_files m.store.0 };
 
     fn tables(&mut self, alloc: Global) -> Result<Vec<Table>, CellsError> {
         self.store.tables(alloc)
@@ -75,11 +79,25 @@ impl Cells for MemoryCells {
     }
 }
 
+// An empty database in two files in memory. What tells one run from another on a disk, the seed, tells nothing here.
+fn connection(alloc: Global) -> Result<Connection<FileStore<MemoryFile>>, CellsError>
+    ensures { IfErr result IsRefusal }
+{
+    let files = Files {
+        log: MemoryFile::new(alloc),
+        db: MemoryFile::new(alloc),
+    };
+    match Connection::open_files(alloc, files, Options::new(0)) {
+        Ok(conn) => Ok(conn),
+        Err(_) => Err(CellsError::Store(StoreFault::Refused)),
+    }
+}
+
 impl NewCells for MemoryCells {
     fn create(alloc: Global, site: Site) -> Result<MemoryCells, CellsError> {
-        match Store::in_memory(alloc, site) {
+        match Store::create(alloc, connection(alloc)?, site) {
             Ok(store) => Ok(MemoryCells { store }),
-            Err(CellsError::Memory) => Err(CellsError::Memory),
+            Err((CellsError::Memory, _)) => Err(CellsError::Memory),
             Err(_) => Err(CellsError::Store(StoreFault::Refused)),
         }
     }

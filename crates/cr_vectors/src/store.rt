@@ -1,11 +1,12 @@
-//! The store over sqlite, in memory and in a file: the same calls with the same answers as at the plain one.
+//! The store over sqlite, in memory, in a file and in a file in memory: the same calls with the same answers as at the plain one.
 
 use crate::cells::{add_replicated, commit_from, meets_the_vectors};
 use crate::told::{A, B, definition, key};
 use cr_cells::plain::PlainCells;
-use cr_cells::store::{Cells, CellsError, StoreFault};
+use cr_cells::store::{Cells, CellsError, NewCells, StoreFault};
 use cr_lattice::change::{Change, Site};
 use cr_lattice::stamped::Stamped;
+use cr_memory::MemoryCells;
 use cr_store::store::Store;
 use cr_value::text::Text;
 use cr_value::value::Value;
@@ -38,6 +39,12 @@ fn meets_all<S: Alter + Drop>(
 fn a_store_in_memory_keeps_what_is_committed(rt: HostRuntime) -> Result<(), Fail> {
     let alloc = rt.alloc();
     meets_all(&rt, alloc, Store::in_memory(alloc, A)?)
+}
+
+#[test]
+fn a_store_in_a_file_in_memory_keeps_what_is_committed(rt: HostRuntime) -> Result<(), Fail> {
+    let alloc = rt.alloc();
+    meets_the_vectors(&rt, alloc, &mut MemoryCells::create(alloc, A)?)
 }
 
 // A name that no file has.
