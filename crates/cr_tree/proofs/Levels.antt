@@ -201,7 +201,7 @@ module _ (opens room : ℕ) where
       let same : u ≡ t = cc in
       let read : first_by opens (inside_of opens room) (argument_of opens room) room (below_of opens room) least t (t ∷ ts) ≡ Reads x rest = subst (λ z. first_by opens (inside_of opens room) (argument_of opens room) room (below_of opens room) least t (z ∷ ts) ≡ Reads x rest) same e in
       let g = subst (Good (Top opens (inside_of opens room) (argument_of opens room) room (below_of opens room) inside_right argument_right (stuck_argument opens room) below_right (stuck_below opens room) least q t) spelled sized (t ∷ ts)) read
-          (first_good opens (inside_of opens room) (argument_of opens room) room (below_of opens room) inside_right argument_right (stuck_argument opens room) below_right (stuck_below opens room) least q t ts) in
+      (first_good opens (inside_of opens room) (argument_of opens room) room (below_of opens room) inside_right argument_right (stuck_argument opens room) below_right (stuck_below opens room) least q t ts) in
       omega (arith, g.fitting.written.low, ap (λ (z : Sized). z.1) g.means)
 
   pub low_tail : (left : Sized) (t : Symbol) (ts : List Symbol) (x : Sized) (rest : List Symbol) → head ts ≡ Some t → 0 < binding t → left.1 < room → tail opens (inside_of opens room) (argument_of opens room) room (below_of opens room) left ts ≡ Reads x rest → x.1 ≤ room
@@ -211,5 +211,5 @@ module _ (opens room : ℕ) where
       let same : u ≡ t = cc in
       let read : tail_by opens (inside_of opens room) (argument_of opens room) room (below_of opens room) left t (t ∷ ts) ≡ Reads x rest = subst (λ z. tail_by opens (inside_of opens room) (argument_of opens room) room (below_of opens room) left z (z ∷ ts) ≡ Reads x rest) same e in
       let g = subst (Good (TailFits opens (inside_of opens room) (argument_of opens room) room (below_of opens room) argument_right below_right (binding t)) spelled_tail (tail_value left) (t ∷ ts)) read
-          (tail_good opens (inside_of opens room) (argument_of opens room) room (below_of opens room) argument_right below_right (omega (arith, l)) left t ts b) in
+      (tail_good opens (inside_of opens room) (argument_of opens room) room (below_of opens room) argument_right below_right (omega (arith, l)) left t ts b) in
       omega (arith, g.fitting.low, l, ap (λ (z : Sized). z.1) g.means)
