@@ -1,3 +1,4 @@
 pub mod Turns
 pub mod Loops
 pub mod Judged
+pub mod Refusals

@@ -1,5 +1,10 @@
 //! Why symbols are refused.
 
+ghost use Rattle.std.specs.Prelude.{◌≡◌};
+ghost use Rattle.cr_parse.specs.Judge.{refusal};
+
+use crate::fault::Fault;
+
 /// Why symbols are refused.
 #[derive(Debug, Drop)]
 pub enum ParseError {
@@ -10,4 +15,15 @@ pub enum ParseError {
     Syntax(usize),
     /// The depth or the open parentheses would pass their limit.
     Depth,
+}
+
+/// How a fault is told that stands behind so many symbols.
+pub fn refusal(fault: Fault, place: usize) -> ParseError
+    ensures { result ≡ refusal fault place }
+{
+    match fault {
+        Fault::Memory => ParseError::Memory,
+        Fault::Syntax => ParseError::Syntax(place),
+        Fault::Deep => ParseError::Depth,
+    }
 }

@@ -8,7 +8,7 @@ ghost use Rattle.cr_tree.specs.declared.expr.Expr as trees;
 ghost use Rattle.cr_parse.specs.Judge.{judge};
 
 use crate::cursor::Cursor;
-use crate::error::ParseError;
+use crate::error::{ParseError, refusal};
 use crate::fault::Fault;
 use crate::level::expr;
 use cr_tree::expr::Expr;
@@ -21,7 +21,7 @@ pub const PARENTHESES: u8 = 200;
 /// The greatest depth of an expression: a leaf is 1, and all else one more than its deepest part.
 pub const DEPTH: u8 = 100;
 
-#[tactic(auto, unfolding(cr_tree::specs::Reading::whole))]
+#[tactic(auto, using(crate::proofs::Refusals::told_then), unfolding(cr_tree::specs::Reading::whole))]
 fn read(alloc: Global, symbols: &[Symbol]) -> Result<Expr, ParseError>
     ensures { result ≢ Err ParseError.Memory → result ≡ judge symbols.now (spec.whole 200 99 symbols.now) }
 {
@@ -36,9 +36,7 @@ fn read(alloc: Global, symbols: &[Symbol]) -> Result<Expr, ParseError>
                 Err(ParseError::Syntax(place))
             }
         }
-        Err(Fault::Memory) => Err(ParseError::Memory),
-        Err(Fault::Syntax) => Err(ParseError::Syntax(place)),
-        Err(Fault::Deep) => Err(ParseError::Depth),
+        Err(fault) => Err(refusal(fault, place)),
     }
 }
 

@@ -15,7 +15,7 @@ use crate::query::select;
 use crate::tree::{Mode, Statement};
 use crate::write::{delete, insert, update};
 use cr_parse::cursor::Cursor;
-use cr_parse::error::ParseError;
+use cr_parse::error::{ParseError, refusal};
 use cr_parse::fault::Fault;
 use cr_tree::symbol::{Mark, Symbol};
 use std::alloc::Global;
@@ -110,6 +110,7 @@ fn any(alloc: Global, tokens: &mut Cursor<'_>) -> Result<Statement, Fault>
     command(alloc, tokens)
 }
 
+#[tactic(auto, using(cr_parse::proofs::Refusals::told))]
 fn read(alloc: Global, symbols: &[Symbol]) -> Result<Statement, ParseError>
     ensures { result ≢ Err ParseError.Memory → result ≡ judge symbols.now (whole.statement 200 99 symbols.now) }
 {
@@ -124,9 +125,7 @@ fn read(alloc: Global, symbols: &[Symbol]) -> Result<Statement, ParseError>
                 Err(ParseError::Syntax(place))
             }
         }
-        Err(Fault::Memory) => Err(ParseError::Memory),
-        Err(Fault::Syntax) => Err(ParseError::Syntax(place)),
-        Err(Fault::Deep) => Err(ParseError::Depth),
+        Err(fault) => Err(refusal(fault, place)),
     }
 }
 

@@ -1,12 +1,18 @@
 -- The table of marks against the list of keywords.
-use Rattle.std.proofs.Common.{◌≡◌, ℕ, Bool, true, false, ◌||◌, cond, List, [], ◌∷◌, ◌++◌, map, take, drop, Option, Some, refl, sym, ap, ◌∙◌}
+use Rattle.std.proofs.Common.{◌≡◌, ℕ, Bool, true, false, ◌||◌, ◌&&◌, not, cond, List, [], ◌∷◌, ◌++◌, map, take, drop, Option, Some, None, if◌then◌else◌, refl, sym, ap, ◌∙◌}
 use Rattle.std.specs.Prelude.{codes, is_some}
 use Rattle.std.specs.List.{list_any, find}
 use Rattle.std.specs.Map.{lookup}
-use Rattle.std.specs.Str.{str_eq_ignore_ascii_case}
+use Rattle.std.specs.Option.{option_map_or}
+use Rattle.std.specs.Str.{str_eq_ignore_ascii_case, is_utf8, str_to_ascii_lowercase}
 use Rattle.cr_lex.specs.Keywords.{is_one_of, grammar_words, outside_words}
 use Rattle.cr_tree.specs.declared.symbol.Mark.{Mark}
+use Rattle.cr_tree.specs.declared.symbol.Symbol.{Symbol}
+use Rattle.cr_tree.specs.declared.symbol.Symbol.TheVariants as k
+use Rattle.cr_tree.specs.Reading.{is_name}
 use Rattle.cr_symbols.specs.Marks.{marked, words, outside_word}
+use Rattle.cr_symbols.specs.Laws.{KeywordsAreNoNames}
+use Rattle.cr_symbols.specs.Symbols.{name_symbol, word_symbol}
 
 some_if : {X : Type 0} (b : Bool) (x : X) (o : Option X) → is_some (cond b (Some x) o) ≡ (b || is_some o)
 some_if true x o = refl
@@ -65,6 +71,20 @@ told test =
     ∙ absorbed (list_any test grammar_words) exists inner
     ∙ ap (λ (b : Bool). list_any test grammar_words || b) (sym outside_is)
 
-pub keywords : (w : List ℕ) → (is_some (marked words w) || is_some (outside_word w)) ≡ (is_one_of w grammar_words || is_one_of w outside_words)
+told_of : (w : List ℕ) → (is_some (marked words w) || is_some (outside_word w)) ≡ (is_one_of w grammar_words || is_one_of w outside_words)
 unfolding outside_word
-keywords w = told (λ written. str_eq_ignore_ascii_case written w)
+told_of w = told (λ written. str_eq_ignore_ascii_case written w)
+
+by_both : (m : Option Mark) (o : Option (List ℕ)) (s : Symbol) → is_name (option_map_or k.Mark m (option_map_or (λ _. k.Other) o s)) ≡ (not (is_some m || is_some o) && is_name s)
+by_both (Some x) o s = refl
+by_both None (Some y) s = refl
+by_both None None s = refl
+
+if_text : (b : Bool) (w : List ℕ) → is_name (option_map_or k.Name (if b then Some w else None) k.Other) ≡ b
+if_text true w = refl
+if_text false w = refl
+
+pub keywords : KeywordsAreNoNames
+keywords w = (told_of w, by_both (marked words w) (outside_word w) (name_symbol w)
+    ∙ (ap (λ (b : Bool). not b && is_name (name_symbol w)) (told_of w)
+    ∙ ap (λ (b : Bool). not (is_one_of w grammar_words || is_one_of w outside_words) && b) (if_text (is_utf8 (str_to_ascii_lowercase w)) (str_to_ascii_lowercase w))))

@@ -1,12 +1,14 @@
 -- The symbols of tokens. Source: SQLite's "SQL Syntax", of which this project's own grammar is a part; that a number in
 -- decimal digits is at most 9223372036854775808 and a parameter's number at most 1000 is this project's own.
-use Rattle.std.specs.Prelude.{ℕ, ◌+◌, ◌==◌, ◌||◌, nat_le, min, max, List, length, drop, slice_index, Option, Some, None, Result, Ok, Err, if◌then◌else◌}
+use Rattle.std.specs.Prelude.{ℕ, ◌+◌, ◌==◌, ◌||◌, nat_le, min, max, List, length, drop, slice_index, Option, Some, None, Result, Ok, Err, alloc_error, if◌then◌else◌}
 use Rattle.std.specs.List.{scan}
 use Rattle.std.specs.Option.{option_map_or}
 use Rattle.std.specs.Int.{w64, cast_signed}
+use Rattle.std.specs.declared.alloc.AllocError.{AllocError}
 use Rattle.std.specs.Str.{is_utf8, str_to_ascii_lowercase}
 use Rattle.hex.specs.Hex.{decode_of}
 use Rattle.hex.specs.declared.error.FromHexError.{FromHexError}
+use Rattle.hex.specs.declared.error.FromHexError.TheVariants as h
 use Rattle.cr_lex.specs.declared.token.Token.{Token}
 use Rattle.cr_lex.specs.declared.token.TokenKind.{TokenKind}
 use Rattle.cr_lex.specs.declared.token.TokenKind.TheVariants as t
@@ -58,6 +60,11 @@ text_symbol w = option_map_or k.Text (text_of (undoubled 39 (inside 1 w))) k.Oth
 abbrev pub decoded : Result (List ℕ) FromHexError → Symbol
 decoded (Ok bytes) = k.Blob bytes
 decoded (Err e) = k.Other
+
+-- what is told of digits that spell no bytes, or where memory ran out
+abbrev pub not_blob : FromHexError → Result Symbol AllocError
+not_blob h.OutOfMemory = Err alloc_error
+not_blob _ = Ok k.Other
 
 abbrev pub blob_symbol : List ℕ → Symbol
 blob_symbol w = decoded (decode_of (inside 2 w))

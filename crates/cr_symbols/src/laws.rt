@@ -7,7 +7,7 @@ pub fn quotes_come_off()
     ensures { QuotesComeOff }
 {}
 
-/// A word that is a keyword is a mark or `Other`, and each other word is a name.
+/// A word that is a keyword is a mark or `Other`, and each other word in UTF-8 is a name.
 pub fn keywords_are_no_names()
     ensures { KeywordsAreNoNames }
 {}

@@ -103,13 +103,22 @@ fn text_symbol(alloc: Global, bytes: &[u8]) -> Result<Symbol, AllocError>
     }
 }
 
+// What is told of digits that spell no bytes, or where memory ran out.
+fn not_blob(error: FromHexError) -> Result<Symbol, AllocError>
+    ensures { result ≡ spec.not_blob error }
+{
+    match error {
+        FromHexError::OutOfMemory => Err(AllocError),
+        _ => Ok(Symbol::Other),
+    }
+}
+
 fn blob_symbol(alloc: Global, bytes: &[u8]) -> Result<Symbol, AllocError>
     ensures { IfOk result (λ s. s ≡ spec.blob_symbol bytes.now) }
 {
     match hex::decode(alloc, inside(bytes, 2)) {
         Ok(bytes) => Ok(Symbol::Blob(Bytes::new(bytes))),
-        Err(FromHexError::OutOfMemory) => Err(AllocError),
-        Err(_) => Ok(Symbol::Other),
+        Err(error) => not_blob(error),
     }
 }
 
