@@ -35,9 +35,9 @@ fn push_statement(alloc: Global, out: &mut String, statement: &Statement) -> Res
     }
 }
 
-/// The statement as SQL text, which reads as the same tree: keywords in upper case, each name in double quotes, and
-/// parentheses around each node of an expression that isn't a leaf, a call, CAST or CASE. It fails where memory runs
-/// out. SQLite's "SQL As Understood By SQLite"; which of its spellings is written is this project's own.
+/// The statement as SQL text: keywords in upper case, each name in double quotes, and parentheses around each node of an
+/// expression that isn't a leaf, a call, CAST or CASE, and around an integer behind a sign. Of a statement that was read
+/// from SQL it reads as the same tree. It fails where memory runs out. SQLite's "SQL As Understood By SQLite"; which of its spellings is written is this project's own.
 pub fn print(alloc: Global, statement: &Statement) -> Result<String, AllocError>
     ensures { IfOk result (λ text. string_bytes text ≡ layout.statement statement.now) }
 {

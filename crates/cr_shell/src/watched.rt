@@ -30,6 +30,7 @@ impl<D> Model for Watched<D> {
 }
 
 impl<D> Watched<D> {
+    /// The device, of which nothing has failed yet.
     pub fn new(device: D) -> Self
         ensures { result ≡ (device, false) }
     {
@@ -39,6 +40,7 @@ impl<D> Watched<D> {
         }
     }
 
+    /// Whether a call of the device has failed.
     pub fn failed(&self) -> bool
         ensures { result ≡ self.now.1 }
     {
@@ -47,6 +49,7 @@ impl<D> Watched<D> {
 }
 
 impl<R: Read> Watched<R> {
+    /// Reads as the device does, and keeps whether that failed.
     pub fn read(&mut self, buf: &mut [u8]) -> Result<usize, Failed>
         ensures within { IfOk result (λ n. n ≤ length buf.new) }
         ensures bytes { ReadConsumes (R.remaining self.old.0) (R.remaining self.new.0) result buf.new }

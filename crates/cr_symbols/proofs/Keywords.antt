@@ -85,6 +85,9 @@ if_text true w = refl
 if_text false w = refl
 
 pub keywords : KeywordsAreNoNames
-keywords w = (told_of w, by_both (marked words w) (outside_word w) (name_symbol w)
-    ∙ (ap (λ (b : Bool). not b && is_name (name_symbol w)) (told_of w)
-    ∙ ap (λ (b : Bool). not (is_one_of w grammar_words || is_one_of w outside_words) && b) (if_text (is_utf8 (str_to_ascii_lowercase w)) (str_to_ascii_lowercase w))))
+keywords w = (
+  told_of w,
+  by_both (marked words w) (outside_word w) (name_symbol w)
+      ∙ (ap (λ (b : Bool). not b && is_name (name_symbol w)) (told_of w)
+      ∙ ap (λ (b : Bool). not (is_one_of w grammar_words || is_one_of w outside_words) && b) (if_text (is_utf8 (str_to_ascii_lowercase w)) (str_to_ascii_lowercase w))),
+)

@@ -250,7 +250,7 @@ fn literal_at(alloc: Global, bytes: &[u8]) -> Result<(Value, &[u8]), Unread>
 }
 
 /// The literal that begins at byte `at` of the text, and the byte at which it ends: exactly what `literal_text` writes,
-/// with hexadecimal digits and the X in either case. A run of digits is read whole, and a quoted text to the quote that
+/// with hexadecimal digits and the X in either case, and any text as `CAST(X'..' AS TEXT)`. A run of digits is read whole, and a quoted text to the quote that
 /// no other follows; `None` where no literal begins there, as at `007`, `-0`, `+1` or a quoted control character.
 pub fn read_literal(
     alloc: Global,

@@ -9,6 +9,7 @@ use cr_host::registry::Registry;
 use cr_host::samples::{bylen, half, xorall_finish, xorall_step};
 use cr_lattice::table::{Items, Row};
 use cr_value::collation::Collation;
+use cr_value::text::Text;
 use cr_value::value::Value;
 use std::alloc::{AllocError, Global};
 use std::cmp::Ordering;
@@ -125,9 +126,9 @@ fn a_scalar_function_is_called(rt: HostRuntime) -> Result<(), Fail> {
     Ok(())
 }
 
-fn row_of(alloc: Global, value: i64) -> Result<Row, AllocError> {
+fn row_of(alloc: Global, value: Value) -> Result<Row, AllocError> {
     let mut row = Vec::new(alloc);
-    row.push(Value::Int(value))?;
+    row.push(value)?;
     Ok(Items::new(row))
 }
 
@@ -144,9 +145,16 @@ fn an_aggregate_is_folded(rt: HostRuntime) -> Result<(), Fail> {
     assert!(rt; added);
     let mut rows: Vec<Row> = Vec::new(alloc);
     for id in [1, 2, 4] {
-        rows.push(row_of(alloc, id)?)?;
+        rows.push(row_of(alloc, Value::Int(id))?)?;
     }
     assert!(rt; is_int(registry.fold("xorall", 1, rows.as_slice()), 7));
+    rows.push(row_of(alloc, Value::Text(Text::from_str(alloc, "1")?))?)?;
+    assert!(rt;
+        is_fault(
+            registry.fold("xorall", 1, rows.as_slice()),
+            "not an integer"
+        )
+    );
     Ok(())
 }
 
