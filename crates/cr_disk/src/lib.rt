@@ -1,8 +1,10 @@
 //! A file in memory, as the store of sqlite's files asks for one.
 #![tactic(auto)]
 
-ghost use Rattle.std.specs.Prelude.{◌≡◌, length, [], true, refl, false, is_ok, OnOk};
+ghost use Rattle.std.specs.Prelude.{◌≡◌, ◌+◌, ◌-◌, ◌^◌, ◌++◌, min, take, replicate, length, [], true, refl, false, is_ok, IfErr, OnOk, OnErr};
 ghost use Rattle.sqlite_disk.specs.Disk.{Holds, Torn, Cut, CountsFault};
+ghost use Rattle.std.specs.IoError.{error_kind};
+ghost use Rattle.std.specs.declared.io.ErrorKind.TheVariants.{OutOfMemory};
 ghost use Rattle.sqlite_disk.specs.Refusal.{finds_no_room};
 
 use sqlite_disk::{Disk, Tally};
@@ -18,11 +20,12 @@ pub struct MemoryFile {
 }
 
 impl MemoryFile {
-    ghost use Rattle.cr_disk.specs.Bytes.{bytes_of};
+    ghost use Rattle.cr_disk.specs.Bytes.{bytes_of, faults_of};
 
-    /// An empty file.
+    /// An empty file, of which no call has failed.
     pub fn new(alloc: Global) -> MemoryFile
-        ensures { bytes_of result ≡ [] }
+        ensures empty { bytes_of result ≡ [] }
+        ensures faults { faults_of result ≡ 0 }
     {
         MemoryFile {
             bytes: Vec::new(alloc),
@@ -31,7 +34,10 @@ impl MemoryFile {
     }
 }
 
+// What comes past the old end is 0, as in a file on a disk.
 fn resize(bytes: &mut Vec<u8>, len: usize) -> Result<(), AllocError>
+    ensures items { OnOk result (bytes.new.items ≡ take len bytes.old.items ++ replicate (len - length bytes.old.items) 0) }
+    ensures same { OnErr result (bytes.new.items ≡ bytes.old.items) }
     ensures len { OnOk result (length bytes.new.items ≡ len) }
     ensures others { Cut len bytes.old.items bytes.new.items }
 {
@@ -53,8 +59,10 @@ fn overwrite(file: &mut Vec<u8>, at: usize, bytes: &[u8]) -> Result<(), AllocErr
 // What a call answers, where want of memory counts as a fault.
 fn counted(outcome: Result<(), AllocError>, faults: &mut u64) -> io::Result<()>
     ensures variant { is_ok result ≡ is_ok outcome }
-    ensures kind { finds_no_room result ≡ false }
+    ensures kind { IfErr result (λ e. error_kind e ≡ OutOfMemory) }
+    ensures room { finds_no_room result ≡ false }
     ensures faults { CountsFault result faults.old faults.new }
+    ensures once { OnErr result (faults.new ≡ min (faults.old + 1) (2 ^ 64 - 1)) }
 {
     if outcome.is_err() {
         *faults = faults.saturating_add(1);
