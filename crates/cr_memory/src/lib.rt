@@ -1,7 +1,8 @@
 //! A store of cells in memory.
 #![tactic(auto)]
 
-ghost use Rattle.std.specs.Prelude.{IfErr};
+ghost use Rattle.std.specs.Prelude.{◌≡◌, IfErr};
+ghost use Rattle.cr_memory.specs.Told.{told, passed_on};
 ghost use Rattle.cr_cells.specs.Calls.{IsRefusal};
 
 use cr_cells::store::{Cells, CellsError, NewCells, StoreFault};
@@ -10,7 +11,7 @@ use cr_lattice::change::{Change, Site};
 use cr_lattice::stamped::Stamped;
 use cr_lattice::table::{Table, TableDef};
 use cr_store::store::Store;
-use sqlite::{Connection, FileStore, Files, Options};
+use sqlite::{Connection, Error, ErrorCode, FileStore, Files, Options};
 use std::alloc::Global;
 
 /// A store over a database in memory, which can be made new.
@@ -79,6 +80,28 @@ impl Cells for MemoryCells {
     }
 }
 
+// What an error of sqlite is to a caller: want of memory is `Memory`, whatever else sqlite refuses is `Refused`.
+fn told(error: Error) -> CellsError
+    ensures told { result ≡ told error }
+    ensures refusal { IsRefusal result }
+{
+    match error {
+        Error::SqliteFailure(ErrorCode::OutOfMemory) => CellsError::Memory,
+        _ => CellsError::Store(StoreFault::Refused),
+    }
+}
+
+// What an error of a store that is made is to a caller, over a database of which no one else knows.
+fn passed_on(error: CellsError) -> CellsError
+    ensures told { result ≡ passed_on error }
+    ensures refusal { IsRefusal result }
+{
+    match error {
+        CellsError::Memory => CellsError::Memory,
+        _ => CellsError::Store(StoreFault::Refused),
+    }
+}
+
 // An empty database in two files in memory. What tells one run from another on a disk, the seed, tells nothing here.
 fn connection(alloc: Global) -> Result<Connection<FileStore<MemoryFile>>, CellsError>
     ensures { IfErr result IsRefusal }
@@ -89,7 +112,7 @@ fn connection(alloc: Global) -> Result<Connection<FileStore<MemoryFile>>, CellsE
     };
     match Connection::open_files(alloc, files, Options::new(0)) {
         Ok(conn) => Ok(conn),
-        Err(_) => Err(CellsError::Store(StoreFault::Refused)),
+        Err((error, _)) => Err(told(error)),
     }
 }
 
@@ -97,8 +120,7 @@ impl NewCells for MemoryCells {
     fn create(alloc: Global, site: Site) -> Result<MemoryCells, CellsError> {
         match Store::create(alloc, connection(alloc)?, site) {
             Ok(store) => Ok(MemoryCells { store }),
-            Err((CellsError::Memory, _)) => Err(CellsError::Memory),
-            Err(_) => Err(CellsError::Store(StoreFault::Refused)),
+            Err((error, _)) => Err(passed_on(error)),
         }
     }
 }
