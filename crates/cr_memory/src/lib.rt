@@ -2,6 +2,7 @@
 #![tactic(auto)]
 
 ghost use Rattle.std.specs.Prelude.{◌≡◌, IfErr};
+ghost use Rattle.cr_memory.specs.Open.{IsOpen};
 ghost use Rattle.cr_memory.specs.Told.{told, passed_on};
 ghost use Rattle.cr_cells.specs.Calls.{IsRefusal};
 
@@ -124,3 +125,8 @@ impl NewCells for MemoryCells {
         }
     }
 }
+
+/// A store in memory is clean as long as its database is open: a file in memory gives back what was written.
+pub fn open_is_clean(cells: &MemoryCells)
+    ensures { IsOpen cells.now → ⟦<MemoryCells as Cells>⟧.is_clean cells.now }
+{}
