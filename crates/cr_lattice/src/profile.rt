@@ -108,7 +108,8 @@ fn is_default_too_long(column: &ColumnDef) -> bool
 {
     match &column.default {
         Value::Null => false,
-        // An integer of 64 bits has 19 digits at most.
+        // An integer of 64 bits has 19 digits at most. The proof knows that a number behind a reference has 64 bits only
+        // where the code reads it.
         Value::Int(number) => {
             let _number = *number;
             false
