@@ -14,6 +14,13 @@ Gives view outcome (Err f.Memory) new = Unit {0}
 Gives view outcome (Err f.Syntax) new = outcome ≡ Fails Syntax new
 Gives view outcome (Err f.Deep) new = outcome ≡ Fails Deep new
 
+-- the same of a function that takes no memory, and so never tells want of it
+abbrev pub Tells : {X A : Type 0} → (X → A) → Outcome A → Result X Fault → List Symbol → Type 0
+Tells view outcome (Ok x) new = outcome ≡ Reads (view x) new
+Tells view outcome (Err f.Memory) new = ⊥
+Tells view outcome (Err f.Syntax) new = outcome ≡ Fails Syntax new
+Tells view outcome (Err f.Deep) new = outcome ≡ Fails Deep new
+
 -- a function value that parses expressions with fewer parentheses or less room
 pub record Nests (opens room : ℕ) (pre : Global → MutBor (List Symbol) → ℕ → ℕ → ℕ → Type 0)
     (post : Global → MutBor (List Symbol) → ℕ → ℕ → ℕ → Result (Expr × ℕ) Fault → MutBor (List Symbol) → Type 0) : Type 0 where

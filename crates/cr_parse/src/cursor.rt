@@ -3,7 +3,7 @@
 ghost use Rattle.std.specs.Prelude.{◌≡◌, length};
 ghost use Rattle.std.specs.Option.{option_copied};
 ghost use Rattle.cr_tree.specs.Reading as spec;
-ghost use Rattle.cr_parse.specs.Given.{Gives};
+ghost use Rattle.cr_parse.specs.Given.{Gives, Tells};
 
 use crate::fault::Fault;
 use cr_tree::symbol::{Mark, Symbol};
@@ -95,7 +95,7 @@ impl<'a> Cursor<'a> {
 
     #[tactic(auto, unfolding(cr_tree::specs::Reading::expect))]
     pub fn expect(&mut self, mark: Mark) -> Result<(), Fault>
-        ensures { Gives (λ _. tt) (spec.expect mark self.old) result self.new }
+        ensures { Tells (λ _. tt) (spec.expect mark self.old) result self.new }
     {
         if self.sees(mark) {
             self.take();

@@ -5,6 +5,7 @@ ghost use Rattle.cr_tree.specs.Reading as spec;
 ghost use Rattle.cr_tree.specs.Language as language;
 ghost use Rattle.cr_tree.specs.Judging.{IsRead, IsBadPlace, MeetsLimit};
 ghost use Rattle.cr_tree.specs.declared.expr.Expr as trees;
+ghost use Rattle.cr_parse.specs.Given.{Gives};
 ghost use Rattle.cr_parse.specs.Judge.{judge};
 
 use crate::cursor::Cursor;
@@ -21,12 +22,19 @@ pub const PARENTHESES: u8 = 200;
 /// The greatest depth of an expression: a leaf is 1, and all else one more than its deepest part.
 pub const DEPTH: u8 = 100;
 
+// An expression within the limits, with its height.
+fn limited(alloc: Global, tokens: &mut Cursor<'_>) -> Result<(Expr, u8), Fault>
+    ensures { Gives (λ x. x) (spec.expr 200 99 1 tokens.old) result tokens.new }
+{
+    expr(alloc, tokens, PARENTHESES, DEPTH - 1, 1)
+}
+
 #[tactic(auto, using(crate::proofs::Refusals::told_then), unfolding(cr_tree::specs::Reading::whole))]
 fn read(alloc: Global, symbols: &[Symbol]) -> Result<Expr, ParseError>
     ensures { result ≢ Err ParseError.Memory → result ≡ judge symbols.now (spec.whole 200 99 symbols.now) }
 {
     let mut cursor = Cursor::new(symbols);
-    let outcome = expr(alloc, &mut cursor, PARENTHESES, DEPTH - 1, 1);
+    let outcome = limited(alloc, &mut cursor);
     let place = symbols.len().saturating_sub(cursor.len());
     match outcome {
         Ok((tree, _)) => {

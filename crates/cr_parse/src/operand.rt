@@ -1,7 +1,8 @@
 //! Operands: what an expression begins with.
 
-ghost use Rattle.std.specs.Prelude.{[], ◌∷◌, ◌≡◌, ◌≤◌, ◌<◌, ◌^◌, pos, neg_ℤ, IfOk};
+ghost use Rattle.std.specs.Prelude.{[], ◌∷◌, ◌≡◌, ◌≤◌, ◌<◌, ◌^◌, max, pos, neg_ℤ, IfOk};
 ghost use Rattle.std.specs.Str.{bytes_eq};
+ghost use Rattle.cr_tree.specs.declared.expr.When.{roll-When};
 ghost use Rattle.cr_tree.specs.Reading as spec;
 ghost use Rattle.cr_tree.specs.Grammar as grammar;
 ghost use Rattle.cr_parse.specs.Given.{Gives, Nests};
@@ -33,6 +34,19 @@ fn unary(alloc: Global, op: Unary, operand: (Expr, u8)) -> Result<(Expr, u8), Al
         Expr::Unary(op, Boxed::new(alloc, operand.0)?),
         operand.1 + 1,
     ))
+}
+
+// An arm of a CASE, with its height.
+fn arm_of(when: (Expr, u8), then: (Expr, u8)) -> (When, u8)
+    ensures { result ≡ (roll-When (record { when = when.0; then = then.0 }), max when.1 then.1) }
+{
+    (
+        When {
+            when: when.0,
+            then: then.0,
+        },
+        when.1.max(then.1),
+    )
 }
 
 fn is_count(name: &Text) -> bool
@@ -247,10 +261,10 @@ impl<F: Fn(Global, &mut Cursor<'_>, u8, u8, u8) -> Result<(Expr, u8), Fault>> Gr
         ensures low { IfOk result (λ x. x.1 < self.now.room) }
     {
         tokens.expect(Mark::When)?;
-        let (when, first) = self.below(tokens, 1)?;
+        let when = self.below(tokens, 1)?;
         tokens.expect(Mark::Then)?;
-        let (then, second) = self.below(tokens, 1)?;
-        Ok((When { when, then }, first.max(second)))
+        let then = self.below(tokens, 1)?;
+        Ok(arm_of(when, then))
     }
 
     /// One arm or more, with the greatest height.

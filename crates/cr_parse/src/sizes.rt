@@ -1,7 +1,7 @@
 //! The sizes of types.
 
 ghost use Rattle.cr_tree.specs.Reading as spec;
-ghost use Rattle.cr_parse.specs.Given.{Gives};
+ghost use Rattle.cr_parse.specs.Given.{Tells};
 
 use crate::cursor::Cursor;
 use crate::fault::Fault;
@@ -9,7 +9,7 @@ use cr_tree::symbol::{Mark, Symbol};
 
 #[tactic(auto, unfolding(cr_tree::specs::Reading::size))]
 fn size(tokens: &mut Cursor<'_>) -> Result<(), Fault>
-    ensures { Gives (λ _. tt) (spec.size tokens.old) result tokens.new }
+    ensures { Tells (λ _. tt) (spec.size tokens.old) result tokens.new }
 {
     let is_size = match tokens.peek() {
         Some(Symbol::Number(n)) => *n < 1 << 63,
@@ -25,7 +25,7 @@ fn size(tokens: &mut Cursor<'_>) -> Result<(), Fault>
 
 #[tactic(auto, unfolding(cr_tree::specs::Reading::second_size))]
 fn second_size(tokens: &mut Cursor<'_>) -> Result<(), Fault>
-    ensures { Gives (λ _. tt) (spec.second_size tokens.old) result tokens.new }
+    ensures { Tells (λ _. tt) (spec.second_size tokens.old) result tokens.new }
 {
     if !tokens.sees(Mark::Comma) {
         return Ok(());
@@ -37,7 +37,7 @@ fn second_size(tokens: &mut Cursor<'_>) -> Result<(), Fault>
 /// The sizes of a type, if they are there: one integer or two, in parentheses. They are dropped.
 #[tactic(auto, unfolding(cr_tree::specs::Reading::sizes))]
 pub fn sizes(tokens: &mut Cursor<'_>) -> Result<(), Fault>
-    ensures { Gives (λ _. tt) (spec.sizes tokens.old) result tokens.new }
+    ensures { Tells (λ _. tt) (spec.sizes tokens.old) result tokens.new }
 {
     if !tokens.sees(Mark::Open) {
         return Ok(());

@@ -1,6 +1,6 @@
 //! Tails: what stands behind an operand and makes a greater expression of it.
 
-ghost use Rattle.std.specs.Prelude.{◌≡◌, ◌≤◌, ◌<◌, IfOk};
+ghost use Rattle.std.specs.Prelude.{◌≡◌, ◌≤◌, ◌<◌, suc, IfOk};
 ghost use Rattle.cr_tree.specs.Reading as spec;
 ghost use Rattle.cr_parse.specs.Given.{Gives, Nests};
 
@@ -17,13 +17,16 @@ fn tested(alloc: Global, op: Unary, left: Expr, height: u8) -> Result<(Expr, u8)
     requires { height < 255 }
     ensures { IfOk result (λ x. x ≡ spec.above (Expr.Unary op) (left, height)) }
 {
-    Ok((Expr::Unary(op, Boxed::new(alloc, left)?), height + 1))
+    let left = Boxed::new(alloc, left)?;
+    Ok((Expr::Unary(op, left), height + 1))
 }
 
 fn binary(alloc: Global, op: Binary, left: Expr, right: Expr) -> Result<Expr, AllocError>
     ensures { IfOk result (λ x. x ≡ Expr.Binary op left right) }
 {
-    Ok(Expr::Binary(op, Boxed::new(alloc, left)?, Boxed::new(alloc, right)?))
+    let left = Boxed::new(alloc, left)?;
+    let right = Boxed::new(alloc, right)?;
+    Ok(Expr::Binary(op, left, right))
 }
 
 fn bounded(
@@ -35,24 +38,30 @@ fn bounded(
 ) -> Result<Expr, AllocError>
     ensures { IfOk result (λ x. x ≡ Expr.Between negated operand low high) }
 {
-    Ok(Expr::Between(
-        negated,
-        Boxed::new(alloc, operand)?,
-        Boxed::new(alloc, low)?,
-        Boxed::new(alloc, high)?,
-    ))
+    let operand = Boxed::new(alloc, operand)?;
+    let low = Boxed::new(alloc, low)?;
+    let high = Boxed::new(alloc, high)?;
+    Ok(Expr::Between(negated, operand, low, high))
 }
 
 fn member(alloc: Global, negated: bool, operand: Expr, all: Items<Expr>) -> Result<Expr, AllocError>
     ensures { IfOk result (λ x. x ≡ Expr.In negated operand all) }
 {
-    Ok(Expr::In(negated, Boxed::new(alloc, operand)?, all))
+    let operand = Boxed::new(alloc, operand)?;
+    Ok(Expr::In(negated, operand, all))
 }
 
 fn collated(alloc: Global, operand: Expr, name: Text) -> Result<Expr, AllocError>
     ensures { IfOk result (λ x. x ≡ Expr.Collate operand name) }
 {
     Ok(Expr::Collate(Boxed::new(alloc, operand)?, name))
+}
+
+// How tightly the right operand binds at least: operators group to the left.
+fn beyond(symbol: &Symbol) -> u8
+    ensures { result ≡ suc (spec.binding symbol.now) }
+{
+    binding(symbol) + 1
 }
 
 // The operator of one symbol, but for IS.
@@ -248,7 +257,7 @@ impl<F: Fn(Global, &mut Cursor<'_>, u8, u8, u8) -> Result<(Expr, u8), Fault>> Gr
                     return Err(Fault::Syntax);
                 };
                 tokens.take();
-                self.operated(tokens, left, height, binding(symbol) + 1, op)
+                self.operated(tokens, left, height, beyond(symbol), op)
             }
         }
     }

@@ -1,7 +1,7 @@
 //! Integers.
 
 ghost use Rattle.std.specs.Prelude.{◌≡◌, ◌^◌, pos, neg_ℤ, if◌then◌else◌, nat_le, Some, None};
-ghost use Rattle.cr_parse.specs.Given.{Gives};
+ghost use Rattle.cr_parse.specs.Given.{Tells};
 ghost use Rattle.cr_statement.specs.Statements as language;
 ghost use Rattle.cr_statement.specs.Reading as reading;
 
@@ -44,7 +44,7 @@ fn below_zero(n: u64) -> Option<i64>
 
 /// An integer without a sign.
 pub fn int(tokens: &mut Cursor<'_>) -> Result<i64, Fault>
-    ensures { Gives (λ x. x) (reading.one_of language.int_of tokens.old) result tokens.new }
+    ensures { Tells (λ x. x) (reading.one_of language.int_of tokens.old) result tokens.new }
 {
     let Some(symbol) = tokens.peek() else {
         return Err(Fault::Syntax);
@@ -58,7 +58,7 @@ pub fn int(tokens: &mut Cursor<'_>) -> Result<i64, Fault>
 
 /// What an integer is behind a minus.
 pub fn negative(tokens: &mut Cursor<'_>) -> Result<i64, Fault>
-    ensures { Gives (λ x. x) (reading.one_of language.negative_of tokens.old) result tokens.new }
+    ensures { Tells (λ x. x) (reading.one_of language.negative_of tokens.old) result tokens.new }
 {
     let Some(symbol) = tokens.peek() else {
         return Err(Fault::Syntax);
