@@ -1,5 +1,5 @@
 -- Opening a new replica.
-use Rattle.std.proofs.Common.{◌≡◌, ◌⊎◌, inl, inr, ℕ, List, [], ◌∷◌, ◌++◌, Bool, true, false, not, ◌&&◌, ◌||◌, cond, nat_le, ◌≤◌, ◌<◌, arith, Option, Some, None, refl, sym, ap, subst, ◌∙◌, map, position, length}
+use Rattle.std.proofs.Common.{◌≡◌, inl, inr, ℕ, List, [], ◌∷◌, ◌++◌, Bool, true, false, not, ◌&&◌, ◌||◌, cond, nat_le, ◌≤◌, ◌<◌, arith, Option, Some, None, refl, sym, ap, subst, ◌∙◌, map, length}
 use Rattle.std.specs.Prelude.{is_some}
 use Rattle.std.specs.List.{AllByRecursion, list_any}
 use Rattle.std.proofs.lemmas.List.{length-map}
@@ -13,9 +13,9 @@ use Rattle.cr_session.specs.declared.command.FleetReply.TheVariants.{Done, Refus
 use Rattle.cr_session.specs.declared.fleet.Named.{Named}
 use Rattle.cr_session.specs.declared.refusal.Limit.TheVariants as limit
 use Rattle.cr_session.specs.declared.refusal.Refusal.{Refusal}
-use Rattle.cr_session.specs.declared.refusal.Refusal.TheVariants.{Limit, BadName, SameSite}
-use Rattle.cr_session.specs.World.{World, Member, Keeps, AllKeep, new_member, place_of, after}
-use Rattle.cr_session.specs.Answers.{Answers, opening_refusal, has_site, is_replica_name}
+use Rattle.cr_session.specs.declared.refusal.Refusal.TheVariants.{Limit, BadName, SameSite, Memory}
+use Rattle.cr_session.specs.World.{World, Keeps, new_member, place_of}
+use Rattle.cr_session.specs.Answers.{IsWant, IsWantFor, opening_refusal, has_site, is_replica_name}
 use Rattle.cr_session.specs.Fleets.{FleetOf, AreClean, Shows, Steps, seen, name_and_holding, place_in, is_free_name}
 use Rattle.cr_session.proofs.Places.{pair, all_map, map_any, map_append, all_append, all_front, all_last}
 use Rattle.cr_session.proofs.Stepping.{place_same, same_steps}
@@ -67,12 +67,23 @@ module _ {C : Type 0} (is_clean : C → Type 0) (holding : C → Holding) (old :
   pub open_name : is_free_name name old ≡ false → Steps is_clean holding old (Open name site) (Refused (BadName name)) old
   open_name e = same_steps is_clean holding old (Open name site) (Refused (BadName name)) (λ clean w s. inr (told w true _ _ (taken w s e) refl refl)) (λ w. refl)
 
+  -- there is no memory for a name that may not be
+  pub open_nameless : is_free_name name old ≡ false → Steps is_clean holding old (Open name site) (Refused Memory) old
+  open_nameless e = same_steps is_clean holding old (Open name site) (Refused Memory)
+      (λ clean w s. inl (subst (λ o. IsWantFor o Memory) (sym (told w true _ _ (taken w s e) refl refl)) (refl, refl))) (λ w. refl)
+
   pub open_full : is_free_name name old ≡ true → nat_le 64 (length old.0) ≡ true → Steps is_clean holding old (Open name site) (Refused (Limit limit.Replicas)) old
   open_full e f = same_steps is_clean holding old (Open name site) (Refused (Limit limit.Replicas)) (λ clean w s. inr (told w false true _ (free w s e) (count w true s f) refl)) (λ w. refl)
 
   pub open_site : is_free_name name old ≡ true → nat_le 64 (length old.0) ≡ false → (AreClean is_clean old → list_any (λ r. same_bytes (holding r.1).site site) old.0 ≡ true)
       → Steps is_clean holding old (Open name site) (Refused SameSite) old
   open_site e f g = same_steps is_clean holding old (Open name site) (Refused SameSite) (λ clean w s. inr (told w false false true (free w s e) (count w false s f) (site_same w s ∙ g clean))) (λ w. refl)
+
+  -- nothing stands against it, and memory or the store does not suffice
+  pub open_want : (r : Refusal) → IsWant r → is_free_name name old ≡ true → nat_le 64 (length old.0) ≡ false → (AreClean is_clean old → list_any (λ r. same_bytes (holding r.1).site site) old.0 ≡ false)
+      → Steps is_clean holding old (Open name site) (Refused r) old
+  open_want r is e f g = same_steps is_clean holding old (Open name site) (Refused r)
+      (λ clean w s. inl (subst (λ o. IsWantFor o r) (sym (told w false false false (free w s e) (count w false s f) (site_same w s ∙ g clean))) is)) (λ w. refl)
 
   pub open_done : (c : C) → is_free_name name old ≡ true → nat_le 64 (length old.0) ≡ false → (AreClean is_clean old → list_any (λ r. same_bytes (holding r.1).site site) old.0 ≡ false)
       → (is_clean c → holding c ≡ empty_holding site) → Steps is_clean holding old (Open name site) Done (old.0 ++ (name, c) ∷ [], Some (length old.0))
@@ -116,3 +127,11 @@ module _ {C : Type 0} (is_clean : C → Type 0) (holding : C → Holding) where
       let last : at ≡ length (map pair items) = place ∙ sym (length-map items pair) in
       subst (λ (f : FleetOf C). Steps is_clean holding (map pair items, in_use) (Open name site) Done f) (sym (λ i. (there i, Some (last i))))
       (open_done is_clean holding (map pair items, in_use) name site n.replica free room other made)
+
+  pub not_opened : (items new : List (Named C)) (in_use : Option ℕ) (name site : List ℕ) (r : Refusal) → new ≡ items → IsWant r
+      → is_free_name name (map pair items, in_use) ≡ true → nat_le 64 (length (map pair items)) ≡ false
+      → (AreClean is_clean (map pair items, in_use) → list_any (λ (r : List ℕ × C). same_bytes (holding r.1).site site) (map pair items) ≡ false)
+      → Steps is_clean holding (map pair items, in_use) (Open name site) (Refused r) (map pair new, in_use)
+  not_opened items new in_use name site r same is free room other =
+      subst (λ (rs : List (Named C)). Steps is_clean holding (map pair items, in_use) (Open name site) (Refused r) (map pair rs, in_use)) (sym same)
+      (open_want is_clean holding (map pair items, in_use) name site r is free room other)

@@ -1,12 +1,11 @@
 -- The members of a world and the stores of a fleet, place by place.
-use Rattle.std.proofs.Common.{◌≡◌, ℕ, zero, suc, ◌+◌, ◌<◌, arith, Bool, true, false, not, ◌||◌, cond, List, [], ◌∷◌, ◌++◌, Option, Some, None, refl, sym, ap, subst, ◌∙◌, map, position, length, nat_lt, slice_get, slice_set}
+use Rattle.std.proofs.Common.{◌≡◌, ℕ, zero, suc, ◌+◌, ◌<◌, arith, Bool, not, ◌||◌, cond, List, [], ◌∷◌, ◌++◌, Some, None, refl, ap, subst, ◌∙◌, map, position, length, nat_lt, slice_get, slice_set}
 use Rattle.std.specs.List.{AllByRecursion, list_any, position_or_len}
 use Rattle.std.proofs.lemmas.List.{length-map}
-use Rattle.cr_lattice.specs.Check.{same_bytes}
 use Rattle.cr_cells.specs.Holding.{Holding}
 use Rattle.cr_session.specs.declared.fleet.Named.{Named}
-use Rattle.cr_session.specs.World.{World, Member, Keeps, AllKeep, changed_at, is_called}
-use Rattle.cr_session.specs.Fleets.{FleetOf, AreClean, seen, name_and_holding}
+use Rattle.cr_session.specs.World.{Member, Keeps, changed_at}
+use Rattle.cr_session.specs.Fleets.{seen, name_and_holding}
 
 -- ---- a list and what is made of it
 

@@ -1,8 +1,6 @@
 -- A pull: what a peer offers, and what the replica in use takes.
-use Rattle.std.proofs.Common.{◌≡◌, ◌≢◌, ◌⊎◌, inl, inr, ℕ, List, [], ◌∷◌, ◌++◌, Bool, true, false, Option, Some, None, Result, Ok, Err, refl, sym, ap, subst, ◌∙◌, map, position, slice_get, slice_set}
-use Rattle.std.specs.List.{AllByRecursion}
+use Rattle.std.proofs.Common.{◌≡◌, ◌≢◌, inl, inr, ℕ, List, ◌++◌, false, Option, Some, None, Result, Ok, Err, refl, sym, ap, subst, ◌∙◌, map, slice_get, slice_set}
 use Rattle.cr_lattice.specs.declared.change.Change.{Change}
-use Rattle.cr_lattice.specs.Check.{same_bytes}
 use Rattle.cr_cells.specs.declared.store.CellsError.{CellsError}
 use Rattle.cr_cells.specs.declared.store.CellsError.TheVariants as cells
 use Rattle.cr_cells.specs.declared.store.StoreFault.TheVariants as store
@@ -20,16 +18,16 @@ use Rattle.cr_session.specs.declared.command.FleetReply.{FleetReply}
 use Rattle.cr_session.specs.declared.command.FleetReply.TheVariants.{Done, Refused}
 use Rattle.cr_session.specs.declared.fleet.Named.{Named}
 use Rattle.cr_session.specs.declared.refusal.Refusal.{Refusal}
-use Rattle.cr_session.specs.declared.refusal.Refusal.TheVariants.{Store, Memory, NoReplica}
+use Rattle.cr_session.specs.declared.refusal.Refusal.TheVariants.{Store, NoReplica}
 use Rattle.cr_session.specs.Refusals.{of_store, of_taking}
-use Rattle.cr_session.specs.World.{World, Member, Keeps, AllKeep, used, named, place_of, item_at, with_used, pulling, after}
-use Rattle.cr_session.specs.Answers.{Answers, OfUsed, IsWant, Pulls}
-use Rattle.cr_session.specs.Fleets.{FleetOf, AreClean, Shows, Steps, Offered, Offers, seen, name_and_holding, place_in}
+use Rattle.cr_session.specs.World.{World, Member, Keeps, used, named, item_at, pulling}
+use Rattle.cr_session.specs.Answers.{IsWant, Pulls}
+use Rattle.cr_session.specs.Fleets.{FleetOf, AreClean, Shows, Steps, Offered, Offers, name_and_holding, place_in}
 use Rattle.cr_session.proofs.Places.{pair, map_set, same_at, none_at, stays_at, all_at, all_set, all_before}
-use Rattle.cr_session.proofs.Stepping.{place_same, unused, used_steps, stays_steps, of_used, clean_before}
+use Rattle.cr_session.proofs.Stepping.{place_same, used_steps, stays_steps, of_used, clean_before}
 
 -- a store's refusal of a reading is want of memory, or that it refuses
-wanting : (e : CellsError) → IsRefusal e → IsWant (of_store e)
+pub wanting : (e : CellsError) → IsRefusal e → IsWant (of_store e)
 wanting cells.Memory p = inl refl
 wanting (cells.Store f) p = inr (ap Store p)
 wanting cells.VersionLimit p = absurd p

@@ -1,10 +1,10 @@
 -- Runs of a fleet, command by command, and what two replicas show that held the same.
-use Rattle.std.proofs.Common.{◌≡◌, ℕ, zero, suc, List, [], ◌∷◌, ◌++◌, Option, Some, None, Result, Ok, Err, refl, sym, ap, subst, ◌∙◌, find, take, slice_get}
+use Rattle.std.proofs.Common.{◌≡◌, ℕ, zero, suc, List, [], ◌∷◌, ◌++◌, Option, Some, None, refl, sym, ap, subst, ◌∙◌, find, slice_get}
 use Rattle.std.specs.Prelude.{if◌then◌else◌}
 use Rattle.cr_value.specs.declared.value.Value.{Value}
 use Rattle.cr_lattice.specs.declared.change.Change.{Change}
 use Rattle.cr_lattice.specs.declared.table.Table.{Table}
-use Rattle.cr_lattice.specs.Keep.{SameMembers, keep}
+use Rattle.cr_lattice.specs.Keep.{SameMembers}
 use Rattle.cr_lattice.proofs.KeepLaws.{keep_members}
 use Rattle.cr_cells.specs.Holding.{Holding, kept_of}
 use Rattle.cr_cells.specs.Tables.{is_named}

@@ -1,5 +1,5 @@
 -- Steps of a fleet: what a call of one of its replicas means for the world.
-use Rattle.std.proofs.Common.{◌≡◌, ◌≢◌, ◌⊎◌, inl, inr, ℕ, List, [], ◌∷◌, ◌++◌, Bool, true, false, Option, Some, None, Result, Ok, Err, refl, sym, ap, subst, ◌∙◌, map, find, position, slice_get, slice_set, ◌<◌, length}
+use Rattle.std.proofs.Common.{◌≡◌, ◌⊎◌, inl, inr, ℕ, List, [], ◌∷◌, ◌++◌, Bool, true, false, Option, Some, None, Result, Ok, Err, refl, sym, ap, subst, ◌∙◌, map, find, position, slice_get, slice_set, ◌<◌, length}
 use Rattle.std.specs.Option.{option_map}
 use Rattle.std.proofs.lemmas.Option.{slice_get-map}
 use Rattle.cr_value.specs.declared.value.Value.{Value}
@@ -23,7 +23,7 @@ use Rattle.cr_replica.specs.Definition.{DefinesTable, IsAccepted, IsRefusedFor, 
 use Rattle.cr_replica.specs.Showing.{Shows as ShowsRows}
 use Rattle.cr_replica.specs.Taking.{Stands, Takes as TakesAll, IsNotTaken}
 use Rattle.cr_session.specs.declared.command.Command.{Command}
-use Rattle.cr_session.specs.declared.command.Command.TheVariants.{Open, Use, Define, Take, Rows, Pull}
+use Rattle.cr_session.specs.declared.command.Command.TheVariants.{Use, Define, Take, Rows, Pull}
 use Rattle.cr_session.specs.declared.command.Declaration.{Declaration}
 use Rattle.cr_session.specs.declared.command.Declaration.TheVariants.{Real, Table}
 use Rattle.cr_session.specs.declared.command.FleetReply.{FleetReply}
@@ -33,7 +33,7 @@ use Rattle.cr_session.specs.declared.refusal.OutOfProfile.TheVariants as out
 use Rattle.cr_session.specs.declared.refusal.Refusal.{Refusal}
 use Rattle.cr_session.specs.declared.refusal.Refusal.TheVariants.{OutOfProfile, BadChange, Store, Memory, NoReplica}
 use Rattle.cr_session.specs.Refusals.{of_definition, of_taking, of_rows}
-use Rattle.cr_session.specs.World.{World, Member, Keeps, AllKeep, changed_at, changed_in_use, with_used, used, place_of, item_at, defining, taking, after}
+use Rattle.cr_session.specs.World.{World, Member, Keeps, changed_at, changed_in_use, with_used, used, place_of, item_at, defining, taking, after}
 use Rattle.cr_session.specs.Answers.{Answers, Uses, OfUsed, Takes, Shows as ShowsTable}
 use Rattle.cr_session.specs.Fleets.{FleetOf, AreClean, Shows, Steps, seen, name_and_holding, place_in}
 use Rattle.cr_session.proofs.Places.{some_within, pair, map_set, position_map, same_at, none_at, set_at, stays_at, keeps_set, all_at, all_set, all_before}
@@ -187,7 +187,7 @@ module _ {C : Type 0} (is_clean : C → Type 0) (holding : C → Holding) where
 
     module _ (row : ChangeRow) where
       takes_memory : (m : Member) (o : Option Change) → Takes m o (Refused Memory)
-      takes_memory m None = inl (inl refl)
+      takes_memory m None = inl refl
       takes_memory m (Some c) = (take.Memory, tt, refl)
 
       pub take_memory : seen holding r' ≡ seen holding r → Steps is_clean holding old (Take row) (Refused Memory) (slice_set old.0 i r', old.1)

@@ -1,9 +1,8 @@
 -- Which reply a command may have in a world. Want of memory, or a store that refuses, may be the reply of every command
 -- that needs them; else the reply is the one that is said here. Source: this project's own.
 use Rattle.std.specs.Prelude.{◌≡◌, ◌≢◌, ◌⊎◌, ℕ, Bool, true, false, not, ◌&&◌, ◌||◌, nat_le, nat_lt, List, [], ◌∷◌, length, find, Option, Some, None, is_some, if◌then◌else◌}
-use Rattle.std.specs.List.{list_any, list_all, AllByRecursion}
+use Rattle.std.specs.List.{list_any, list_all}
 use Rattle.std.specs.Char.{is_ascii_alphanumeric}
-use Rattle.cr_value.specs.declared.value.Value.{Value}
 use Rattle.cr_lattice.specs.declared.change.Change.{Change}
 use Rattle.cr_lattice.specs.declared.check.BadChange.TheVariants.{Shape}
 use Rattle.cr_lattice.specs.declared.table.TableDef.{TableDef}
@@ -27,7 +26,7 @@ use Rattle.cr_session.specs.declared.refusal.Refusal.{Refusal}
 use Rattle.cr_session.specs.declared.refusal.Refusal.TheVariants as refusal
 use Rattle.cr_session.specs.declared.refusal.OutOfProfile.TheVariants as out
 use Rattle.cr_session.specs.declared.refusal.Limit.TheVariants as limit
-use Rattle.cr_session.specs.Refusals.{of_definition, of_taking}
+use Rattle.cr_session.specs.Refusals.{has_name, of_definition, of_taking}
 use Rattle.cr_session.specs.World.{World, Member, place_of, named, used}
 
 -- ---- a new replica
@@ -51,10 +50,16 @@ opening_refusal w name site =
 abbrev pub IsWant : Refusal → Type 0
 IsWant r = (r ≡ refusal.Memory) ⊎ (r ≡ refusal.Store store.Refused)
 
+-- what may be told in place of the first cause: of a cause with a name that there is no memory for the name, of another
+-- nothing, and where there is no cause that memory or the store does not suffice
+abbrev pub IsWantFor : Option Refusal → Refusal → Type 0
+IsWantFor None r = IsWant r
+IsWantFor (Some cause) r = (has_name cause ≡ true) × (r ≡ refusal.Memory)
+
 abbrev pub Opens : World → List ℕ → List ℕ → FleetReply → Type 0
 Opens w name site Done = opening_refusal w name site ≡ None
 Opens w name site (Shown rows) = ⊥
-Opens w name site (Refused r) = IsWant r ⊎ (opening_refusal w name site ≡ Some r)
+Opens w name site (Refused r) = IsWantFor (opening_refusal w name site) r ⊎ (opening_refusal w name site ≡ Some r)
 
 -- the replica of that name, where there is one
 abbrev pub Uses : Option ℕ → FleetReply → Type 0
@@ -72,7 +77,7 @@ Defines m def (Refused r) = IsWant r ⊎ ((e : DefineError) × IsRefusedFor m.ho
 abbrev pub Takes : Member → Option Change → FleetReply → Type 0
 Takes m None Done = ⊥
 Takes m None (Shown rows) = ⊥
-Takes m None (Refused r) = IsWant r ⊎ (r ≡ refusal.BadChange Shape)
+Takes m None (Refused r) = (r ≡ refusal.Memory) ⊎ (r ≡ refusal.BadChange Shape)
 Takes m (Some c) Done = (first_fault m.holding.tables (c ∷ []) ≡ None) × (is_past_limit m.holding (c ∷ []) ≡ false)
 Takes m (Some c) (Shown rows) = ⊥
 Takes m (Some c) (Refused r) = (e : TakeError) × IsNotTaken m.holding (c ∷ []) e × (r ≡ of_taking e)

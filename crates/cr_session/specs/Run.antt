@@ -1,13 +1,12 @@
 -- Runs of a fleet, and what holds over each. Source: this project's own.
 use Rattle.std.specs.Prelude.{◌≡◌, ℕ, List, [], ◌∷◌, find, take, Option, Some, None, slice_get}
-use Rattle.cr_value.specs.declared.value.Value.{Value}
 use Rattle.cr_lattice.specs.declared.table.Table.{Table}
 use Rattle.cr_lattice.specs.Keep.{SameMembers}
 use Rattle.cr_cells.specs.Tables.{is_named}
 use Rattle.cr_session.specs.declared.command.Command.{Command}
 use Rattle.cr_session.specs.declared.command.Command.TheVariants.{Rows}
 use Rattle.cr_session.specs.declared.command.FleetReply.{FleetReply}
-use Rattle.cr_session.specs.declared.command.FleetReply.TheVariants.{Done, Rows as Shown, Refused}
+use Rattle.cr_session.specs.declared.command.FleetReply.TheVariants.{Rows as Shown}
 use Rattle.cr_session.specs.World.{World, Member, AllKeep, used, after}
 use Rattle.cr_session.specs.Answers.{Answers}
 

@@ -1,6 +1,6 @@
 -- The world of a fleet: what each replica holds, and which is in use. The set of all changes that a replica ever held is
 -- no data of the program: the world has it, and what the replica keeps is what that set keeps. Source: this project's own.
-use Rattle.std.specs.Prelude.{◌≡◌, ℕ, zero, suc, Bool, List, [], ◌∷◌, ◌++◌, map, length, position, Option, Some, None, slice_get}
+use Rattle.std.specs.Prelude.{ℕ, zero, suc, Bool, List, [], ◌∷◌, ◌++◌, length, position, Option, Some, None, slice_get}
 use Rattle.std.specs.List.{AllByRecursion}
 use Rattle.cr_lattice.specs.declared.change.Change.{Change}
 use Rattle.cr_lattice.specs.declared.table.TableDef.{TableDef}
@@ -11,10 +11,10 @@ use Rattle.cr_replica.specs.ChangeRow.{change_of}
 use Rattle.cr_replica.specs.Definition.{defined}
 use Rattle.cr_replica.specs.Taking.{Stands, changes_of_peer}
 use Rattle.cr_session.specs.declared.command.Command.{Command}
-use Rattle.cr_session.specs.declared.command.Command.TheVariants.{Open, Use, Define, Take, Rows, Pull}
-use Rattle.cr_session.specs.declared.command.Declaration.TheVariants.{Real, Table}
+use Rattle.cr_session.specs.declared.command.Command.TheVariants.{Open, Use, Define, Take, Pull}
+use Rattle.cr_session.specs.declared.command.Declaration.TheVariants.{Table}
 use Rattle.cr_session.specs.declared.command.FleetReply.{FleetReply}
-use Rattle.cr_session.specs.declared.command.FleetReply.TheVariants.{Done, Rows as Shown, Refused}
+use Rattle.cr_session.specs.declared.command.FleetReply.TheVariants.{Done}
 
 -- a replica: its name, what its store holds, and all changes that it ever held
 pub record Member : Type 0 where

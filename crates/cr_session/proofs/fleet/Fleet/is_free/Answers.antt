@@ -1,8 +1,6 @@
-use Rattle.std.proofs.Common.{rules, ◌≡◌, ℕ, Bool, true, not, ◌&&◌, Option, sym, ap, ◌∙◌, refl, position}
+use Rattle.std.proofs.Common.{rules, ◌≡◌, true, not, ◌&&◌, sym, ◌∙◌}
 use Rattle.std.specs.Prelude.{is_some}
-use Rattle.cr_lattice.specs.Check.{same_bytes}
 use Rattle.cr_session.specs.Answers.{is_replica_name}
-use Rattle.cr_session.specs.Fleets.{is_free_name}
 use Rattle.cr_session.proofs.Stepping.{place_paired}
 use Rattle.cr_session.proofs.fleet.Fleet.is_free.Goals as goal
 

@@ -1,5 +1,5 @@
-use Rattle.std.proofs.Common.{rules, ◌≡◌, ◌<◌, ◌≤◌, List, Option, Some, None, sym, ap, ◌∙◌, refl, length, slice_get, arith}
-use Rattle.std.proofs.lemmas.Option.{slice_get-get_or, slice_get_past}
+use Rattle.std.proofs.Common.{rules, ◌≡◌, ◌<◌, Some, None, sym, ap, ◌∙◌, refl, length, slice_get, arith}
+use Rattle.std.proofs.lemmas.Option.{slice_get-get_or}
 use Rattle.cr_session.proofs.Stepping.{pair_at, place_paired}
 use Rattle.cr_session.proofs.Pulling.{offer_none, offer_ok, offer_err, viewed_offers}
 use Rattle.cr_session.proofs.fleet.Fleet.offer.Goals.{in-Ok, in-Err}

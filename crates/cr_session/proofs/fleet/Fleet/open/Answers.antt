@@ -1,12 +1,15 @@
-use Rattle.std.proofs.Common.{rules, ◌++◌, [], ◌∷◌, ◌≡◌, ◌≤◌, ◌<◌, ℕ, Bool, List, Option, Some, None, true, false, nat_le, sym, ap, subst, ◌∙◌, refl, length, arith, map}
-use Rattle.std.proofs.lemmas.List.{length-map}
+use Rattle.std.proofs.Common.{rules, ◌++◌, [], ◌∷◌, ◌≡◌, ◌≤◌, ◌<◌, ℕ, List, true, false, sym, ap, subst, ◌∙◌, refl, length, arith}
+use Rattle.std.proofs.lemmas.Result.{err_from_is_err_and}
+use Rattle.std.proofs.Common.{inl}
 use Rattle.std.specs.List.{AllByRecursion}
-use Rattle.cr_session.specs.Fleets.{is_free_name, Steps, FleetOf}
+use Rattle.cr_session.specs.Fleets.{is_free_name, Steps}
 use Rattle.cr_session.specs.declared.command.Command.TheVariants.{Open}
-use Rattle.cr_session.specs.declared.command.FleetReply.TheVariants.{Done, Refused}
-use Rattle.cr_session.specs.declared.refusal.Refusal.TheVariants.{BadName}
+use Rattle.cr_session.specs.declared.command.FleetReply.TheVariants.{Refused}
+use Rattle.cr_session.specs.declared.refusal.Refusal.TheVariants.{BadName, Memory}
 use Rattle.cr_session.specs.declared.fleet.Named.{Named}
-use Rattle.cr_session.proofs.Opening.{open_name, open_full, open_site, open_done, opened, site_paired, full_paired, room_paired}
+use Rattle.cr_session.proofs.Opening.{open_name, open_full, open_site, open_nameless, opened, not_opened, site_paired, full_paired, room_paired}
+use Rattle.cr_session.specs.Refusals.{of_store}
+use Rattle.cr_session.proofs.Pulling.{wanting}
 use Rattle.cr_session.proofs.fleet.Fleet.open.Goals as goal
 
 pub returns-then-not-is_free : goal.returns-then-not-is_free
@@ -29,6 +32,41 @@ returns-then-has_site g c =
     let room : length replicas.items < 64 = (let h = c.if-len-ge-REPLICA_LIMIT.false in let l = c.len.ensures in let n = replicas.ok.0 in omega arith) in
     rw (← c.self.view_is) (open_site g.C.Cells.is_clean g.C.Cells.holding _ c.args.name.now c.args.site (rw (← c.self.view_is) at free) (room_paired g.C.Cells.is_clean g.C.Cells.holding replicas.items c.args.site room)
     (site_paired g.C.Cells.is_clean g.C.Cells.holding replicas.items c.args.site true (λ clean. sym c.if-has_site.true ∙ rw c.deref.ensures.value at (c.has_site.ensures (subst (AllByRecursion (λ r. g.C.Cells.is_clean r.replica)) (sym c.deref.ensures.value) clean))) c.self.inside.in_use))
+
+pub returns-in_err-copy : goal.returns-in_err-copy
+returns-in_err-copy g c =
+    let taken : is_free_name c.args.name.now c.args.self.now ≡ false = ap (λ (n : List ℕ). is_free_name n c.args.self.now) (sym c.as_str.ensures.value) ∙ sym c.is_free.ensures ∙ c.if-not-is_free.true in
+    let told = err_from_is_err_and c.from_residual.result c.from_residual.ensures.1 in
+    rw (told.1, told.2) (open_nameless g.C.Cells.is_clean g.C.Cells.holding c.args.self.now c.args.name.now c.args.site taken)
+
+pub returns-in_err-name : goal.returns-in_err-name
+returns-in_err-name g c =
+    let replicas = c.self.inside.replicas in
+    let free : is_free_name c.args.name.now c.args.self.now ≡ true = ap (λ (n : List ℕ). is_free_name n c.args.self.now) (sym c.as_str.ensures.value) ∙ sym c.is_free.ensures ∙ c.if-not-is_free.false in
+    let room : length replicas.items < 64 = (let h = c.if-len-ge-REPLICA_LIMIT.false in let l = c.len.ensures in let n = replicas.ok.0 in omega arith) in
+    let other = site_paired g.C.Cells.is_clean g.C.Cells.holding replicas.items c.args.site false (λ clean. sym c.if-has_site.false ∙ rw c.deref.ensures.value at (c.has_site.ensures (subst (AllByRecursion (λ r. g.C.Cells.is_clean r.replica)) (sym c.deref.ensures.value) clean))) c.self.inside.in_use in
+    let told = err_from_is_err_and c.from_residual-in_err-name.result c.from_residual-in_err-name.ensures.1 in
+    rw (told.1, told.2, ← c.self.view_is)
+    (not_opened g.C.Cells.is_clean g.C.Cells.holding replicas.items replicas.items c.self.inside.in_use c.args.name.now c.args.site Memory refl (inl refl) (rw (← c.self.view_is) at free) (room_paired g.C.Cells.is_clean g.C.Cells.holding replicas.items c.args.site room) other)
+
+pub returns-in-Err : goal.returns-in-Err
+returns-in-Err g c =
+    let replicas = c.self.inside.replicas in
+    let free : is_free_name c.args.name.now c.args.self.now ≡ true = ap (λ (n : List ℕ). is_free_name n c.args.self.now) (sym c.as_str.ensures.value) ∙ sym c.is_free.ensures ∙ c.if-not-is_free.false in
+    let room : length replicas.items < 64 = (let h = c.if-len-ge-REPLICA_LIMIT.false in let l = c.len.ensures in let n = replicas.ok.0 in omega arith) in
+    let other = site_paired g.C.Cells.is_clean g.C.Cells.holding replicas.items c.args.site false (λ clean. sym c.if-has_site.false ∙ rw c.deref.ensures.value at (c.has_site.ensures (subst (AllByRecursion (λ r. g.C.Cells.is_clean r.replica)) (sym c.deref.ensures.value) clean))) c.self.inside.in_use in
+    rw (c.from.ensures, ← c.self.view_is)
+    (not_opened g.C.Cells.is_clean g.C.Cells.holding replicas.items replicas.items c.self.inside.in_use c.args.name.now c.args.site (of_store c.in-Err.error) refl (wanting c.in-Err.error c.in-Err.ensures) (rw (← c.self.view_is) at free) (room_paired g.C.Cells.is_clean g.C.Cells.holding replicas.items c.args.site room) other)
+
+pub returns-then-is_err : goal.returns-then-is_err
+returns-then-is_err g c =
+    let replicas = c.self.inside.replicas in
+    let free : is_free_name c.args.name.now c.args.self.now ≡ true = ap (λ (n : List ℕ). is_free_name n c.args.self.now) (sym c.as_str.ensures.value) ∙ sym c.is_free.ensures ∙ c.if-not-is_free.false in
+    let room : length replicas.items < 64 = (let h = c.if-len-ge-REPLICA_LIMIT.false in let l = c.len.ensures in let n = replicas.ok.0 in omega arith) in
+    let other = site_paired g.C.Cells.is_clean g.C.Cells.holding replicas.items c.args.site false (λ clean. sym c.if-has_site.false ∙ rw c.deref.ensures.value at (c.has_site.ensures (subst (AllByRecursion (λ r. g.C.Cells.is_clean r.replica)) (sym c.deref.ensures.value) clean))) c.self.inside.in_use in
+    let same : c.push.new.self.items ≡ replicas.items = search rules in
+    rw (← c.self.view_is)
+    (not_opened g.C.Cells.is_clean g.C.Cells.holding replicas.items c.push.new.self.items c.self.inside.in_use c.args.name.now c.args.site Memory same (inl refl) (rw (← c.self.view_is) at free) (room_paired g.C.Cells.is_clean g.C.Cells.holding replicas.items c.args.site room) other)
 
 pub returns : goal.returns
 returns g c =

@@ -1,8 +1,8 @@
-use Rattle.std.proofs.Common.{rules, ◌≡◌, ◌<◌, ◌≤◌, List, Option, Some, None, sym, ap, ◌∙◌, refl, length, slice_get, arith, map}
+use Rattle.std.proofs.Common.{rules, ◌≡◌, ◌<◌, Some, sym, ap, ◌∙◌, refl, length, slice_get, arith, map}
 use Rattle.std.proofs.lemmas.Option.{slice_get-get_or}
 use Rattle.cr_session.specs.Fleets.{FleetOf}
 use Rattle.cr_session.proofs.Places.{pair, map_set}
-use Rattle.cr_session.proofs.Stepping.{pair_at, some_paired, viewed}
+use Rattle.cr_session.proofs.Stepping.{pair_at, some_paired}
 use Rattle.cr_session.proofs.Pulling.{pull_not_offered, pull_ok, pull_err}
 use Rattle.cr_session.proofs.fleet.Fleet.pull.Goals as goal
 

@@ -1,4 +1,4 @@
-use Rattle.std.proofs.Common.{rules, ℕ, Err, subst, find, ◌≡◌, ◌<◌, List, Option, Some, None, sym, ap, ◌∙◌, refl, length, slice_get, arith}
+use Rattle.std.proofs.Common.{rules, ℕ, Err, subst, find, ◌≡◌, ◌<◌, List, Some, sym, ap, ◌∙◌, refl, length, slice_get, arith}
 use Rattle.std.proofs.lemmas.Option.{slice_get-get_or}
 use Rattle.cr_cells.specs.Tables.{is_named}
 use Rattle.cr_replica.specs.Showing.{Shows}

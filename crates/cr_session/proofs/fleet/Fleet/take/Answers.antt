@@ -1,4 +1,4 @@
-use Rattle.std.proofs.Common.{rules, ◌≡◌, ◌<◌, List, Option, Some, None, sym, ap, ◌∙◌, refl, length, slice_get, arith}
+use Rattle.std.proofs.Common.{rules, ◌≡◌, ◌<◌, Some, sym, ap, ◌∙◌, refl, length, slice_get, arith}
 use Rattle.std.proofs.lemmas.Option.{slice_get-get_or}
 use Rattle.cr_session.proofs.Stepping.{pair_at, viewed, take_memory, take_shape, take_ok, take_err}
 use Rattle.cr_session.proofs.fleet.Fleet.take.Goals as goal
