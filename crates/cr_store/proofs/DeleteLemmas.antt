@@ -1,23 +1,18 @@
 -- What the DELETE of a store removes.
-use Rattle.std.proofs.Common.{◌≡◌, ℕ, ℤ, List, [], ◌∷◌, map, filter, not, codes, Ok, false, refl, sym, ap, subst, ◌∙◌}
+use Rattle.std.proofs.Common.{ℕ, ℤ, List, [], ◌∷◌, map, not, codes, Ok, false, refl, ap}
 use Rattle.sqlite.specs.declared.types.Value.TheVariants.{Int, Text, Blob}
 use Rattle.sqlite.specs.Order.{Row}
 use Rattle.sqlite.specs.State.{State, ExecutesIn}
-use Rattle.sqlite_rules.specs.Lists.{Has}
-use Rattle.sqlite_rules.proofs.ProbeLemmas.{has_mapped}
-use Rattle.sqlite_trees.proofs.ListLemmas.{filter-map}
-use Rattle.cr_rows.specs.Rows.{Lists}
-use Rattle.cr_rows.proofs.RowLemmas.{lists_in, lists_filter}
-use Rattle.cr_rows.proofs.SelectLemmas.{passes_all}
+use Rattle.cr_rows.proofs.RowLemmas.{lists_in}
 use Rattle.cr_rows.proofs.DeleteLemmas.{deletes}
 use Rattle.cr_lattice.specs.declared.change.Change.{Change}
 use Rattle.cr_lattice.specs.declared.stamped.Stamped.{Stamped}
 use Rattle.cr_store.specs.Schema.{cell_columns, store_schema}
-use Rattle.cr_store.specs.Rows.{cell_row, cell_of}
+use Rattle.cr_store.specs.Rows.{cell_row}
 use Rattle.cr_store.specs.Shows.{Holds}
 use Rattle.cr_store.specs.Plan.{without_old}
 use Rattle.cr_store.proofs.RowTests.{passes_old}
-use Rattle.cr_store.proofs.ReadLemmas.{as_cells, lists_kept}
+use Rattle.cr_store.proofs.ReadLemmas.{lists_kept}
 use Rattle.cr_store.proofs.StoreLemmas.{with_cells}
 use Rattle.cr_store.proofs.TextLemmas.{delete_cell, delete_cell_is, delete_cell_plain, at_old_key, cell_bare}
 

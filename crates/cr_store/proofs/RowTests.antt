@@ -1,5 +1,5 @@
 -- How sqlite compares the keys of a store's rows.
-use Rattle.std.proofs.Common.{◌≡◌, ◌∷◌, [], ℕ, ℤ, List, Bool, true, false, ◌&&◌, refl, sym, ap, ◌∙◌, is_eq, is_gt, Ordering, Less, Equal, Greater, int_cmp, arith}
+use Rattle.std.proofs.Common.{◌≡◌, ◌∷◌, [], ℕ, ℤ, List, Bool, true, false, ◌&&◌, refl, ap, ◌∙◌, is_eq, is_gt, arith}
 use Rattle.std.specs.Prelude.{int_lt}
 use Rattle.std.specs.Ordering.{is_lt}
 use Rattle.std.proofs.lemmas.Int.{ints}

@@ -1,5 +1,5 @@
 -- What a store holds by its rows.
-use Rattle.std.proofs.Common.{◌≡◌, ℕ, pos, List, [], ◌∷◌, ◌++◌, map, Vec, Global, inl, inr, sym, ap, subst, ◌∙◌}
+use Rattle.std.proofs.Common.{◌≡◌, ℕ, pos, List, [], ◌∷◌, map, Vec, Global, sym, ap, subst, ◌∙◌}
 use Rattle.std.specs.List.Sorted.{IsStrictlySortedBy}
 use Rattle.sqlite.specs.declared.types.Value.TheVariants.{Int}
 use Rattle.sqlite.specs.Order.{Row}
@@ -11,7 +11,7 @@ use Rattle.cr_lattice.specs.declared.stamped.Stamped.{Stamped}
 use Rattle.cr_lattice.specs.declared.table.Table.{Table}
 use Rattle.cr_lattice.proofs.SortedSets.{IsStrictlySortedBy-set_of}
 use Rattle.cr_cells.specs.Marks.{Mark}
-use Rattle.cr_cells.specs.Holding.{Holding, cell_cmp, empty_holding}
+use Rattle.cr_cells.specs.Holding.{cell_cmp, empty_holding}
 use Rattle.cr_cells.proofs.CellLemmas.{cell_total, cell_exact}
 use Rattle.cr_store.specs.declared.known.Known.{Known}
 use Rattle.cr_store.specs.Rows.{cell_row, cell_of}

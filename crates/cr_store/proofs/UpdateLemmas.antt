@@ -16,7 +16,6 @@ use Rattle.cr_rows.proofs.SelectLemmas.{passes_all}
 use Rattle.cr_rows.proofs.UpdateLemmas.{changed, HasSet, lists_set, updates}
 use Rattle.cr_rows.proofs.TextLemmas.{cast_int}
 use Rattle.cr_value.specs.OrderLaws.{bytes_exact}
-use Rattle.cr_lattice.specs.declared.change.Change.{Change}
 use Rattle.cr_lattice.specs.declared.stamped.Stamped.{Stamped}
 use Rattle.cr_lattice.specs.declared.table.Table.{Table}
 use Rattle.cr_lattice.specs.Check.{same_bytes}

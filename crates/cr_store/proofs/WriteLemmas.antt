@@ -1,5 +1,5 @@
 -- What the loops of a commit's transaction leave, and the marks of a commit in a table.
-use Rattle.std.proofs.Common.{◌≡◌, inl, inr, ℕ, ◌+◌, ◌<◌, ◌⊎◌, List, [], ◌∷◌, ◌++◌, map, filter, take, length, get_or, Bool, true, false, cond, refl, sym, ap, subst, ◌∙◌, is_eq, Ordering, Less, Equal, Greater}
+use Rattle.std.proofs.Common.{◌≡◌, inl, inr, ℕ, ◌+◌, ◌<◌, ◌⊎◌, List, [], ◌∷◌, ◌++◌, map, filter, take, length, get_or, true, false, cond, refl, sym, ap, subst, ◌∙◌, is_eq, Ordering, Less, Equal, Greater}
 use Rattle.std.proofs.lemmas.Bool.{cases_Bool}
 use Rattle.std.specs.Ordering.{is_lt}
 use Rattle.std.proofs.lemmas.List.{take_more}
@@ -10,7 +10,6 @@ use Rattle.sqlite_rules.proofs.ListLemmas.{has_left, has_right, has_either, has_
 use Rattle.sqlite_rules.proofs.ProbeLemmas.{has_mapped, mapped_has}
 use Rattle.std.specs.Cmp.{eq_by_cmp_equiv}
 use Rattle.sqlite_trees.proofs.TreeLemmas.{above}
-use Rattle.cr_rows.specs.Rows.{SameRows}
 use Rattle.cr_rows.proofs.RowLemmas.{lists_same}
 use Rattle.cr_value.specs.Bytes.{bytes_cmp}
 use Rattle.cr_value.specs.OrderLaws.{bytes_total}

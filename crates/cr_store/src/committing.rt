@@ -7,7 +7,7 @@ ghost use Rattle.sqlite.specs.State.{HasCleanDisk};
 ghost use Rattle.cr_lattice.specs.Keep.{keep};
 ghost use Rattle.cr_cells.specs.Commit.{greatest_version};
 ghost use Rattle.cr_cells.specs.Holding.{IsSound};
-ghost use Rattle.cr_store.specs.Committing.{is_none, IsDecided, HasCommitted, IsUndecided};
+ghost use Rattle.cr_store.specs.Committing.{is_none, StaysWithinLimit, IsDecided, HasCommitted, IsUndecided};
 ghost use Rattle.cr_store.specs.Kept.{holding_of};
 ghost use Rattle.cr_store.specs.Schema.{store_schema};
 ghost use Rattle.cr_store.specs.Shows.{Shows};
@@ -40,6 +40,16 @@ fn is_past_limit(is_changed: bool, version: i64) -> bool
     ensures { result ≡ (is_changed && int_eq version greatest_version) }
 {
     is_changed && version == i64::MAX
+}
+
+// A commit is refused for want of versions where it would need one above the greatest. That takes no memory.
+fn stay_within_limit(is_changed: bool, version: i64) -> Result<(), CellsError>
+    ensures { StaysWithinLimit is_changed version result }
+{
+    if is_past_limit(is_changed, version) {
+        return Err(CellsError::VersionLimit);
+    }
+    Ok(())
 }
 
 fn version_after(is_changed: bool, stamp: i64, version: i64) -> i64
@@ -81,9 +91,7 @@ fn decide<S: Alter>(
     let stamp = stamp_after(known.version);
     let plan = plan(alloc, conn, &kept, stamp)?;
     let is_changed = has_news(&plan.news);
-    if is_past_limit(is_changed, known.version) {
-        return Err(CellsError::VersionLimit);
-    }
+    stay_within_limit(is_changed, known.version)?;
     let version = version_after(is_changed, stamp, known.version);
     Ok(Decision {
         plan,

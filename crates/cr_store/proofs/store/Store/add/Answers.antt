@@ -1,14 +1,12 @@
-use Rattle.std.proofs.Common.{◌≡◌, ◌+◌, pos, length, ◌∷◌, [], List, map, sym, subst, ap, ◌∙◌, w64, SFits, rules, to_z, of_z}
+use Rattle.std.proofs.Common.{◌≡◌, ◌+◌, pos, length, List, sym, subst, ap, ◌∙◌, w64, rules, to_z, of_z}
 use Rattle.std.proofs.lemmas.Int.{to_z-of_z}
 use Rattle.sqlite.specs.Held.{state}
-use Rattle.sqlite.specs.declared.types.Value.TheVariants.{Text, Int, Blob}
-use Rattle.sqlite.specs.State.{State}
 use Rattle.cr_lattice.specs.declared.table.Table.{Table}
 use Rattle.cr_cells.specs.Holding.{IsSound}
 use Rattle.cr_cells.specs.Tables.{with_table}
 use Rattle.cr_cells.proofs.SoundLemmas.{sound_with_table}
-use Rattle.cr_store.specs.Rows.{meta_rows, table_rows, cell_row, mark_row, one_if}
-use Rattle.cr_store.specs.Shows.{Holds, Shows, cells_in}
+use Rattle.cr_store.specs.Rows.{one_if}
+use Rattle.cr_store.specs.Shows.{Shows}
 use Rattle.cr_store.specs.Kept.{IsClean, holding_of}
 use Rattle.cr_store.proofs.StoreHolding.{tables_set}
 use Rattle.cr_store.proofs.StoreTables.{row_is, shows_table, wants_defaults}
