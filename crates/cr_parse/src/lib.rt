@@ -10,5 +10,3 @@ pub mod level;
 mod operand;
 pub mod sizes;
 mod tail;
-#[cfg(test)]
-mod tests;

@@ -3,5 +3,3 @@
 
 pub mod error;
 pub mod statement;
-#[cfg(test)]
-mod tests;

@@ -7,7 +7,5 @@ mod number;
 mod part;
 mod query;
 pub mod statement;
-#[cfg(test)]
-mod tests;
 pub mod tree;
 mod write;

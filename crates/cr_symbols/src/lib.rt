@@ -6,5 +6,3 @@ mod marks;
 pub mod outside;
 mod spelling;
 pub mod symbols;
-#[cfg(test)]
-mod tests;

@@ -25,7 +25,11 @@ fn add<C: Cells>(alloc: Global, cells: &mut C, def: &TableDef) -> Result<(), Fai
 }
 
 /// Adds a replicated table.
-pub fn add_replicated<C: Cells>(alloc: Global, cells: &mut C, def: &TableDef) -> Result<(), Fail> {
+pub(crate) fn add_replicated<C: Cells>(
+    alloc: Global,
+    cells: &mut C,
+    def: &TableDef,
+) -> Result<(), Fail> {
     let tables = cells.tables(alloc)?;
     if !is_new_table(&tables, def) || !has_defaults(def) {
         return Err(Fail::from("not new"));
@@ -50,7 +54,7 @@ fn commit<C: Cells>(alloc: Global, cells: &mut C, changes: &[Change]) -> Result<
 }
 
 /// Commits changes with the mark of a peer.
-pub fn commit_from<C: Cells>(
+pub(crate) fn commit_from<C: Cells>(
     alloc: Global,
     cells: &mut C,
     changes: &[Change],
@@ -106,7 +110,7 @@ fn has_deletion<C: Cells>(alloc: Global, cells: &mut C) -> Result<bool, Fail> {
 }
 
 /// The calls in turn, with their answers, at a store of site A that holds nothing.
-pub fn meets_the_vectors<C: Cells>(
+pub(crate) fn meets_the_vectors<C: Cells>(
     rt: &impl Abort,
     alloc: Global,
     cells: &mut C,

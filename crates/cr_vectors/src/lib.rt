@@ -12,8 +12,6 @@ mod host;
 #[cfg(test)]
 mod lattice;
 #[cfg(test)]
-mod lex;
-#[cfg(test)]
 mod replica;
 #[cfg(test)]
 mod session;

@@ -19,7 +19,7 @@ pub const B: Site = [11; 16];
 /// The columns of t(id INT PRIMARY KEY, name TEXT DEFAULT 'none').
 pub const T: &str = "id|INT|1|NULL / name|TEXT||'none'";
 
-pub fn value(alloc: Global, literal: &str) -> Result<Value, Fail> {
+pub(crate) fn value(alloc: Global, literal: &str) -> Result<Value, Fail> {
     match read_literal(alloc, literal, 0)? {
         Some((value, _)) => Ok(value),
         None => Err(Fail::from("no literal")),
@@ -48,11 +48,11 @@ fn digit(digits: &str) -> Option<u8> {
 }
 
 /// The packed key of one integer.
-pub fn key(alloc: Global, id: u8) -> Result<Bytes, AllocError> {
+pub(crate) fn key(alloc: Global, id: u8) -> Result<Bytes, AllocError> {
     Bytes::from_slice(alloc, &[1, 1, 0, 0, 0, 0, 0, 0, 0, id])
 }
 
-pub fn change(alloc: Global, told: &str) -> Result<Change, Fail> {
+pub(crate) fn change(alloc: Global, told: &str) -> Result<Change, Fail> {
     let mut rest = told;
     let table = part(&mut rest);
     let id = digit(part(&mut rest)).unwrap_or(0);
@@ -71,7 +71,7 @@ pub fn change(alloc: Global, told: &str) -> Result<Change, Fail> {
     })
 }
 
-pub fn changes(alloc: Global, told: &str) -> Result<Vec<Change>, Fail> {
+pub(crate) fn changes(alloc: Global, told: &str) -> Result<Vec<Change>, Fail> {
     let mut all = Vec::new(alloc);
     for part in told.split(" / ") {
         if !part.is_empty() {
@@ -81,7 +81,7 @@ pub fn changes(alloc: Global, told: &str) -> Result<Vec<Change>, Fail> {
     Ok(all)
 }
 
-pub fn column(alloc: Global, told: &str) -> Result<ColumnDef, Fail> {
+pub(crate) fn column(alloc: Global, told: &str) -> Result<ColumnDef, Fail> {
     let mut rest = told;
     let name = part(&mut rest);
     let affinity = Affinity::of_type(part(&mut rest)).unwrap_or(Affinity::Blob);
@@ -99,7 +99,7 @@ pub fn column(alloc: Global, told: &str) -> Result<ColumnDef, Fail> {
     })
 }
 
-pub fn columns(alloc: Global, told: &str) -> Result<Vec<ColumnDef>, Fail> {
+pub(crate) fn columns(alloc: Global, told: &str) -> Result<Vec<ColumnDef>, Fail> {
     let mut all = Vec::new(alloc);
     for part in told.split(" / ") {
         if !part.is_empty() {
@@ -109,7 +109,7 @@ pub fn columns(alloc: Global, told: &str) -> Result<Vec<ColumnDef>, Fail> {
     Ok(all)
 }
 
-pub fn definition(alloc: Global, name: &str, told: &str) -> Result<TableDef, Fail> {
+pub(crate) fn definition(alloc: Global, name: &str, told: &str) -> Result<TableDef, Fail> {
     Ok(TableDef {
         name: Text::from_str(alloc, name)?,
         columns: Items::new(columns(alloc, told)?),
@@ -117,7 +117,7 @@ pub fn definition(alloc: Global, name: &str, told: &str) -> Result<TableDef, Fai
 }
 
 /// Values, each a literal.
-pub fn values(alloc: Global, told: &str) -> Result<Vec<Value>, Fail> {
+pub(crate) fn values(alloc: Global, told: &str) -> Result<Vec<Value>, Fail> {
     let mut values = Vec::new(alloc);
     for part in told.split('|') {
         values.push(value(alloc, part)?)?;
@@ -129,7 +129,7 @@ fn row(alloc: Global, told: &str) -> Result<Row, Fail> {
     Ok(Items::new(values(alloc, told)?))
 }
 
-pub fn rows_of(alloc: Global, told: &str) -> Result<Vec<Row>, Fail> {
+pub(crate) fn rows_of(alloc: Global, told: &str) -> Result<Vec<Row>, Fail> {
     let mut all = Vec::new(alloc);
     for part in told.split(" / ") {
         if !part.is_empty() {
@@ -150,7 +150,7 @@ fn tell_row(alloc: Global, told: &mut String, row: &[Value]) -> Result<(), Alloc
 }
 
 /// The text of rows.
-pub fn told_rows(alloc: Global, rows: &[Row]) -> Result<String, AllocError> {
+pub(crate) fn told_rows(alloc: Global, rows: &[Row]) -> Result<String, AllocError> {
     let mut told = String::new(alloc);
     for row in rows {
         if !told.is_empty() {

@@ -1,12 +1,12 @@
 //! Statements with known shapes.
 
-use crate::statement::statement;
-use crate::tree::{Create, Delete, Insert, Mode, Select, Statement, Update};
+use crate::told::symbols_of;
 use cr_parse::error::ParseError;
-use cr_tree::symbol::{Mark, Symbol};
-use cr_value::text::Text;
+use cr_statement::statement::statement;
+use cr_statement::tree::{Create, Delete, Insert, Mode, Select, Statement, Update};
+use cr_tree::symbol::Symbol;
 use sqlite_items::Items;
-use std::alloc::{AllocError, Global};
+use std::alloc::Global;
 use std::test::Fail;
 
 // What a statement is, and how many parts it has.
@@ -48,7 +48,7 @@ const ONE_SHOWN: Counts = Counts {
     limit: None,
 };
 
-// Each text, its words apart, with its shape.
+// Each text with its shape.
 const SHAPES: [(&str, Shape); 19] = [
     ("BEGIN", Shape::Begin(None)),
     (
@@ -119,7 +119,7 @@ const SHAPES: [(&str, Shape); 19] = [
     ),
 ];
 
-// Each text with the place of the first word that nothing goes on with.
+// Each text with the place of the first token that nothing goes on with.
 const REFUSED: [(&str, usize); 21] = [
     ("", 0),
     ("t", 0),
@@ -143,78 +143,6 @@ const REFUSED: [(&str, usize); 21] = [
     ("SELECT a FROM t ORDER BY a WHERE a", 7),
     ("SELECT a LIMIT a", 3),
 ];
-
-const MARKS: [(&str, Mark); 47] = [
-    ("ALL", Mark::All),
-    ("AS", Mark::As),
-    ("ASC", Mark::Asc),
-    ("BEGIN", Mark::Begin),
-    ("BY", Mark::By),
-    ("COLLATE", Mark::Collate),
-    ("COMMIT", Mark::Commit),
-    ("CREATE", Mark::Create),
-    ("DEFAULT", Mark::Default),
-    ("DELETE", Mark::Delete),
-    ("DESC", Mark::Desc),
-    ("DISTINCT", Mark::Distinct),
-    ("END", Mark::End),
-    ("EXISTS", Mark::Exists),
-    ("FROM", Mark::From),
-    ("GROUP", Mark::Group),
-    ("HAVING", Mark::Having),
-    ("IF", Mark::If),
-    ("IMMEDIATE", Mark::Immediate),
-    ("INSERT", Mark::Insert),
-    ("INTO", Mark::Into),
-    ("JOIN", Mark::Join),
-    ("KEY", Mark::Key),
-    ("LEFT", Mark::Left),
-    ("LIMIT", Mark::Limit),
-    ("NOT", Mark::Not),
-    ("NULL", Mark::Null),
-    ("OFFSET", Mark::Offset),
-    ("ON", Mark::On),
-    ("ORDER", Mark::Order),
-    ("OUTER", Mark::Outer),
-    ("PRIMARY", Mark::Primary),
-    ("ROLLBACK", Mark::Rollback),
-    ("SELECT", Mark::Select),
-    ("SET", Mark::Set),
-    ("TABLE", Mark::Table),
-    ("TRANSACTION", Mark::Transaction),
-    ("UPDATE", Mark::Update),
-    ("VALUES", Mark::Values),
-    ("WHERE", Mark::Where),
-    ("(", Mark::Open),
-    (")", Mark::Close),
-    (",", Mark::Comma),
-    (".", Mark::Dot),
-    ("*", Mark::Star),
-    ("-", Mark::Minus),
-    ("=", Mark::Equal),
-];
-
-fn symbol(alloc: Global, word: &str) -> Result<Symbol, AllocError> {
-    for (written, mark) in MARKS {
-        if written == word {
-            return Ok(Symbol::Mark(mark));
-        }
-    }
-    if let Ok(number) = word.parse::<u64>() {
-        return Ok(Symbol::Number(number));
-    }
-    Ok(Symbol::Name(Text::from_str(alloc, word)?))
-}
-
-fn symbols(alloc: Global, text: &str) -> Result<Vec<Symbol>, AllocError> {
-    let mut all = Vec::new(alloc);
-    for word in text.split(' ') {
-        if !word.is_empty() {
-            all.push(symbol(alloc, word)?)?;
-        }
-    }
-    Ok(all)
-}
 
 fn is_delete(delete: &Delete, table: &str, is_filtered: bool) -> bool {
     delete.table.as_str() == table && delete.filter.is_some() == is_filtered
@@ -327,7 +255,7 @@ fn reads(alloc: Global, symbols: &[Symbol], shape: Shape) -> bool {
 fn statements_are_read(rt: HostRuntime) -> Result<(), Fail> {
     let alloc = rt.alloc();
     for (text, shape) in SHAPES {
-        let symbols = symbols(alloc, text)?;
+        let symbols = symbols_of(alloc, text)?;
         assert!(rt; reads(alloc, &symbols, shape), "{text}");
     }
     Ok(())
@@ -341,10 +269,10 @@ fn refuses_at(alloc: Global, symbols: &[Symbol], place: usize) -> bool {
 }
 
 #[test]
-fn others_are_refused_at_their_first_bad_word(rt: HostRuntime) -> Result<(), Fail> {
+fn others_are_refused_at_their_first_bad_token(rt: HostRuntime) -> Result<(), Fail> {
     let alloc = rt.alloc();
     for (text, place) in REFUSED {
-        let symbols = symbols(alloc, text)?;
+        let symbols = symbols_of(alloc, text)?;
         assert!(rt; refuses_at(alloc, &symbols, place), "{text}");
     }
     Ok(())

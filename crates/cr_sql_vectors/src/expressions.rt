@@ -1,15 +1,14 @@
 //! Expressions with known shapes. The answers follow SQLite's table of operators, and the limits and refusals of this
 //! grammar.
 
-use crate::error::ParseError;
-use crate::expression::{DEPTH, PARENTHESES, expression};
+use crate::told::symbols_of;
+use cr_parse::error::ParseError;
+use cr_parse::expression::{DEPTH, PARENTHESES, expression};
 use cr_tree::expr::{Binary, Expr, Unary};
-use cr_tree::symbol::{Mark, Symbol};
-use cr_value::text::Text;
 use std::alloc::{AllocError, Global};
 use std::test::Fail;
 
-// Each text, its words apart, with what stands at the top of its tree and right below it.
+// Each text with what stands at the top of its tree and right below it.
 const SHAPES: [(&str, &str); 33] = [
     ("1 + 2 * 3", "+ literal *"),
     ("1 * 2 + 3", "+ * literal"),
@@ -46,7 +45,7 @@ const SHAPES: [(&str, &str); 33] = [
     ("CASE a WHEN b THEN c WHEN 'd' THEN ?1 ELSE 5 END", "case 2"),
 ];
 
-// Each text with the place of the first word that nothing goes on with.
+// Each text with the place of the first token that nothing goes on with.
 const REFUSED: [(&str, usize); 12] = [
     ("", 0),
     ("1 +", 2),
@@ -61,72 +60,6 @@ const REFUSED: [(&str, usize); 12] = [
     ("CASE END", 1),
     ("CAST ( a AS )", 4),
 ];
-
-const MARKS: [(&str, Mark); 33] = [
-    ("AND", Mark::And),
-    ("AS", Mark::As),
-    ("BETWEEN", Mark::Between),
-    ("CASE", Mark::Case),
-    ("CAST", Mark::Cast),
-    ("COLLATE", Mark::Collate),
-    ("ELSE", Mark::Else),
-    ("END", Mark::End),
-    ("IN", Mark::In),
-    ("IS", Mark::Is),
-    ("LIKE", Mark::Like),
-    ("NOT", Mark::Not),
-    ("NULL", Mark::Null),
-    ("OR", Mark::Or),
-    ("THEN", Mark::Then),
-    ("WHEN", Mark::When),
-    ("(", Mark::Open),
-    (")", Mark::Close),
-    (",", Mark::Comma),
-    (".", Mark::Dot),
-    ("*", Mark::Star),
-    ("+", Mark::Plus),
-    ("-", Mark::Minus),
-    ("/", Mark::Slash),
-    ("%", Mark::Percent),
-    ("||", Mark::Bars),
-    ("<", Mark::Less),
-    ("<=", Mark::AtMost),
-    (">=", Mark::AtLeast),
-    ("=", Mark::Equal),
-    ("==", Mark::DoubleEqual),
-    ("<>", Mark::Unequal),
-    ("!=", Mark::BangEqual),
-];
-
-fn symbol(alloc: Global, word: &str) -> Result<Symbol, AllocError> {
-    for (written, mark) in MARKS {
-        if written == word {
-            return Ok(Symbol::Mark(mark));
-        }
-    }
-    if let Ok(number) = word.parse::<u64>() {
-        return Ok(Symbol::Number(number));
-    }
-    if word.starts_with('?') {
-        return Ok(Symbol::Param(1));
-    }
-    let text = Text::from_str(alloc, word)?;
-    Ok(if word.starts_with('\'') {
-        Symbol::Text(text)
-    } else {
-        Symbol::Name(text)
-    })
-}
-
-fn symbols(alloc: Global, text: &str) -> Result<Vec<Symbol>, AllocError> {
-    let mut all = Vec::new(alloc);
-    for word in text.split(' ') {
-        if !word.is_empty() {
-            all.push(symbol(alloc, word)?)?;
-        }
-    }
-    Ok(all)
-}
 
 fn unary(op: Unary) -> &'static str {
     match op {
@@ -202,7 +135,7 @@ fn shape(alloc: Global, tree: &Expr) -> Result<String, AllocError> {
 }
 
 fn told(alloc: Global, text: &str) -> Result<String, Fail> {
-    let symbols = symbols(alloc, text)?;
+    let symbols = symbols_of(alloc, text)?;
     match expression(alloc, symbols.as_slice()) {
         Ok(tree) => Ok(shape(alloc, &tree)?),
         Err(ParseError::Syntax(place)) => Ok(format!(in alloc; "syntax {place}")?),
@@ -234,7 +167,7 @@ fn operators_group_as_in_sqlite(rt: HostRuntime) -> Result<(), Fail> {
 }
 
 #[test]
-fn others_are_refused_at_their_first_bad_word(rt: HostRuntime) -> Result<(), Fail> {
+fn others_are_refused_at_their_first_bad_token(rt: HostRuntime) -> Result<(), Fail> {
     let alloc = rt.alloc();
     for (text, place) in REFUSED {
         let found = told(alloc, text)?;

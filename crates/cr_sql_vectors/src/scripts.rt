@@ -1,8 +1,8 @@
 //! Where statements are refused, and what is read.
 
-use crate::error::SqlError;
-use crate::statement::statement;
 use cr_lex::scan::tokens;
+use cr_sql::error::SqlError;
+use cr_sql::statement::statement;
 use std::alloc::Global;
 use std::test::Fail;
 

@@ -1,10 +1,10 @@
 //! Symbols of known texts. Where SQLite takes the text, the values are those that it gives.
 
-use crate::marks::WORDS;
-use crate::outside::outside;
-use crate::symbols::symbols;
+use crate::told::symbols_of;
 use cr_lex::scan::tokens;
 use cr_lex::token::{Token, TokenKind};
+use cr_symbols::outside::outside;
+use cr_symbols::symbols::symbols;
 use cr_tree::symbol::Symbol;
 use std::alloc::{AllocError, Global};
 use std::test::Fail;
@@ -136,11 +136,17 @@ fn words_and_numbers_are_outside(rt: HostRuntime) -> Result<(), Fail> {
     Ok(())
 }
 
+// The words of the grammar.
+const WORDS: &str =
+    "ALL AND AS ASC BEGIN BETWEEN BY CASE CAST COLLATE COMMIT CREATE CROSS DEFAULT DEFERRED DELETE DESC DISTINCT ELSE END EXCLUSIVE EXISTS FROM GROUP HAVING IF IMMEDIATE IN INNER INSERT INTO IS ISNULL JOIN KEY LEFT LIKE LIMIT NOT NOTNULL NULL OFFSET ON OR ORDER OUTER PRIMARY ROLLBACK SELECT SET TABLE THEN TRANSACTION UPDATE VALUES WHEN WHERE";
+
 #[test]
-fn words_are_named_as_written(rt: HostRuntime) -> Result<(), Fail> {
-    for (word, mark) in WORDS {
-        let name = format!(in rt.alloc(); "{mark:?}")?;
-        assert!(rt; name.as_str().eq_ignore_ascii_case(word));
+fn words_are_marks_of_their_name(rt: HostRuntime) -> Result<(), Fail> {
+    let symbols = symbols_of(rt.alloc(), WORDS)?;
+    assert_eq!(rt; symbols.len(), 57);
+    for (word, symbol) in WORDS.split(' ').zip(&symbols) {
+        let shown = shown(rt.alloc(), symbol)?;
+        assert!(rt; shown.as_str().eq_ignore_ascii_case(word), "{word}");
     }
     Ok(())
 }
