@@ -16,6 +16,13 @@ pub record IsAdvance (cells : List Stamped) (from : ℤ) (more : List Change) (a
   pub version : a.version ≡ from +ℤ pos 1
   pub after : a.cells.items ≡ cells_after cells more (from +ℤ pos 1)
 
+-- the version after a version, unless that is the greatest: this takes no memory and no store
+abbrev pub IsNext : ℤ → Result ℤ CellsError → Type 0
+IsNext version (Ok next) = (int_eq version greatest_version ≡ false) × (next ≡ version +ℤ pos 1)
+IsNext version (Err error.Memory) = ⊥
+IsNext version (Err (error.Store f)) = ⊥
+IsNext version (Err error.VersionLimit) = int_eq version greatest_version ≡ true
+
 -- there is an advance where some change comes in, unless memory or versions run out
 abbrev pub Advances : List Stamped → ℤ → List Change → Result (Option Advance) CellsError → Type 0
 Advances cells version more (Ok None) = is_changed (changes_of cells) more ≡ false

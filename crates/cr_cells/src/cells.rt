@@ -11,7 +11,7 @@ ghost use Rattle.cr_lattice.specs.Rows.{is_of_row};
 ghost use Rattle.cr_lattice.specs.Sets.{set_of};
 ghost use Rattle.cr_cells.specs.Holding.{changes_of, cell_cmp, stamp_cmp, same_stamp, since, cells_of};
 ghost use Rattle.cr_cells.specs.Commit.{stamped};
-ghost use Rattle.cr_cells.specs.Advance.{Advances};
+ghost use Rattle.cr_cells.specs.Advance.{IsNext, Advances};
 
 use crate::store::CellsError;
 use cr_lattice::change::Change;
@@ -159,6 +159,13 @@ pub(crate) struct Advance {
     pub(crate) version: i64,
 }
 
+// The next version, which takes no memory.
+fn version_after(version: i64) -> Result<i64, CellsError>
+    ensures { IsNext version result }
+{
+    version.checked_add(1).ok_or(CellsError::VersionLimit)
+}
+
 /// The cells and the version after changes of which some come in, or `None` where none does.
 pub(crate) fn take_changes(
     alloc: Global,
@@ -174,9 +181,7 @@ pub(crate) fn take_changes(
     if !brings_in(cells, &next) {
         return Ok(None);
     }
-    let Some(version) = version.checked_add(1) else {
-        return Err(CellsError::VersionLimit);
-    };
+    let version = version_after(version)?;
     let cells = restamped(alloc, cells, &next, version)?;
     Ok(Some(Advance { cells, version }))
 }
