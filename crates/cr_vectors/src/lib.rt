@@ -6,6 +6,8 @@ mod cells;
 #[cfg(test)]
 mod delta;
 #[cfg(test)]
+mod disk;
+#[cfg(test)]
 mod guard;
 #[cfg(test)]
 mod host;
