@@ -1,12 +1,13 @@
 //! What follows of any store from the contract alone.
 
-ghost use Rattle.std.specs.Prelude.{◌≡◌, ℕ, [], ◌∷◌, ◌++◌, List, take, IfOk, OnOk, IfErr, OnErr};
-ghost use Rattle.std.specs.List.{flat_map, AllByRecursion};
+ghost use Rattle.std.specs.Prelude.{◌≡◌, ◌||◌, true, ℕ, [], ◌∷◌, ◌++◌, List, take, Err, IfOk, OnOk, IfErr, OnErr};
+ghost use Rattle.std.specs.List.{flat_map, list_any, AllByRecursion};
 ghost use Rattle.cr_lattice.specs.Keep.{join, SameMembers};
 ghost use Rattle.cr_cells.specs.Tables.{AreWellFormed};
 ghost use Rattle.cr_cells.specs.Holding.{kept_of, changes_of};
 ghost use Rattle.cr_cells.specs.Commit.{unmarked, after_all};
-ghost use Rattle.cr_cells.specs.Calls.{IsCommitRefusal};
+ghost use Rattle.cr_cells.specs.Calls.{IsCommitRefusal, is_past_limit};
+ghost use Rattle.cr_cells.specs.declared.store.CellsError.TheVariants.{VersionLimit};
 
 use crate::store::{Cells, CellsError};
 use cr_lattice::change::Change;
@@ -31,6 +32,7 @@ pub fn commit_all<C: Cells>(
     ensures kept { C.is_clean cells.new → OnOk result (kept_of (C.holding cells.new)
         ≡ join (kept_of (C.holding cells.old)) (flat_map (λ batch. batch) batches.now)) }
     ensures refused { C.is_clean cells.new → IfErr result IsCommitRefusal }
+    ensures limit { C.is_clean cells.new → result ≡ Err VersionLimit → list_any (is_past_limit (C.holding cells.new)) batches.now ≡ true }
 {
     let _ = cells.db_version();
     for batch in batches {
@@ -52,6 +54,7 @@ pub fn commit_twice<C: Cells>(
     requires first { C.is_clean cells.old → AreWellFormed (C.holding cells.old).tables first.now }
     requires second { C.is_clean cells.old → AreWellFormed (C.holding cells.old).tables second.now }
     ensures refused { C.is_clean cells.new → IfErr result IsCommitRefusal }
+    ensures limit { C.is_clean cells.new → result ≡ Err VersionLimit → (is_past_limit (C.holding cells.new) first.now || is_past_limit (C.holding cells.new) second.now) ≡ true }
     ensures holds { C.is_clean cells.new → OnOk result (C.holding cells.new ≡ after_all (C.holding cells.old) (unmarked (first.now ∷ second.now ∷ []))) }
     ensures stands { C.is_clean cells.new → OnErr result ((made : ℕ) × (C.holding cells.new ≡ after_all (C.holding cells.old) (unmarked (take made (first.now ∷ second.now ∷ []))))) }
     ensures listed { C.is_clean cells.new → IfOk result (λ listed. SameMembers (changes_of listed.items)

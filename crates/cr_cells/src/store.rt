@@ -1,6 +1,6 @@
 //! What a store of cells is.
 
-ghost use Rattle.std.specs.Prelude.{◌≡◌, ◌≤ℤ◌, pos, true, false, MatchResult};
+ghost use Rattle.std.specs.Prelude.{◌≡◌, ◌≤ℤ◌, pos, true, false, IfOk, MatchResult};
 ghost use Rattle.std.specs.Option.{ForSome};
 ghost use Rattle.cr_cells.specs.Tables.{IsNewTable, has_defaults, is_markable, with_replicated, with_table, AreWellFormed};
 ghost use Rattle.cr_cells.specs.Marks.{seen_of};
@@ -169,10 +169,11 @@ pub trait Cells: Drop {
 
 /// A store of cells that can be made new, with nothing in it.
 pub trait NewCells: Cells {
-    /// A store of a site that holds nothing.
+    /// A store of a site that holds nothing and is clean.
     ///
     /// # Errors
     /// `Memory`, or `Store(Refused)`.
     fn create(alloc: Global, site: Site) -> Result<Self, CellsError>
-        ensures { MatchResult result (λ store. Self.is_clean store → Self.holding store ≡ empty_holding site) IsRefusal };
+        ensures made { MatchResult result (λ store. Self.is_clean store → Self.holding store ≡ empty_holding site) IsRefusal }
+        ensures clean { IfOk result Self.is_clean };
 }

@@ -35,6 +35,20 @@ pub record ComparesAs (pre : Bor (List ℕ) → Bor (List ℕ) → Type 0) (post
   pub callable : (a b : Bor (List ℕ)) → pre a b
   pub meets : (a b : Bor (List ℕ)) (r : Ordering) → post a b r → r ≡ meaning a.now b.now
 
+-- an answer other than want of memory
+abbrev pub HasMemory : Result Value FnFault → Type 0
+HasMemory (Ok v) = Unit {0}
+HasMemory (Err (Host text)) = Unit {0}
+HasMemory (Err Memory) = ⊥
+
+-- a closure of one argument, whose answers post describes, never answers want of memory
+abbrev pub NeverLacks : {A : Type 0} → (A → Result Value FnFault → Type 0) → Type 0
+NeverLacks post = (a : _) (r : Result Value FnFault) → post a r → HasMemory r
+
+-- the same of a closure of two
+abbrev pub NeverLacksAt : {A B : Type 0} → (A → B → Result Value FnFault → Type 0) → Type 0
+NeverLacksAt post = (a : _) (b : _) (r : Result Value FnFault) → post a b r → HasMemory r
+
 -- what an aggregate holds after rows, in turn; the first fault ends it
 abbrev pub held_after : (Value → List Value → Result Value (List ℕ)) → Value → List (List Value) → Result Value (List ℕ)
 held_after step held [] = Ok held

@@ -3,7 +3,7 @@
 ghost use Rattle.std.specs.Prelude.{◌≡◌};
 ghost use Rattle.cr_host.specs.Names.{arity_of};
 
-/// The greatest number of arguments of a function.
+/// The greatest number of arguments that a function is registered for, beside any number.
 pub const ARITY_LIMIT: i32 = 100;
 
 /// How many arguments a function takes.

@@ -1,8 +1,8 @@
 //! Closures beside the number of their definition.
 
-ghost use Rattle.std.specs.Prelude.{◌≡◌, Some};
+ghost use Rattle.std.specs.Prelude.{◌≡◌, Some, IfSome};
 ghost use Rattle.cr_value.specs.declared.value.Value.TheVariants.{Null};
-ghost use Rattle.cr_host.specs.Meets.{Meets, AnswersAs, StepsAs, FinishesAs, ComparesAs, CallsAt, FoldsAt, aggregated};
+ghost use Rattle.cr_host.specs.Meets.{Meets, AnswersAs, StepsAs, FinishesAs, ComparesAs, CallsAt, FoldsAt, HasMemory, NeverLacks, NeverLacksAt, aggregated};
 ghost use Rattle.cr_host.specs.Registry.{definition};
 
 use crate::fault::FnFault;
@@ -35,10 +35,11 @@ pub struct Scalar<H> {
 }
 
 impl<H: HostMeaning> Scalar<H> {
-    /// The value of the function, as its definition says, or want of memory.
+    /// The value of the function: what its closure answers, as its definition says, or want of memory.
     pub fn answer(&self, args: &[Value]) -> Result<Value, FnFault>
         requires { AnswersAs (ScalarFn.pre self.now.call) (ScalarFn.post self.now.call) (H.scalar self.now.number) }
-        ensures { Meets (H.scalar self.now.number args.now) result }
+        ensures value { Meets (H.scalar self.now.number args.now) result }
+        ensures given { ScalarFn.post self.now.call args.entry result }
     {
         (self.call)(args)
     }
@@ -57,7 +58,8 @@ impl<H: HostMeaning> Aggregate<H> {
     /// What the aggregate holds after one more row.
     pub fn step(&self, held: &Value, row: &[Value]) -> Result<Value, FnFault>
         requires { StepsAs (StepFn.pre self.now.step) (StepFn.post self.now.step) (H.step self.now.number) }
-        ensures { Meets (H.step self.now.number held.now row.now) result }
+        ensures value { Meets (H.step self.now.number held.now row.now) result }
+        ensures given { StepFn.post self.now.step held.entry row.entry result }
     {
         (self.step)(held, row)
     }
@@ -65,16 +67,19 @@ impl<H: HostMeaning> Aggregate<H> {
     /// The value of the aggregate, of what it holds after the last row.
     pub fn finish(&self, held: &Value) -> Result<Value, FnFault>
         requires { FinishesAs (FinishFn.pre self.now.finish) (FinishFn.post self.now.finish) (H.finish self.now.number) }
-        ensures { Meets (H.finish self.now.number held.now) result }
+        ensures value { Meets (H.finish self.now.number held.now) result }
+        ensures given { FinishFn.post self.now.finish held.entry result }
     {
         (self.finish)(held)
     }
 
-    /// The value of the aggregate over rows, in their order: it holds NULL before the first.
+    /// The value of the aggregate over rows, in their order: it holds NULL before the first. Want of memory is answered
+    /// only where a closure answers it.
     pub fn value_of(&self, rows: &[Row]) -> Result<Value, FnFault>
         requires steps { StepsAs (StepFn.pre self.now.step) (StepFn.post self.now.step) (H.step self.now.number) }
         requires finishes { FinishesAs (FinishFn.pre self.now.finish) (FinishFn.post self.now.finish) (H.finish self.now.number) }
-        ensures { Meets (aggregated (H.step self.now.number) (H.finish self.now.number) rows.now) result }
+        ensures value { Meets (aggregated (H.step self.now.number) (H.finish self.now.number) rows.now) result }
+        ensures memory { NeverLacksAt (StepFn.post self.now.step) → NeverLacks (FinishFn.post self.now.finish) → HasMemory result }
     {
         let mut held = Value::Null;
         for row in rows {
@@ -123,10 +128,12 @@ impl<H: HostMeaning> Function<H> {
         }
     }
 
-    /// The value of a scalar function; `None` of an aggregate.
+    /// The value of a scalar function; `None` of an aggregate. Want of memory is answered only where the closure answers
+    /// it.
     pub fn call(&self, args: &[Value]) -> Option<Result<Value, FnFault>>
         requires { ⟦<Function<H> as Answering>⟧.answers self.now }
-        ensures { CallsAt (Some (definition self.now)) (λ n. H.scalar n args.now) result }
+        ensures value { CallsAt (Some (definition self.now)) (λ n. H.scalar n args.now) result }
+        ensures memory { ⟦<Function<H> as Answering>⟧.never_lacks self.now → IfSome result HasMemory }
     {
         match self {
             Function::Scalar(scalar) => Some(scalar.answer(args)),
@@ -134,10 +141,12 @@ impl<H: HostMeaning> Function<H> {
         }
     }
 
-    /// The value of an aggregate over rows; `None` of a scalar function.
+    /// The value of an aggregate over rows; `None` of a scalar function. Want of memory is answered only where a closure
+    /// answers it.
     pub fn fold(&self, rows: &[Row]) -> Option<Result<Value, FnFault>>
         requires { ⟦<Function<H> as Answering>⟧.answers self.now }
-        ensures { FoldsAt (Some (definition self.now)) (λ n. aggregated (H.step n) (H.finish n) rows.now) result }
+        ensures value { FoldsAt (Some (definition self.now)) (λ n. aggregated (H.step n) (H.finish n) rows.now) result }
+        ensures memory { ⟦<Function<H> as Answering>⟧.never_lacks self.now → IfSome result HasMemory }
     {
         match self {
             Function::Scalar(_) => None,

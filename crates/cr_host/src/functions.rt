@@ -1,8 +1,8 @@
 //! What the layers above ask of a host's functions and collations.
 
-ghost use Rattle.std.specs.Prelude.{◌≡◌, length};
+ghost use Rattle.std.specs.Prelude.{◌≡◌, length, IfSome};
 ghost use Rattle.std.specs.Option.{option_map, is_some};
-ghost use Rattle.cr_host.specs.Meets.{CallsAt, FoldsAt, aggregated};
+ghost use Rattle.cr_host.specs.Meets.{CallsAt, FoldsAt, HasMemory, aggregated};
 
 use crate::fault::FnFault;
 use crate::function::{Collating, Definition, FinishFn, Function, OrderFn, ScalarFn, StepFn};
@@ -16,21 +16,30 @@ use std::cmp::Ordering;
 /// Closures that answer as the definition of their number says.
 pub trait Answering {
     ghost answers: { Self → Type 0 };
+
+    /// No closure answers want of memory.
+    ghost never_lacks: { Self → Type 0 };
 }
 
 impl<H: HostMeaning> Answering for Function<H> {
-    ghost use Rattle.cr_host.specs.Meets.{AnswersAs, StepsAs, FinishesAs};
+    ghost use Rattle.cr_host.specs.Meets.{AnswersAs, StepsAs, FinishesAs, NeverLacks, NeverLacksAt};
     ghost use Rattle.cr_host.specs.Registry.{AnswersBy};
 
     ghost answers = { AnswersBy
         (λ s. AnswersAs (ScalarFn.pre s.call) (ScalarFn.post s.call) (H.scalar s.number))
         (λ a. StepsAs (StepFn.pre a.step) (StepFn.post a.step) (H.step a.number) × FinishesAs (FinishFn.pre a.finish) (FinishFn.post a.finish) (H.finish a.number)) };
+
+    ghost never_lacks = { AnswersBy
+        (λ s. NeverLacks (ScalarFn.post s.call))
+        (λ a. NeverLacksAt (StepFn.post a.step) × NeverLacks (FinishFn.post a.finish)) };
 }
 
 impl<H: HostMeaning> Answering for Collating<H> {
     ghost use Rattle.cr_host.specs.Meets.{ComparesAs};
 
     ghost answers = { λ c. ComparesAs (OrderFn.pre c.compare) (OrderFn.post c.compare) (H.order c.number) };
+
+    ghost never_lacks = { λ c. Unit {0} };
 }
 
 /// Functions and collations that are found by name, the ASCII letters in either case. What stands above them knows them
@@ -44,6 +53,9 @@ pub trait Functions {
 
     /// Each closure answers as the definition of its number says.
     ghost is_faithful: { Self → Type 0 };
+
+    /// No closure answers want of memory.
+    ghost never_lacks: { Self → Type 0 };
 
     /// The function of a name for calls of that many arguments.
     ghost function_of: { Self → List ℕ → ℕ → Option Definition };
@@ -63,19 +75,23 @@ pub trait Functions {
     /// Each is a total preorder: any two texts compare, consistently, and some may tie.
     ghost orders_total: { (s : Self) (name : List ℕ) (order : List ℕ → List ℕ → Ordering) → order_of s name ≡ Some order → IsTotalOrder order };
 
-    /// The function of that name for calls of that many arguments; none where the name is the engine's own.
+    /// The host's function of that name for calls of that many arguments. It comes before one that the engine has itself.
     fn definition(&self, name: &str, count: usize) -> Option<Definition>
         ensures { result ≡ function_of self.now name.now count };
 
-    /// The value of a scalar function; `None` where there is no such scalar function.
+    /// The value of a scalar function; `None` where there is no such scalar function. Want of memory is answered only
+    /// where the closure answers it.
     fn call(&self, name: &str, args: &[Value]) -> Option<Result<Value, FnFault>>
         requires { is_faithful self.now }
-        ensures value { CallsAt (function_of self.now name.now (length args.now)) (λ n. scalar self.now n args.now) result };
+        ensures value { CallsAt (function_of self.now name.now (length args.now)) (λ n. scalar self.now n args.now) result }
+        ensures memory { never_lacks self.now → IfSome result HasMemory };
 
-    /// The value of an aggregate over rows, in their order; `None` where there is no such aggregate.
+    /// The value of an aggregate over rows, in their order; `None` where there is no such aggregate. Want of memory is
+    /// answered only where a closure answers it.
     fn fold(&self, name: &str, count: usize, rows: &[Row]) -> Option<Result<Value, FnFault>>
         requires { is_faithful self.now }
-        ensures value { FoldsAt (function_of self.now name.now count) (λ n. aggregated (step self.now n) (finish self.now n) rows.now) result };
+        ensures value { FoldsAt (function_of self.now name.now count) (λ n. aggregated (step self.now n) (finish self.now n) rows.now) result }
+        ensures memory { never_lacks self.now → IfSome result HasMemory };
 
     /// Whether there is a collation of that name.
     fn has_collation(&self, name: &str) -> bool
@@ -89,7 +105,7 @@ pub trait Functions {
 
 impl<H: HostMeaning> Functions for Registry<H> {
     ghost use Rattle.std.specs.List.{AllByRecursion};
-    ghost use Rattle.cr_host.specs.Meets.{AnswersAs, StepsAs, FinishesAs, ComparesAs};
+    ghost use Rattle.cr_host.specs.Meets.{AnswersAs, StepsAs, FinishesAs, ComparesAs, NeverLacks, NeverLacksAt};
     ghost use Rattle.cr_host.specs.Registry.{AnswersBy, functions, orders, listed, collations, function_for, order_for};
     ghost use Rattle.cr_host.specs.Orders.{order_for_total};
 
@@ -97,6 +113,10 @@ impl<H: HostMeaning> Functions for Registry<H> {
         (λ s. AnswersAs (ScalarFn.pre s.call) (ScalarFn.post s.call) (H.scalar s.number))
         (λ a. StepsAs (StepFn.pre a.step) (StepFn.post a.step) (H.step a.number) × FinishesAs (FinishFn.pre a.finish) (FinishFn.post a.finish) (H.finish a.number))) (functions r)
         × AllByRecursion (λ c. ComparesAs (OrderFn.pre c.compare) (OrderFn.post c.compare) (H.order c.number)) (orders r) };
+
+    ghost never_lacks = { λ r. AllByRecursion (AnswersBy
+        (λ s. NeverLacks (ScalarFn.post s.call))
+        (λ a. NeverLacksAt (StepFn.post a.step) × NeverLacks (FinishFn.post a.finish))) (functions r) };
 
     ghost function_of = { λ r name count. function_for name count (listed r) };
 
@@ -148,6 +168,8 @@ impl Functions for BuiltIns {
     ghost use Rattle.cr_host.specs.Orders.{order_for_total, built_in_only, built_in_only_total};
 
     ghost is_faithful = { λ s. Unit {0} };
+
+    ghost never_lacks = { λ s. Unit {0} };
 
     ghost function_of = { λ s name count. None };
 

@@ -9,7 +9,7 @@ use cr_value::collation::Collation;
 /// The greatest number of bytes of a name.
 pub const NAME_LIMIT: usize = 255;
 
-/// Whether a name, its letters in lower case, is the folded name.
+/// Whether a name, its ASCII letters in lower case, is the folded name.
 pub fn folds_to(name: &str, folded: &str) -> bool
     ensures { result ≡ bytes_eq (str_to_ascii_lowercase name.now) folded.now }
 {

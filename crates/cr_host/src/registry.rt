@@ -4,7 +4,7 @@ ghost use Rattle.std.specs.Prelude.{◌≡◌, [], false, not, ◌&&◌, None, S
 ghost use Rattle.std.specs.Option.{option_map, option_map_or, is_some};
 ghost use Rattle.indexmap.specs.IndexMap.{keys};
 ghost use Rattle.cr_host.specs.Names.{folded, arity_of, is_function_name, is_collation_name};
-ghost use Rattle.cr_host.specs.Meets.{AnswersAs, StepsAs, FinishesAs, ComparesAs};
+ghost use Rattle.cr_host.specs.Meets.{AnswersAs, StepsAs, FinishesAs, ComparesAs, NeverLacks, NeverLacksAt};
 ghost use Rattle.cr_host.specs.Registry.{listed, collations, definition, is_key, is_collation_key, entry_at, number_at, with_entry, without_entry, function_for, with_collation, collation_for, RefusesBadNames};
 ghost use Rattle.cr_host.specs.declared.function.Definition.TheVariants.{Scalar as ScalarOf, Aggregate as AggregateOf};
 
@@ -73,6 +73,7 @@ impl<H: HostMeaning> Registry<H> {
         ensures functions { listed result ≡ [] }
         ensures collations { collations result ≡ [] }
         ensures faithful { ⟦<Registry<H> as Functions>⟧.is_faithful result }
+        ensures memory { ⟦<Registry<H> as Functions>⟧.never_lacks result }
     {
         Registry {
             functions: IndexMap::new(alloc),
@@ -85,6 +86,7 @@ impl<H: HostMeaning> Registry<H> {
     pub fn find_function(&self, name: &str, count: usize) -> Option<&Function<H>>
         ensures definition { option_map (λ f. definition f.now) result ≡ function_for name.now count (listed self.now) }
         ensures faithful { ⟦<Registry<H> as Functions>⟧.is_faithful self.now → IfSome result (λ f. ⟦<Function<H> as Answering>⟧.answers f.now) }
+        ensures memory { ⟦<Registry<H> as Functions>⟧.never_lacks self.now → IfSome result (λ f. ⟦<Function<H> as Answering>⟧.never_lacks f.now) }
     {
         if let Some(function) = self.entry(name, Arity::Exactly(count)) {
             return Some(function);
@@ -96,6 +98,7 @@ impl<H: HostMeaning> Registry<H> {
     fn entry(&self, name: &str, arity: Arity) -> Option<&Function<H>>
         ensures definition { option_map (λ f. definition f.now) result ≡ entry_at name.now arity (listed self.now) }
         ensures faithful { ⟦<Registry<H> as Functions>⟧.is_faithful self.now → IfSome result (λ f. ⟦<Function<H> as Answering>⟧.answers f.now) }
+        ensures memory { ⟦<Registry<H> as Functions>⟧.never_lacks self.now → IfSome result (λ f. ⟦<Function<H> as Answering>⟧.never_lacks f.now) }
     {
         let place = place_of(&self.functions, name, arity)?;
         let (_, function) = self.functions.get_index(place)?;
@@ -116,6 +119,7 @@ impl<H: HostMeaning> Registry<H> {
         ensures err { OnErr result (listed self.new ≡ listed self.old) }
         ensures collations { collations self.new ≡ collations self.old }
         ensures faithful { ⟦<Registry<H> as Functions>⟧.is_faithful self.new }
+        ensures memory { ⟦<Registry<H> as Functions>⟧.never_lacks self.old → ⟦<Function<H> as Answering>⟧.never_lacks function → ⟦<Registry<H> as Functions>⟧.never_lacks self.new }
     {
         let key = key_of(alloc, name, arity)?;
         match self.functions.insert(key, function) {
@@ -142,6 +146,7 @@ impl<H: HostMeaning> Registry<H> {
         ensures err { OnErr result (listed self.new ≡ listed self.old) }
         ensures collations { collations self.new ≡ collations self.old }
         ensures faithful { ⟦<Registry<H> as Functions>⟧.is_faithful self.new }
+        ensures memory { ⟦<Registry<H> as Functions>⟧.never_lacks self.old → NeverLacks (ScalarFn.post call) → ⟦<Registry<H> as Functions>⟧.never_lacks self.new }
     {
         let scalar = Scalar {
             number,
@@ -169,6 +174,7 @@ impl<H: HostMeaning> Registry<H> {
         ensures err { OnErr result (listed self.new ≡ listed self.old) }
         ensures collations { collations self.new ≡ collations self.old }
         ensures faithful { ⟦<Registry<H> as Functions>⟧.is_faithful self.new }
+        ensures memory { ⟦<Registry<H> as Functions>⟧.never_lacks self.old → NeverLacksAt (StepFn.post step) → NeverLacks (FinishFn.post finish) → ⟦<Registry<H> as Functions>⟧.never_lacks self.new }
     {
         let aggregate = Aggregate {
             number,
@@ -186,6 +192,7 @@ impl<H: HostMeaning> Registry<H> {
         ensures functions { listed self.new ≡ option_map_or (λ a. without_entry name.now a (listed self.old)) (arity_of arity) (listed self.old) }
         ensures collations { collations self.new ≡ collations self.old }
         ensures faithful { ⟦<Registry<H> as Functions>⟧.is_faithful self.new }
+        ensures memory { ⟦<Registry<H> as Functions>⟧.never_lacks self.old → ⟦<Registry<H> as Functions>⟧.never_lacks self.new }
     {
         let Some(arity) = Arity::of(arity) else {
             return false;
@@ -217,6 +224,7 @@ impl<H: HostMeaning> Registry<H> {
         ensures err { OnErr result (collations self.new ≡ collations self.old) }
         ensures functions { listed self.new ≡ listed self.old }
         ensures faithful { ⟦<Registry<H> as Functions>⟧.is_faithful self.new }
+        ensures memory { ⟦<Registry<H> as Functions>⟧.never_lacks self.old → ⟦<Registry<H> as Functions>⟧.never_lacks self.new }
     {
         if !is_collation_name(name) {
             return Err(AddFault::BadName);

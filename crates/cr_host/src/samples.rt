@@ -1,6 +1,7 @@
 //! A scalar function, an aggregate and a collation that a host may register.
 
-ghost use Rattle.std.specs.Prelude.{◌≡◌};
+ghost use Rattle.std.specs.Prelude.{◌≡◌, ◌≢◌, [], ◌∷◌, IfOk, Ok};
+ghost use Rattle.cr_value.specs.declared.value.Value.TheVariants.{Null};
 ghost use Rattle.cr_host.specs.Meets.{Meets, Says};
 ghost use Rattle.cr_host.specs.Samples.{half, xorall_step, xorall_finish, bylen};
 
@@ -20,9 +21,10 @@ pub fn fault(alloc: Global, text: &str) -> FnFault
     }
 }
 
-/// `half(x)`: NULL for NULL, half of an even integer, else the fault 'odd'.
+/// `half(x)`: NULL for NULL, half of an even integer, else the fault 'odd'. Only the fault takes memory.
 pub fn half(alloc: Global, args: &[Value]) -> Result<Value, FnFault>
-    ensures { Meets (half args.now) result }
+    ensures value { Meets (half args.now) result }
+    ensures free { IfOk (half args.now) (λ v. result ≡ Ok v) }
 {
     match args {
         [Value::Null] => Ok(Value::Null),
@@ -37,9 +39,11 @@ pub fn half(alloc: Global, args: &[Value]) -> Result<Value, FnFault>
     }
 }
 
-/// A step of `xorall(x)`: exclusive or of integers, NULLs passed over, else the fault 'not an integer'.
+/// A step of `xorall(x)`: exclusive or of integers, NULLs passed over, else the fault 'not an integer'. Only a NULL, where
+/// what is held is copied, and the fault take memory.
 pub fn xorall_step(alloc: Global, held: &Value, row: &[Value]) -> Result<Value, FnFault>
-    ensures { Meets (xorall_step held.now row.now) result }
+    ensures value { Meets (xorall_step held.now row.now) result }
+    ensures free { row.now ≢ Null ∷ [] → IfOk (xorall_step held.now row.now) (λ v. result ≡ Ok v) }
 {
     match row {
         [Value::Null] => copied(alloc, held),

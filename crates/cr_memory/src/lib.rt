@@ -118,6 +118,8 @@ fn connection(alloc: Global) -> Result<Connection<FileStore<MemoryFile>>, CellsE
 }
 
 impl NewCells for MemoryCells {
+    // What is read of a file in memory is never in doubt.
+    #[tactic(auto, unfolding(sqlite_trees::specs::View::doubt, sqlite_pool::specs::Pool::state))]
     fn create(alloc: Global, site: Site) -> Result<MemoryCells, CellsError> {
         match Store::create(alloc, connection(alloc)?, site) {
             Ok(store) => Ok(MemoryCells { store }),

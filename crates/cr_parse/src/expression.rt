@@ -16,7 +16,7 @@ use cr_tree::expr::Expr;
 use cr_tree::symbol::Symbol;
 use std::alloc::Global;
 
-/// How many parentheses may be open at once.
+/// How many parentheses may be open at once, those of types aside.
 pub const PARENTHESES: u8 = 200;
 
 /// The greatest depth of an expression: a leaf is 1, and all else one more than its deepest part.

@@ -31,20 +31,37 @@ abbrev pub integer_behind_bar : Option (Value × List ℕ) → Option (List ℕ)
 integer_behind_bar None = None
 integer_behind_bar (Some x) = if is_int x.0 then Some x.1 else None
 
--- Nine literals joined by bars, as the rows of `crsql_changes` are printed: of the last, `seq`, and of `db_version` it
--- is looked at their type alone.
-unfoldable pub row_of : List ℕ → Option ChangeRow
-row_of bytes = do
+-- which cell a change is of, and what stands behind it: three literals joined by bars
+unfoldable pub cell_of : List ℕ → Option ((Value × Value × Value) × List ℕ)
+cell_of bytes = do
   table ← literal_at bytes
   pk ← barred table.1
   cid ← barred pk.1
-  val ← barred cid.1
+  Some ((table.0, pk.0, cid.0), cid.1)
+
+-- what the cell holds and its version; of `db_version` behind them it is looked at its type alone
+unfoldable pub content_of : List ℕ → Option ((Value × Value) × List ℕ)
+content_of bytes = do
+  val ← barred bytes
   version ← barred val.1
   after ← integer_behind_bar (barred version.1)
-  site ← barred after
+  Some ((val.0, version.0), after)
+
+-- who made the change, and the causal length; of `seq`, which is the last, it is looked at its type alone
+unfoldable pub origin_of : List ℕ → Option (Value × Value)
+origin_of bytes = do
+  site ← barred bytes
   cl ← barred site.1
   end ← integer_behind_bar (barred cl.1)
-  if is_empty end then Some (record { table = table.0; pk = pk.0; cid = cid.0; val = val.0; col_version = version.0; site_id = site.0; cl = cl.0 }) else None
+  if is_empty end then Some (site.0, cl.0) else None
+
+-- nine literals joined by bars, as the rows of `crsql_changes` are printed
+unfoldable pub row_of : List ℕ → Option ChangeRow
+row_of bytes = do
+  cell ← cell_of bytes
+  content ← content_of cell.1
+  origin ← origin_of content.1
+  Some (record { table = cell.0.0; pk = cell.0.1; cid = cell.0.2; val = content.0.0; col_version = content.0.1; site_id = origin.0; cl = origin.1 })
 
 -- ---- the commands
 

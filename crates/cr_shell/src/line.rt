@@ -7,7 +7,7 @@ ghost use Rattle.hex.specs.Hex.{decode_sized};
 ghost use Rattle.cr_value.specs.Reading.{literal_at};
 ghost use Rattle.cr_session.specs.declared.command.Command.TheVariants.{Use, Rows, Pull, Take};
 ghost use Rattle.cr_shell.specs.Words.{folded};
-ghost use Rattle.cr_shell.specs.Lines.{barred, is_int, integer_behind_bar, row_of, site_in, open_of, word_of, command_in, command_of};
+ghost use Rattle.cr_shell.specs.Lines.{barred, is_int, integer_behind_bar, cell_of, content_of, origin_of, row_of, site_in, open_of, word_of, command_in, command_of};
 
 use crate::table_line::table_of;
 use crate::words::{behind_from, folded, has_space, is_at_end, literal_from, split_at_space};
@@ -38,9 +38,13 @@ fn integer_from(alloc: Global, text: &str, at: usize) -> Result<Option<usize>, A
     }
 }
 
-#[tactic(auto, unfolding(crate::specs::Lines::row_of))]
-fn row_of(alloc: Global, text: &str) -> Result<Option<ChangeRow>, AllocError>
-    ensures { IfOk result (λ row. row ≡ row_of text.now) }
+// The cell that a change is of, and where what stands behind it begins.
+#[tactic(auto, unfolding(crate::specs::Lines::cell_of))]
+fn cell_from(
+    alloc: Global,
+    text: &str,
+) -> Result<Option<((Value, Value, Value), usize)>, AllocError>
+    ensures { IfOk result (λ found. option_map (λ x. (x.0, drop x.1 text.now)) found ≡ cell_of text.now) }
 {
     let Some((table, at)) = literal_from(alloc, text, 0)? else {
         return Ok(None);
@@ -51,6 +55,17 @@ fn row_of(alloc: Global, text: &str) -> Result<Option<ChangeRow>, AllocError>
     let Some((cid, at)) = barred_from(alloc, text, at)? else {
         return Ok(None);
     };
+    Ok(Some(((table, pk, cid), at)))
+}
+
+#[tactic(auto, unfolding(crate::specs::Lines::content_of))]
+fn content_from(
+    alloc: Global,
+    text: &str,
+    at: usize,
+) -> Result<Option<((Value, Value), usize)>, AllocError>
+    ensures { IfOk result (λ found. option_map (λ x. (x.0, drop x.1 text.now)) found ≡ content_of (drop at text.now)) }
+{
     let Some((val, at)) = barred_from(alloc, text, at)? else {
         return Ok(None);
     };
@@ -60,6 +75,13 @@ fn row_of(alloc: Global, text: &str) -> Result<Option<ChangeRow>, AllocError>
     let Some(at) = integer_from(alloc, text, at)? else {
         return Ok(None);
     };
+    Ok(Some(((val, col_version), at)))
+}
+
+#[tactic(auto, unfolding(crate::specs::Lines::origin_of))]
+fn origin_from(alloc: Global, text: &str, at: usize) -> Result<Option<(Value, Value)>, AllocError>
+    ensures { IfOk result (λ origin. origin ≡ origin_of (drop at text.now)) }
+{
     let Some((site_id, at)) = barred_from(alloc, text, at)? else {
         return Ok(None);
     };
@@ -72,6 +94,22 @@ fn row_of(alloc: Global, text: &str) -> Result<Option<ChangeRow>, AllocError>
     if !is_at_end(text, end) {
         return Ok(None);
     }
+    Ok(Some((site_id, cl)))
+}
+
+#[tactic(auto, unfolding(crate::specs::Lines::row_of))]
+fn row_of(alloc: Global, text: &str) -> Result<Option<ChangeRow>, AllocError>
+    ensures { IfOk result (λ row. row ≡ row_of text.now) }
+{
+    let Some(((table, pk, cid), at)) = cell_from(alloc, text)? else {
+        return Ok(None);
+    };
+    let Some(((val, col_version), at)) = content_from(alloc, text, at)? else {
+        return Ok(None);
+    };
+    let Some((site_id, cl)) = origin_from(alloc, text, at)? else {
+        return Ok(None);
+    };
     Ok(Some(ChangeRow {
         table,
         pk,

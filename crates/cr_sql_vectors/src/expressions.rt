@@ -46,7 +46,7 @@ const SHAPES: [(&str, &str); 33] = [
 ];
 
 // Each text with the place of the first token that nothing goes on with.
-const REFUSED: [(&str, usize); 12] = [
+const REFUSED: [(&str, usize); 14] = [
     ("", 0),
     ("1 +", 2),
     ("1 2", 1),
@@ -57,6 +57,8 @@ const REFUSED: [(&str, usize); 12] = [
     ("a IN ( )", 3),
     ("f ( * )", 2),
     ("9223372036854775808", 0),
+    ("f (", 2),
+    ("CASE", 1),
     ("CASE END", 1),
     ("CAST ( a AS )", 4),
 ];
@@ -144,13 +146,19 @@ fn told(alloc: Global, text: &str) -> Result<String, Fail> {
     }
 }
 
-// So many of a word, then a 1, then as many of another.
-fn around(alloc: Global, before: &str, after: &str, times: u8) -> Result<String, AllocError> {
+// So many of a word, then what stands in the middle, then as many of another word.
+fn around(
+    alloc: Global,
+    before: &str,
+    middle: &str,
+    after: &str,
+    times: u8,
+) -> Result<String, AllocError> {
     let mut text = String::new(alloc);
     for _ in 0..times {
         text.push_str(before)?;
     }
-    text.push_str("1 ")?;
+    text.push_str(middle)?;
     for _ in 0..times {
         text.push_str(after)?;
     }
@@ -180,13 +188,27 @@ fn others_are_refused_at_their_first_bad_token(rt: HostRuntime) -> Result<(), Fa
 #[test]
 fn limits_are_met(rt: HostRuntime) -> Result<(), Fail> {
     let alloc = rt.alloc();
-    let open = around(alloc, "( ", ") ", PARENTHESES)?;
+    let open = around(alloc, "( ", "1 ", ") ", PARENTHESES)?;
     assert_eq!(rt; told(alloc, &open)?.as_str(), "literal");
-    let more = around(alloc, "( ", ") ", PARENTHESES + 1)?;
+    let more = around(alloc, "( ", "1 ", ") ", PARENTHESES + 1)?;
     assert_eq!(rt; told(alloc, &more)?.as_str(), "depth");
-    let high = around(alloc, "NOT ", "", DEPTH - 1)?;
+    let high = around(alloc, "NOT ", "1 ", "", DEPTH - 1)?;
     assert_eq!(rt; told(alloc, &high)?.as_str(), "not not");
-    let higher = around(alloc, "NOT ", "", DEPTH)?;
+    let higher = around(alloc, "NOT ", "1 ", "", DEPTH)?;
     assert_eq!(rt; told(alloc, &higher)?.as_str(), "depth");
+    Ok(())
+}
+
+#[test]
+fn limits_are_met_by_calls_and_sums(rt: HostRuntime) -> Result<(), Fail> {
+    let alloc = rt.alloc();
+    let call = around(alloc, "( ", "f ( ) ", ") ", PARENTHESES - 1)?;
+    assert_eq!(rt; told(alloc, &call)?.as_str(), "call 0");
+    let inner = around(alloc, "( ", "f ( ) ", ") ", PARENTHESES)?;
+    assert_eq!(rt; told(alloc, &inner)?.as_str(), "depth");
+    let sum = around(alloc, "1 + ", "1 ", "", DEPTH - 1)?;
+    assert_eq!(rt; told(alloc, &sum)?.as_str(), "+ + literal");
+    let longer = around(alloc, "1 + ", "1 ", "", DEPTH)?;
+    assert_eq!(rt; told(alloc, &longer)?.as_str(), "depth");
     Ok(())
 }

@@ -6,7 +6,7 @@ use Rattle.cr_tree.specs.Marks.{is_mark}
 use Rattle.cr_tree.specs.Reading.{Outcome, Reads, Fails, Parser, and_then, pure, many, many_from, sees, behind, listed, rest_of}
 use Rattle.cr_parse.specs.declared.fault.Fault.{Fault}
 use Rattle.cr_parse.specs.declared.fault.Fault.TheVariants as f
-use Rattle.cr_parse.specs.Given.{Gives}
+use Rattle.cr_parse.specs.Given.{Gives, Tells}
 use Rattle.cr_parse.proofs.Turns.{marks_turn, marks_stop, many_ends, behind_seen}
 use Rattle.cr_statement.specs.Reading.{commas, by_option, found_from}
 
@@ -43,6 +43,13 @@ found_end {A} p n all ts i = ap (λ n. found_from p n all ts) i ∙ at
     at = refl
 
 -- ---- what a function that reads gives
+
+-- what takes no memory gives the same
+pub told_gives : {A : Type 0} (o : Outcome A) (res : Result A Fault) (ts : List Symbol) → Tells (λ x. x) o res ts → Gives (λ x. x) o res ts
+told_gives o (Ok x) ts t = t
+told_gives o (Err f.Memory) ts t = tt
+told_gives o (Err f.Syntax) ts t = t
+told_gives o (Err f.Deep) ts t = t
 
 pub gives_read : {A : Type 0} (o : Outcome A) (x : A) (res : Result A Fault) (ts : List Symbol) → res ≡ Ok x → Gives (λ x. x) o res ts → o ≡ Reads x ts
 gives_read o x res ts e g = subst (λ r. Gives (λ x. x) o r ts) e g

@@ -2,7 +2,7 @@
 
 ghost use Rattle.std.specs.Prelude.{◌≡◌, IfOk};
 ghost use Rattle.cr_tree.specs.Reading as spec;
-ghost use Rattle.cr_parse.specs.Given.{Gives};
+ghost use Rattle.cr_parse.specs.Given.{Gives, Tells};
 ghost use Rattle.cr_statement.specs.Statements as language;
 ghost use Rattle.cr_statement.specs.Reading as reading;
 ghost use Rattle.cr_statement.specs.Creating as creating;
@@ -67,7 +67,7 @@ fn literal(alloc: Global, tokens: &mut Cursor<'_>) -> Result<Value, Fault>
 // ---- columns
 
 fn primary_key(tokens: &mut Cursor<'_>) -> Result<Constraint, Fault>
-    ensures { Gives (λ x. x) (spec.behind Mark.Primary (spec.behind Mark.Key (spec.pure Constraint.PrimaryKey)) tokens.old) result tokens.new }
+    ensures { Tells (λ x. x) (spec.behind Mark.Primary (spec.behind Mark.Key (spec.pure Constraint.PrimaryKey)) tokens.old) result tokens.new }
 {
     tokens.expect(Mark::Primary)?;
     tokens.expect(Mark::Key)?;
@@ -75,7 +75,7 @@ fn primary_key(tokens: &mut Cursor<'_>) -> Result<Constraint, Fault>
 }
 
 fn not_null(tokens: &mut Cursor<'_>) -> Result<Constraint, Fault>
-    ensures { Gives (λ x. x) (spec.behind Mark.Not (spec.behind Mark.Null (spec.pure Constraint.NotNull)) tokens.old) result tokens.new }
+    ensures { Tells (λ x. x) (spec.behind Mark.Not (spec.behind Mark.Null (spec.pure Constraint.NotNull)) tokens.old) result tokens.new }
 {
     tokens.expect(Mark::Not)?;
     tokens.expect(Mark::Null)?;
@@ -230,7 +230,7 @@ fn body(
 // Whether IF NOT EXISTS stands there.
 #[tactic(auto, unfolding(crate::specs::Creating::if_not_exists))]
 fn if_not_exists(tokens: &mut Cursor<'_>) -> Result<bool, Fault>
-    ensures { Gives (λ x. x) (creating.if_not_exists tokens.old) result tokens.new }
+    ensures { Tells (λ x. x) (creating.if_not_exists tokens.old) result tokens.new }
 {
     if !tokens.sees(Mark::If) {
         return Ok(false);

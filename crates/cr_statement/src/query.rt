@@ -3,7 +3,7 @@
 ghost use Rattle.std.specs.Prelude.{◌≡◌, []};
 ghost use Rattle.cr_tree.specs.Marks.{is_mark};
 ghost use Rattle.cr_tree.specs.Reading as spec;
-ghost use Rattle.cr_parse.specs.Given.{Gives};
+ghost use Rattle.cr_parse.specs.Given.{Gives, Tells};
 ghost use Rattle.cr_statement.specs.Reading as reading;
 ghost use Rattle.cr_statement.specs.Queries as query;
 
@@ -265,7 +265,7 @@ fn order(alloc: Global, tokens: &mut Cursor<'_>) -> Result<Option<Items<Term>>, 
 
 #[tactic(auto, unfolding(crate::specs::Queries::count))]
 fn count(tokens: &mut Cursor<'_>) -> Result<i64, Fault>
-    ensures { Gives (λ x. x) (query.count tokens.old) result tokens.new }
+    ensures { Tells (λ x. x) (query.count tokens.old) result tokens.new }
 {
     if !tokens.sees(Mark::Minus) {
         return int(tokens);
@@ -275,7 +275,7 @@ fn count(tokens: &mut Cursor<'_>) -> Result<i64, Fault>
 }
 
 fn offset(tokens: &mut Cursor<'_>) -> Result<Option<i64>, Fault>
-    ensures { Gives (λ x. x) (reading.optional (is_mark Mark.Offset) (spec.behind Mark.Offset query.count) tokens.old) result tokens.new }
+    ensures { Tells (λ x. x) (reading.optional (is_mark Mark.Offset) (spec.behind Mark.Offset query.count) tokens.old) result tokens.new }
 {
     if !tokens.sees(Mark::Offset) {
         return Ok(None);
@@ -286,7 +286,7 @@ fn offset(tokens: &mut Cursor<'_>) -> Result<Option<i64>, Fault>
 
 #[tactic(auto, unfolding(crate::specs::Queries::limit))]
 fn limit(tokens: &mut Cursor<'_>) -> Result<Limit, Fault>
-    ensures { Gives (λ x. x) (query.limit tokens.old) result tokens.new }
+    ensures { Tells (λ x. x) (query.limit tokens.old) result tokens.new }
 {
     tokens.expect(Mark::Limit)?;
     let count = count(tokens)?;
@@ -296,7 +296,7 @@ fn limit(tokens: &mut Cursor<'_>) -> Result<Limit, Fault>
 
 #[tactic(auto, unfolding(crate::specs::Queries::limited))]
 fn limited(tokens: &mut Cursor<'_>) -> Result<Option<Limit>, Fault>
-    ensures { Gives (λ x. x) (query.limited tokens.old) result tokens.new }
+    ensures { Tells (λ x. x) (query.limited tokens.old) result tokens.new }
 {
     if !tokens.sees(Mark::Limit) {
         return Ok(None);

@@ -3,7 +3,7 @@
 ghost use Rattle.std.specs.Prelude.{◌≡◌, ◌≢◌, ℕ, IfOk};
 ghost use Rattle.cr_tree.specs.Reading as spec;
 ghost use Rattle.cr_tree.specs.Judging.{IsRead, IsBadPlace, MeetsLimit};
-ghost use Rattle.cr_parse.specs.Given.{Gives};
+ghost use Rattle.cr_parse.specs.Given.{Gives, Tells};
 ghost use Rattle.cr_parse.specs.Judge.{judge};
 ghost use Rattle.cr_statement.specs.Statements as language;
 ghost use Rattle.cr_statement.specs.Reading as reading;
@@ -46,7 +46,7 @@ fn mode(tokens: &mut Cursor<'_>) -> Option<Mode>
 
 #[tactic(auto, unfolding(crate::specs::Reading::begin))]
 fn begin(tokens: &mut Cursor<'_>) -> Result<Statement, Fault>
-    ensures { Gives (λ x. x) (reading.begin tokens.old) result tokens.new }
+    ensures { Tells (λ x. x) (reading.begin tokens.old) result tokens.new }
 {
     tokens.expect(Mark::Begin)?;
     let mode = mode(tokens);
@@ -57,7 +57,7 @@ fn begin(tokens: &mut Cursor<'_>) -> Result<Statement, Fault>
 // A word, and perhaps TRANSACTION.
 #[tactic(auto, unfolding(crate::specs::Reading::ended))]
 fn ended(tokens: &mut Cursor<'_>, mark: Mark, statement: Statement) -> Result<Statement, Fault>
-    ensures { Gives (λ x. x) (reading.ended mark statement tokens.old) result tokens.new }
+    ensures { Tells (λ x. x) (reading.ended mark statement tokens.old) result tokens.new }
 {
     tokens.expect(mark)?;
     tokens.eat(Mark::Transaction);
@@ -66,7 +66,7 @@ fn ended(tokens: &mut Cursor<'_>, mark: Mark, statement: Statement) -> Result<St
 
 #[tactic(auto, unfolding(crate::specs::Reading::transaction))]
 fn transaction(tokens: &mut Cursor<'_>) -> Result<Statement, Fault>
-    ensures { Gives (λ x. x) (reading.transaction tokens.old) result tokens.new }
+    ensures { Tells (λ x. x) (reading.transaction tokens.old) result tokens.new }
 {
     if tokens.sees(Mark::Begin) {
         return begin(tokens);

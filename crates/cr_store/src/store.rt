@@ -110,6 +110,7 @@ impl<S: Alter> Store<S> {
         site: Site,
     ) -> Result<Store<S>, (CellsError, Connection<S>)>
         ensures made { IfOk result (λ it. IsClean S.Store it.0 → holding_of (state S.Store it.0).now it.1 ≡ empty_holding site) }
+        ensures clean { IfOk result (λ it. HasCleanDisk (state S.Store it.0) → IsClean S.Store it.0) }
         ensures limit { IfOk result (λ it. it.0.step_limit ≡ None) }
         ensures busy { (state S.Store conn).in_transaction ≡ true → IsRefused result StoreFault.Refused conn }
         ensures taken { (state S.Store conn).in_transaction ≡ false → has_store (state S.Store conn).now.schema ≡ true → IsRefused result StoreFault.Taken conn }
@@ -310,8 +311,10 @@ impl Store<MemStore> {
     ///
     /// # Errors
     /// `Memory`, or `Store(Refused)`.
+    #[tactic(auto, unfolding(sqlite_trees::specs::View::doubt))]
     pub fn in_memory(alloc: Global, site: Site) -> Result<Store<MemStore>, CellsError>
         ensures made { IfOk result (λ it. IsClean over_memory it.0 → holding_of (state over_memory it.0).now it.1 ≡ empty_holding site) }
+        ensures clean { IfOk result (λ it. IsClean over_memory it.0) }
         ensures limit { IfOk result (λ it. it.0.step_limit ≡ None) }
         ensures why { IfErr result IsRefusal }
     {

@@ -38,6 +38,7 @@ fn fill<S: Alter>(conn: &mut Connection<S>, site: &Site) -> Result<(), Error>
     requires settled { IsTrue (state S.Store conn.old).is_open → (state S.Store conn.old).now ≡ (state S.Store conn.old).committed }
     ensures made { HasCleanDisk (state S.Store conn.new) → (state S.Store conn.old).now.schema ≡ no_schema
         → OnOk result (Shows (state S.Store conn.new).now (empty_holding site.now)) }
+    ensures opened { HasCleanDisk (state S.Store conn.new) → OnOk result (IsTrue (state S.Store conn.new).is_open) }
     ensures same { HasCleanDisk (state S.Store conn.new) → IsTrue (state S.Store conn.new).is_open → OnErr result ((state S.Store conn.new).now ≡ (state S.Store conn.old).now) }
     ensures auto { conn.new.in_transaction ≡ false }
     ensures clean { HasCleanDisk (state S.Store conn.new) → HasCleanDisk (state S.Store conn.old) }
@@ -57,6 +58,7 @@ pub(crate) fn make<S: Alter>(conn: &mut Connection<S>, site: &Site) -> Result<()
     requires settled { IsTrue (state S.Store conn.old).is_open → (state S.Store conn.old).now ≡ (state S.Store conn.old).committed }
     ensures made { HasCleanDisk (state S.Store conn.new) → (state S.Store conn.old).now.schema ≡ no_schema
         → OnOk result (Shows (state S.Store conn.new).now (empty_holding site.now)) }
+    ensures opened { HasCleanDisk (state S.Store conn.new) → OnOk result (IsTrue (state S.Store conn.new).is_open) }
     ensures same { HasCleanDisk (state S.Store conn.new) → IsTrue (state S.Store conn.new).is_open → OnErr result ((state S.Store conn.new).now ≡ (state S.Store conn.old).now) }
     ensures limit { OnOk result (conn.new.step_limit ≡ None) }
     ensures auto { conn.new.in_transaction ≡ false }

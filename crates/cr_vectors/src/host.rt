@@ -73,13 +73,9 @@ fn functions_are_found_by_name_and_count(rt: HostRuntime) -> Result<(), Fail> {
 }
 
 #[test]
-fn bad_names_are_refused(rt: HostRuntime) -> Result<(), Fail> {
+fn bad_names_of_functions_are_refused(rt: HostRuntime) -> Result<(), Fail> {
     let alloc = rt.alloc();
     let mut registry: Registry<Demo> = Registry::new(alloc);
-    let mut long = String::new(alloc);
-    for _ in 0..256 {
-        long.push('a')?;
-    }
     let call: ScalarFn = Box::new(alloc, move |args: &[Value]| half(alloc, args))?;
     let added = was_added(registry.add_scalar(alloc, "crsql_site_id", 0, 0, call))?;
     assert!(rt; !added);
@@ -90,6 +86,22 @@ fn bad_names_are_refused(rt: HostRuntime) -> Result<(), Fail> {
     let finish: FinishFn = Box::new(alloc, move |held: &Value| xorall_finish(alloc, held))?;
     let added = was_added(registry.add_aggregate(alloc, "", 1, 1, step, finish))?;
     assert!(rt; !added);
+    Ok(())
+}
+
+fn letters(alloc: Global, count: usize) -> Result<String, AllocError> {
+    let mut text = String::new(alloc);
+    for _ in 0..count {
+        text.push('a')?;
+    }
+    Ok(text)
+}
+
+#[test]
+fn bad_names_of_collations_are_refused(rt: HostRuntime) -> Result<(), Fail> {
+    let alloc = rt.alloc();
+    let mut registry: Registry<Demo> = Registry::new(alloc);
+    let long = letters(alloc, 256)?;
     let order: OrderFn = Box::new(alloc, |a: &str, b: &str| bylen(a, b))?;
     let added = was_added(registry.add_collation(alloc, "Binary", 2, order))?;
     assert!(rt; !added);
@@ -102,6 +114,13 @@ fn bad_names_are_refused(rt: HostRuntime) -> Result<(), Fail> {
 fn is_int(answer: Option<Result<Value, FnFault>>, wanted: i64) -> bool {
     match answer {
         Some(Ok(Value::Int(n))) => n == wanted,
+        _ => false,
+    }
+}
+
+fn is_null(answer: Option<Result<Value, FnFault>>) -> bool {
+    match answer {
+        Some(Ok(Value::Null)) => true,
         _ => false,
     }
 }
@@ -143,6 +162,7 @@ fn an_aggregate_is_folded(rt: HostRuntime) -> Result<(), Fail> {
     let finish: FinishFn = Box::new(alloc, move |held: &Value| xorall_finish(alloc, held))?;
     let added = was_added(registry.add_aggregate(alloc, "xorall", 1, 1, step, finish))?;
     assert!(rt; added);
+    assert!(rt; is_null(registry.fold("xorall", 1, &[])));
     let mut rows: Vec<Row> = Vec::new(alloc);
     for id in [1, 2, 4] {
         rows.push(row_of(alloc, Value::Int(id))?)?;

@@ -15,3 +15,6 @@ returns-in-Ok-clause-ok g c =
 
 pub returns-in-Ok-clause-faithful : goal.returns-in-Ok-clause-faithful
 returns-in-Ok-clause-faithful g c = (rw (c.in-Ok.ensures.entries) (each-insert _ _ _ c.args.function c.requires.answers c.args.self.now.functions.entries c.requires.faithful.0), c.requires.faithful.1)
+
+pub returns-in-Ok-clause-memory : goal.returns-in-Ok-clause-memory
+returns-in-Ok-clause-memory g c h k = rw (c.in-Ok.ensures.entries) (each-insert _ _ _ c.args.function k c.args.self.now.functions.entries h)
