@@ -6,3 +6,4 @@ pub mod MarkLemmas
 pub mod SoundLemmas
 pub mod LawLemmas
 pub mod CallerLemmas
+pub mod NewLemmas

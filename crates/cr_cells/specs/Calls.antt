@@ -1,5 +1,5 @@
 -- What the calls of a store answer and leave. Source: this project's own.
-use Rattle.std.specs.Prelude.{◌≡◌, Bool, true, false, ◌&&◌, List, Option, Result, Ok, Err, MatchResult}
+use Rattle.std.specs.Prelude.{◌≡◌, ℤ, Bool, true, false, ◌&&◌, List, Option, Result, Ok, Err, MatchResult}
 use Rattle.std.specs.Ordering.{int_eq}
 use Rattle.cr_lattice.specs.declared.change.Change.{Change}
 use Rattle.cr_cells.specs.declared.store.CellsError.{CellsError}
@@ -7,7 +7,7 @@ use Rattle.cr_cells.specs.declared.store.CellsError.TheVariants as error
 use Rattle.cr_cells.specs.declared.store.StoreFault.TheVariants as fault
 use Rattle.cr_cells.specs.Marks.{Mark}
 use Rattle.cr_cells.specs.Holding.{Holding, kept_of}
-use Rattle.cr_cells.specs.Commit.{is_changed, greatest_version, committed}
+use Rattle.cr_cells.specs.Commit.{newly_kept, is_changed, greatest_version, committed}
 
 -- want of memory, or the store refuses the call
 abbrev pub IsRefusal : CellsError → Type 0
@@ -20,6 +20,17 @@ abbrev pub IsCommitRefusal : CellsError → Type 0
 IsCommitRefusal error.Memory = Unit {0}
 IsCommitRefusal (error.Store f) = f ≡ fault.Refused
 IsCommitRefusal error.VersionLimit = Unit {0}
+
+-- memory does not suffice, or the store refuses the call for a cause of its own
+abbrev pub is_want : CellsError → Bool
+is_want error.Memory = true
+is_want (error.Store f) = true
+is_want error.VersionLimit = false
+
+-- P, unless a call was refused for want
+abbrev pub UnlessWant : {T E : Type 0} → (E → Bool) → Result T E → Type 0 → Type 0
+UnlessWant is_want (Ok answer) P = P
+UnlessWant is_want (Err e) P = is_want e ≡ false → P
 
 -- a reading leaves what the store holds, and its answer meets P, or it is refused
 pub record Reads {T : Type 0} (old new : Holding) (answer : Result T CellsError) (P : T → Type 0) : Type 0 where
@@ -34,6 +45,25 @@ Defines old new (Err e) wanted = (new ≡ old) × IsRefusal e
 -- the commit would need a version above the greatest
 abbrev pub is_past_limit : Holding → List Change → Bool
 is_past_limit h more = is_changed (kept_of h) more && int_eq h.version greatest_version
+
+-- a commit is refused for want of versions where it would need one above the greatest, and this takes no memory
+abbrev pub StaysWithinLimit : Bool → ℤ → Result (Unit {0}) CellsError → Type 0
+StaysWithinLimit is_changed version (Ok u) = (is_changed && int_eq version greatest_version) ≡ false
+StaysWithinLimit is_changed version (Err error.Memory) = ⊥
+StaysWithinLimit is_changed version (Err (error.Store f)) = ⊥
+StaysWithinLimit is_changed version (Err error.VersionLimit) = (is_changed && int_eq version greatest_version) ≡ true
+
+-- why a commit of these changes is refused
+abbrev pub IsNotCommitted : Holding → List Change → CellsError → Type 0
+IsNotCommitted h more error.Memory = Unit {0}
+IsNotCommitted h more (error.Store f) = f ≡ fault.Refused
+IsNotCommitted h more error.VersionLimit = is_past_limit h more ≡ true
+
+-- Before a commit: the changes that it would bring in, in the order of their places, or why it would be refused. Nothing
+-- is changed.
+pub record Foresees {T : Type 0} (old new : Holding) (more : List Change) (answer : Result T CellsError) (changes_in : T → List Change) : Type 0 where
+  pub same : new ≡ old
+  pub answers : MatchResult answer (λ news. (changes_in news ≡ newly_kept (kept_of old) more) × (is_past_limit old more ≡ false)) (IsNotCommitted old more)
 
 -- A commit leaves what is committed, and tells whether the kept changes are others than before. Past the greatest
 -- version, and only there, it is refused for that; refused it changes nothing.

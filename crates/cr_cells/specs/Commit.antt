@@ -1,9 +1,11 @@
 -- What a commit leaves. Source: this project's own; the kept changes are what no committed change beats.
-use Rattle.std.specs.Prelude.{◌^◌, ◌-◌, ℤ, pos, ◌+ℤ◌, Bool, not, List, [], ◌∷◌, ◌++◌, filter, map, Option, None, if◌then◌else◌}
+use Rattle.std.specs.Prelude.{◌^◌, ◌-◌, ℤ, pos, ◌+ℤ◌, Bool, true, false, not, ◌&&◌, List, [], ◌∷◌, ◌++◌, filter, map, Option, None, if◌then◌else◌}
 use Rattle.std.specs.List.{list_any, flat_map}
+use Rattle.std.specs.Ordering.{eq_by_cmp}
 use Rattle.cr_lattice.specs.declared.change.Change.{Change}
 use Rattle.cr_lattice.specs.declared.stamped.Stamped.{Stamped}
-use Rattle.cr_lattice.specs.Keep.{has, join}
+use Rattle.cr_lattice.specs.Change.{change_cmp, beats}
+use Rattle.cr_lattice.specs.Keep.{has, is_beaten, join}
 use Rattle.cr_lattice.specs.Sets.{set_of}
 use Rattle.cr_cells.specs.Marks.{Mark, marks_after}
 use Rattle.cr_cells.specs.Holding.{Holding, changes_of, kept_of, cell_cmp}
@@ -11,6 +13,19 @@ use Rattle.cr_cells.specs.Holding.{Holding, changes_of, kept_of, cell_cmp}
 -- the changes that come in: kept with the others, and not kept before, in the order of changes
 unfoldable pub newly_kept : List Change → List Change → List Change
 newly_kept kept more = filter (λ c. not (has kept c)) (join kept more)
+
+-- there is none
+abbrev pub is_none : {X : Type 0} → List X → Bool
+is_none [] = true
+is_none (x ∷ xs) = false
+
+-- the change is not kept, and no kept change beats it
+abbrev pub is_new : List Change → Change → Bool
+is_new kept c = not (has kept c) && not (is_beaten kept c)
+
+-- the same by the cells of its row, which are all that it takes
+abbrev pub is_new_in : List Stamped → Change → Bool
+is_new_in row c = not (list_any (λ s. eq_by_cmp change_cmp c s.change) row) && not (list_any (λ s. beats s.change c) row)
 
 -- some change comes in: then, and only then, the kept changes are others than before
 unfoldable pub is_changed : List Change → List Change → Bool

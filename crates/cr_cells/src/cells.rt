@@ -160,7 +160,7 @@ pub(crate) struct Advance {
 }
 
 // The next version, which takes no memory.
-fn version_after(version: i64) -> Result<i64, CellsError>
+pub(crate) fn version_after(version: i64) -> Result<i64, CellsError>
     ensures { IsNext version result }
 {
     version.checked_add(1).ok_or(CellsError::VersionLimit)

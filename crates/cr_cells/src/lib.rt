@@ -5,6 +5,7 @@ pub mod callers;
 mod cells;
 pub mod laws;
 pub mod marks;
+pub mod newly;
 pub mod plain;
 pub mod store;
 pub mod tables;

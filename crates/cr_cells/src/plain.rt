@@ -53,6 +53,8 @@ impl PlainCells {
 impl Cells for PlainCells {
     ghost holding = { λ h. h };
 
+    ghost is_honest = { λ _. Unit {0} };
+
     ghost is_clean = { λ _. Unit {0} };
 
     fn tables(&mut self, alloc: Global) -> Result<Vec<Table>, CellsError> {
@@ -123,6 +125,8 @@ impl Cells for PlainCells {
 }
 
 impl NewCells for PlainCells {
+    ghost always_honest = { λ _. tt };
+
     fn create(alloc: Global, site: Site) -> Result<PlainCells, CellsError> {
         Ok(PlainCells::new(alloc, site))
     }

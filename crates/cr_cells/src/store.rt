@@ -5,7 +5,7 @@ ghost use Rattle.std.specs.Option.{ForSome};
 ghost use Rattle.cr_cells.specs.Tables.{IsNewTable, has_defaults, is_markable, with_replicated, with_table, AreWellFormed};
 ghost use Rattle.cr_cells.specs.Marks.{seen_of};
 ghost use Rattle.cr_cells.specs.Holding.{since, cells_of, IsSound, empty_holding};
-ghost use Rattle.cr_cells.specs.Calls.{Reads, Defines, Commits, IsRefusal};
+ghost use Rattle.cr_cells.specs.Calls.{Reads, Defines, Commits, IsRefusal, is_want, UnlessWant};
 
 use cr_lattice::change::{Change, Site};
 use cr_lattice::stamped::Stamped;
@@ -47,12 +47,16 @@ impl From<AllocError> for CellsError {
 /// in, the store's site and version, and for each peer the version up to which its changes were taken.
 ///
 /// What a call promises it promises where the store is clean after it: its device gave back what was written, and is
-/// still there. Then the store was clean before the call, too.
+/// still there. Then the store was clean before the call, too. And a store that was clean before a call is clean after it
+/// where its device is honest, that is gave back what was written, unless the call was refused with `Memory` or `Store`.
 pub trait Cells: Drop {
     ghost use Rattle.cr_cells.specs.Holding.{Holding};
 
     /// What the store holds.
     ghost holding: { Self → Holding };
+
+    /// The device gave back what was written up to here.
+    ghost is_honest: { Self → Type 0 };
 
     /// The device gave back what was written up to here, and is still there.
     ghost is_clean: { Self → Type 0 };
@@ -62,7 +66,9 @@ pub trait Cells: Drop {
     /// # Errors
     /// `Memory`, or `Store(Refused)`.
     fn tables(&mut self, alloc: Global) -> Result<Vec<Table>, CellsError>
+        ensures was_honest { is_honest self.new → is_honest self.old }
         ensures was_clean { is_clean self.new → is_clean self.old }
+        ensures stays_clean { is_honest self.new → is_clean self.old → UnlessWant is_want result (is_clean self.new) }
         ensures sound { is_clean self.new → IsSound (holding self.new) }
         ensures reads { is_clean self.new → Reads (holding self.old) (holding self.new) result
             (λ tables. tables.items ≡ (holding self.old).tables) };
@@ -73,7 +79,9 @@ pub trait Cells: Drop {
     /// `Memory`, or `Store(Refused)`; then nothing is changed.
     fn add_table(&mut self, alloc: Global, def: &TableDef) -> Result<(), CellsError>
         requires { is_clean self.old → IsNewTable (holding self.old).tables def.now }
+        ensures was_honest { is_honest self.new → is_honest self.old }
         ensures was_clean { is_clean self.new → is_clean self.old }
+        ensures stays_clean { is_honest self.new → is_clean self.old → UnlessWant is_want result (is_clean self.new) }
         ensures sound { is_clean self.new → IsSound (holding self.new) }
         ensures defines { is_clean self.new → Defines (holding self.old) (holding self.new) result
             (record (holding self.old) { tables = with_table (holding self.old).tables def.now false }) };
@@ -85,7 +93,9 @@ pub trait Cells: Drop {
     /// `Memory`, or `Store(Refused)`; then nothing is changed.
     fn mark_crr(&mut self, alloc: Global, name: &str) -> Result<(), CellsError>
         requires { is_clean self.old → is_markable name.now (holding self.old).tables ≡ true }
+        ensures was_honest { is_honest self.new → is_honest self.old }
         ensures was_clean { is_clean self.new → is_clean self.old }
+        ensures stays_clean { is_honest self.new → is_clean self.old → UnlessWant is_want result (is_clean self.new) }
         ensures sound { is_clean self.new → IsSound (holding self.new) }
         ensures defines { is_clean self.new → Defines (holding self.old) (holding self.new) result
             (record (holding self.old) { tables = with_replicated name.now (holding self.old).tables }) };
@@ -97,7 +107,9 @@ pub trait Cells: Drop {
     fn add_replicated(&mut self, alloc: Global, def: &TableDef) -> Result<(), CellsError>
         requires is_new { is_clean self.old → IsNewTable (holding self.old).tables def.now }
         requires defaults { has_defaults def.now ≡ true }
+        ensures was_honest { is_honest self.new → is_honest self.old }
         ensures was_clean { is_clean self.new → is_clean self.old }
+        ensures stays_clean { is_honest self.new → is_clean self.old → UnlessWant is_want result (is_clean self.new) }
         ensures sound { is_clean self.new → IsSound (holding self.new) }
         ensures defines { is_clean self.new → Defines (holding self.old) (holding self.new) result
             (record (holding self.old) { tables = with_table (holding self.old).tables def.now true }) };
@@ -107,7 +119,9 @@ pub trait Cells: Drop {
     /// # Errors
     /// `Memory`, or `Store(Refused)`.
     fn since(&mut self, alloc: Global, version: i64) -> Result<Vec<Stamped>, CellsError>
+        ensures was_honest { is_honest self.new → is_honest self.old }
         ensures was_clean { is_clean self.new → is_clean self.old }
+        ensures stays_clean { is_honest self.new → is_clean self.old → UnlessWant is_want result (is_clean self.new) }
         ensures sound { is_clean self.new → IsSound (holding self.new) }
         ensures reads { is_clean self.new → Reads (holding self.old) (holding self.new) result
             (λ cells. cells.items ≡ since (holding self.old).cells version) };
@@ -122,7 +136,9 @@ pub trait Cells: Drop {
         table: &str,
         pk: &[u8],
     ) -> Result<Vec<Stamped>, CellsError>
+        ensures was_honest { is_honest self.new → is_honest self.old }
         ensures was_clean { is_clean self.new → is_clean self.old }
+        ensures stays_clean { is_honest self.new → is_clean self.old → UnlessWant is_want result (is_clean self.new) }
         ensures sound { is_clean self.new → IsSound (holding self.new) }
         ensures reads { is_clean self.new → Reads (holding self.old) (holding self.new) result
             (λ cells. cells.items ≡ cells_of (holding self.old).cells table.now pk.now) };
@@ -143,7 +159,9 @@ pub trait Cells: Drop {
     ) -> Result<bool, CellsError>
         requires well_formed { is_clean self.old → AreWellFormed (holding self.old).tables changes.now }
         requires from_0 { ForSome peer (λ mark. pos 0 ≤ℤ mark.1) }
+        ensures was_honest { is_honest self.new → is_honest self.old }
         ensures was_clean { is_clean self.new → is_clean self.old }
+        ensures stays_clean { is_honest self.new → is_clean self.old → UnlessWant is_want result (is_clean self.new) }
         ensures sound { is_clean self.new → IsSound (holding self.new) }
         ensures commits { is_clean self.new → Commits (holding self.old) (holding self.new) changes.now peer result };
 
@@ -152,7 +170,9 @@ pub trait Cells: Drop {
     /// # Errors
     /// `Memory`, or `Store(Refused)`.
     fn seen(&mut self, alloc: Global, site: Site) -> Result<i64, CellsError>
+        ensures was_honest { is_honest self.new → is_honest self.old }
         ensures was_clean { is_clean self.new → is_clean self.old }
+        ensures stays_clean { is_honest self.new → is_clean self.old → UnlessWant is_want result (is_clean self.new) }
         ensures sound { is_clean self.new → IsSound (holding self.new) }
         ensures reads { is_clean self.new → Reads (holding self.old) (holding self.new) result
             (λ version. version ≡ seen_of (holding self.old).marks site) };
@@ -167,7 +187,7 @@ pub trait Cells: Drop {
         ensures { is_clean self.now → result ≡ (holding self.now).site };
 }
 
-/// A store of cells that can be made new, with nothing in it.
+/// A store of cells in memory: it can be made new, with nothing in it, and its device is always honest.
 pub trait NewCells: Cells {
     /// A store of a site that holds nothing and is clean.
     ///
@@ -176,4 +196,7 @@ pub trait NewCells: Cells {
     fn create(alloc: Global, site: Site) -> Result<Self, CellsError>
         ensures made { MatchResult result (λ store. Self.is_clean store → Self.holding store ≡ empty_holding site) IsRefusal }
         ensures clean { IfOk result Self.is_clean };
+
+    /// The device of a store in memory gives back what was written.
+    ghost always_honest: { (s : Self) → Self.Cells.is_honest s };
 }

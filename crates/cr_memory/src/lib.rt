@@ -2,7 +2,7 @@
 #![tactic(auto)]
 
 ghost use Rattle.std.specs.Prelude.{◌≡◌, IfErr};
-ghost use Rattle.cr_memory.specs.Open.{IsOpen};
+ghost use Rattle.cr_memory.specs.Open.{IsOpen, always_honest};
 ghost use Rattle.cr_memory.specs.Told.{told, passed_on};
 ghost use Rattle.cr_cells.specs.Calls.{IsRefusal};
 
@@ -25,8 +25,11 @@ impl Cells for MemoryCells {
     ghost use Rattle.sqlite.specs.Held.{state};
     ghost use Rattle.sqlite.specs.Files.{over_files};
     ghost use Rattle.cr_store.specs.Kept.{IsClean, holding_of};
+    ghost use Rattle.cr_memory.specs.Open.{IsHonest};
 
     ghost holding = { λ m. holding_of (state over_files m.store.0).now m.store.1 };
+
+    ghost is_honest = { λ m. IsHonest m };
 
     ghost is_clean = { λ m. IsClean over_files m.store.0 };
 
@@ -118,6 +121,8 @@ fn connection(alloc: Global) -> Result<Connection<FileStore<MemoryFile>>, CellsE
 }
 
 impl NewCells for MemoryCells {
+    ghost always_honest = { λ m. always_honest m };
+
     // What is read of a file in memory is never in doubt.
     #[tactic(auto, unfolding(sqlite_trees::specs::View::doubt, sqlite_pool::specs::Pool::state))]
     fn create(alloc: Global, site: Site) -> Result<MemoryCells, CellsError> {

@@ -1,5 +1,5 @@
 -- Definitions that nothing stands against.
-use Rattle.std.proofs.Common.{◌≡◌, Bool, true, false, cond, ◌||◌, List, [], ◌∷◌, Option, Some, None, refl}
+use Rattle.std.proofs.Common.{◌≡◌, ℕ, Bool, true, false, cond, ◌||◌, List, [], ◌∷◌, Option, Some, None, refl}
 use Rattle.std.specs.Prelude.{find, is_some}
 use denote.Bor.{Bor}
 use Rattle.std.specs.Option.{option_copied}
@@ -23,12 +23,12 @@ is_some-copied None = refl
 is_some-copied (Some x) = refl
 
 -- an accepted definition is one that a store takes
-pub accepted_is_new : (tables : List Table) (def : TableDef) → has_folded_names def ≡ true → IsAccepted tables def → IsNewTable tables def
-accepted_is_new tables def folded ok = record {
+pub accepted_is_new : (has : List ℕ → Bool) (tables : List Table) (def : TableDef) → has_folded_names def ≡ true → IsAccepted has tables def → IsNewTable tables def
+accepted_is_new has tables def folded ok = record {
   fit = record { folded = folded; profile = ok.profile; names = ok.names };
   unused = ok.new;
 }
 
-pub accepted_has_defaults : (tables : List Table) (def : TableDef) → IsAccepted tables def → has_defaults def ≡ true
+pub accepted_has_defaults : (has : List ℕ → Bool) (tables : List Table) (def : TableDef) → IsAccepted has tables def → has_defaults def ≡ true
 unfolding has_defaults
-accepted_has_defaults tables def ok = rw ok.defaults refl
+accepted_has_defaults has tables def ok = rw ok.defaults refl

@@ -1,5 +1,5 @@
 -- The rows that a replica shows. Source: this project's own; values stand in the order of SQLite's BINARY collation.
-use Rattle.std.specs.Prelude.{◌≡◌, List, [], Option, Some, None, Result, Ok, Err, if◌then◌else◌}
+use Rattle.std.specs.Prelude.{◌≡◌, Bool, true, false, List, [], Option, Some, None, Result, Ok, Err, if◌then◌else◌}
 use Rattle.std.specs.declared.cmp.Ordering.{Ordering}
 use Rattle.std.specs.Cmp.Lexicographic.{slice_cmp}
 use Rattle.cr_value.specs.declared.value.Value.{Value}
@@ -33,6 +33,12 @@ Shows h (Some t) (Ok rs) = rs ≡ shown_of h t
 Shows h t (Err Memory) = Unit {0}
 Shows h t (Err (Store f)) = f ≡ store.Refused
 Shows h t (Err NoSuchTable) = t ≡ None
+
+-- memory or the store does not suffice
+abbrev pub is_want : RowsError → Bool
+is_want Memory = true
+is_want (Store f) = true
+is_want NoSuchTable = false
 
 -- how a store's refusal is passed on
 abbrev pub of_store : CellsError → RowsError

@@ -1,16 +1,18 @@
 -- What a taking and a pull leave. The set of all changes that a replica ever held is no data: a replica stands for each
 -- set whose kept changes are its own. Source: this project's own; a taking is a join.
-use Rattle.std.specs.Prelude.{◌≡◌, ◌≢◌, pos, true, false, List, Some, None, Result, Ok, Err}
+use Rattle.std.specs.Prelude.{◌≡◌, ◌≢◌, Bool, pos, true, false, List, Option, Some, None, Result, Ok, Err}
 use Rattle.cr_lattice.specs.declared.change.Change.{Change}
 use Rattle.cr_lattice.specs.Keep.{keep}
 use Rattle.cr_cells.specs.declared.store.StoreFault.TheVariants as store
 use Rattle.cr_cells.specs.declared.store.CellsError.{CellsError}
 use Rattle.cr_cells.specs.declared.store.CellsError.TheVariants as cells
-use Rattle.cr_cells.specs.Tables.{first_fault}
+use Rattle.cr_cells.specs.Tables.{first_fault, AreWellFormed}
 use Rattle.cr_cells.specs.Holding.{Holding, changes_of, kept_of, since}
-use Rattle.cr_cells.specs.Commit.{committed}
-use Rattle.cr_cells.specs.Calls.{is_past_limit}
+use Rattle.cr_cells.specs.Commit.{committed, newly_kept}
+use Rattle.cr_cells.specs.Calls.{is_past_limit, IsRefusal}
+use Rattle.cr_cells.specs.Marks.{Mark}
 use Rattle.cr_replica.specs.declared.replica.Offer.{Offer}
+use Rattle.cr_replica.specs.declared.replica.Taking.{Taking}
 use Rattle.cr_replica.specs.declared.replica.TakeError.{TakeError}
 use Rattle.cr_replica.specs.declared.replica.TakeError.TheVariants.{Memory, Store, Bad, VersionLimit, SameSite}
 
@@ -34,6 +36,23 @@ IsNotTaken h more (Bad b) = first_fault h.tables more ≡ Some b
 IsNotTaken h more VersionLimit = (first_fault h.tables more ≡ None) × (is_past_limit h more ≡ true)
 IsNotTaken h more SameSite = ⊥
 
+-- nothing stands against the taking of these changes, and its commit would bring in the newly kept ones
+pub record IsReady (h : Holding) (more news : List Change) : Type 0 where
+  pub well_formed : AreWellFormed h.tables more
+  pub none_bad : first_fault h.tables more ≡ None
+  pub within : is_past_limit h more ≡ false
+  pub comes_in : news ≡ newly_kept (kept_of h) more
+
+-- the first step of a taking tells why changes are not taken, or what their commit would bring in, and changes nothing
+abbrev pub Prepares : Holding → Holding → List Change → Result Taking TakeError → Type 0
+Prepares old new more (Ok taking) = (new ≡ old) × (taking.changes.now ≡ more) × IsReady old more taking.newly_kept
+Prepares old new more (Err e) = (new ≡ old) × IsNotTaken old more e
+
+-- the second step commits all of them, with a mark, unless the store refuses
+abbrev pub CommitsAll : Holding → Holding → List Change → Option Mark → Result (Unit {0}) CellsError → Type 0
+CommitsAll old new more mark (Ok u) = new ≡ committed old more mark
+CommitsAll old new more mark (Err e) = (new ≡ old) × IsRefusal e
+
 -- all changes are taken in one commit, or none
 abbrev pub Takes : Holding → Holding → List Change → Result (Unit {0}) TakeError → Type 0
 Takes old new more (Ok u) = (first_fault old.tables more ≡ None) × (is_past_limit old more ≡ false) × (new ≡ committed old more None)
@@ -47,10 +66,23 @@ IsNotPulled peer h (Bad b) = (peer.site ≢ h.site) × IsNotTaken h (changes_of_
 IsNotPulled peer h VersionLimit = (peer.site ≢ h.site) × IsNotTaken h (changes_of_peer peer) VersionLimit
 IsNotPulled peer h SameSite = peer.site ≡ h.site
 
+-- the first step of a pull, of what the peer offers
+abbrev pub PreparesPull : Holding → Holding → Holding → Result Taking TakeError → Type 0
+PreparesPull peer old new (Ok taking) = (peer.site ≢ old.site) × Prepares old new (changes_of_peer peer) (Ok taking)
+PreparesPull peer old new (Err e) = (new ≡ old) × IsNotPulled peer old e
+
 -- a pull takes all changes that the peer keeps, unless its site is the taker's own
 abbrev pub Pulls : Holding → Holding → Holding → Result (Unit {0}) TakeError → Type 0
 Pulls peer old new (Ok u) = (peer.site ≢ old.site) × Takes old new (changes_of_peer peer) (Ok u)
 Pulls peer old new (Err e) = (new ≡ old) × IsNotPulled peer old e
+
+-- memory or the store does not suffice
+abbrev pub is_want : TakeError → Bool
+is_want Memory = true
+is_want (Store f) = true
+is_want (Bad b) = false
+is_want VersionLimit = false
+is_want SameSite = false
 
 -- how a store's refusal is passed on
 abbrev pub of_store : CellsError → TakeError

@@ -1,13 +1,14 @@
 //! Which tables a replica defines.
 
 ghost use Rattle.std.specs.Prelude.{◌≡◌, position, MatchResult};
+ghost use Rattle.std.specs.Option.{is_some};
 ghost use Rattle.cr_replica.specs.Definition.{has_unknown_collation, is_taken, IsAccepted, IsRefusal, IsRefusedFor};
 
 use cr_cells::store::{CellsError, StoreFault};
 use cr_cells::tables::table_named;
+use cr_host::functions::Functions;
 use cr_lattice::profile::{ProfileFault, duplicate, no_default, profile};
 use cr_lattice::table::{ColumnDef, Table, TableDef};
-use cr_value::order::same_bytes;
 use std::alloc::AllocError;
 
 /// Why a table is not defined. Of several causes the first of this order is told: the profile, the table's name, its
@@ -41,19 +42,18 @@ impl From<AllocError> for DefineError {
     }
 }
 
-fn has_unknown_collation(column: &ColumnDef) -> bool
-    ensures { result ≡ has_unknown_collation column.now }
+fn has_unknown_collation<F: Functions>(functions: &F, column: &ColumnDef) -> bool
+    ensures { result ≡ has_unknown_collation (λ name. is_some (F.order_of functions.now name)) column.now }
 {
-    let name = column.collation.as_str().as_bytes();
-    !(same_bytes(name, b"binary") || same_bytes(name, b"nocase") || same_bytes(name, b"rtrim"))
+    !functions.has_collation(column.collation.as_str())
 }
 
-fn first_unknown_collation(columns: &[ColumnDef]) -> Option<usize>
-    ensures { result ≡ position has_unknown_collation columns.now }
+fn first_unknown_collation<F: Functions>(functions: &F, columns: &[ColumnDef]) -> Option<usize>
+    ensures { result ≡ position (has_unknown_collation (λ name. is_some (F.order_of functions.now name))) columns.now }
 {
     columns
         .iter()
-        .position(|column| has_unknown_collation(column))
+        .position(|column| has_unknown_collation(functions, column))
 }
 
 // Whether a table has the definition's name.
@@ -63,12 +63,17 @@ fn is_taken(tables: &[Table], def: &TableDef) -> bool
     table_named(tables, def.name.as_str()).is_some()
 }
 
-/// What stands against a definition, if anything does, among tables that are there.
+/// What stands against a definition, if anything does, among tables and collations that are there.
 ///
 /// # Errors
 /// The first that stands against it. Takes no memory.
-pub fn accept(tables: &[Table], def: &TableDef) -> Result<(), DefineError>
-    ensures { MatchResult result (λ _. IsAccepted tables.now def.now) (λ e. IsRefusal e × IsRefusedFor tables.now def.now e) }
+pub fn accept<F: Functions>(
+    functions: &F,
+    tables: &[Table],
+    def: &TableDef,
+) -> Result<(), DefineError>
+    ensures { MatchResult result (λ _. IsAccepted (λ name. is_some (F.order_of functions.now name)) tables.now def.now)
+        (λ e. IsRefusal e × IsRefusedFor (λ name. is_some (F.order_of functions.now name)) tables.now def.now e) }
 {
     if let Err(fault) = profile(def) {
         return Err(DefineError::Profile(fault));
@@ -79,7 +84,7 @@ pub fn accept(tables: &[Table], def: &TableDef) -> Result<(), DefineError>
     if let Some(at) = duplicate(def) {
         return Err(DefineError::Duplicate(at));
     }
-    if let Some(at) = first_unknown_collation(def.columns.as_slice()) {
+    if let Some(at) = first_unknown_collation(functions, def.columns.as_slice()) {
         return Err(DefineError::NoSuchCollation(at));
     }
     match no_default(def) {

@@ -5,8 +5,11 @@ ghost use Rattle.cr_cells.specs.Holding.{changes_of};
 
 use crate::definition::{DefineError, accept};
 use crate::sorting::in_order;
+use cr_cells::marks::Mark;
+use cr_cells::newly::newly_kept;
 use cr_cells::store::{Cells, CellsError, StoreFault};
 use cr_cells::tables::{check_all, table_named};
+use cr_host::functions::Functions;
 use cr_lattice::change::{Change, Site};
 use cr_lattice::check::{BadChange, CheckError};
 use cr_lattice::merge::merge;
@@ -101,6 +104,15 @@ pub struct Offer {
     pub changes: Items<Change>,
 }
 
+/// Changes that may be taken, and what their commit would bring in.
+#[derive(Debug, Drop)]
+pub struct Taking<'a> {
+    /// The changes.
+    pub changes: &'a [Change],
+    /// Those that would be kept and are not kept yet, in the order of the places that they would get.
+    pub newly_kept: Items<Change>,
+}
+
 /// A replica over a store of cells.
 #[derive(Drop)]
 pub struct Replica<C: Drop> {
@@ -114,14 +126,18 @@ impl<C: Drop> Model for Replica<C> {
 }
 
 impl<C: Cells> Replica<C> {
-    ghost use Rattle.std.specs.Prelude.{◌≡◌, ◌++◌, List, find, true, Err, OnOk, OnErr};
+    ghost use Rattle.std.specs.Prelude.{◌≡◌, ◌≤ℤ◌, ◌++◌, pos, List, find, true, Err, OnOk, IfOk};
+    ghost use Rattle.std.specs.Option.{ForSome, is_some};
     ghost use Rattle.cr_lattice.specs.declared.change.Change.{Change};
     ghost use Rattle.cr_cells.specs.Tables.{is_named, has_folded_names};
     ghost use Rattle.cr_cells.specs.Holding.{Holding, IsSound, since};
-    ghost use Rattle.cr_cells.specs.Calls.{Reads};
+    ghost use Rattle.cr_cells.specs.Calls.{Reads, is_want, UnlessWant};
     ghost use Rattle.cr_replica.specs.Definition.{DefinesTable};
+    ghost use Rattle.cr_replica.specs.Definition as definitions;
+    ghost use Rattle.cr_replica.specs.Taking as takings;
+    ghost use Rattle.cr_replica.specs.Showing as showings;
     ghost use Rattle.cr_replica.specs.declared.replica.TakeError.TheVariants.{SameSite};
-    ghost use Rattle.cr_replica.specs.Taking.{Stands, Takes, Pulls, IsOffer};
+    ghost use Rattle.cr_replica.specs.Taking.{Stands, IsReady, Prepares, PreparesPull, CommitsAll, IsOffer};
     ghost use Rattle.cr_replica.specs.Showing.{Shows};
 
     /// A replica over the store, which may hold something already.
@@ -138,37 +154,51 @@ impl<C: Cells> Replica<C> {
         self.cells
     }
 
-    /// Defines a replicated table. Its names are in ASCII lower case.
+    /// Defines a replicated table, whose columns' collations are among those that the functions know. Its names are in
+    /// ASCII lower case.
     ///
     /// # Errors
     /// The first cause in `DefineError`'s order that stands against the definition, or `Memory`, or `Store`; then
     /// nothing is changed.
-    pub fn define(&mut self, alloc: Global, def: &TableDef) -> Result<(), DefineError>
+    pub fn define<F: Functions>(
+        &mut self,
+        alloc: Global,
+        functions: &F,
+        def: &TableDef,
+    ) -> Result<(), DefineError>
         requires { has_folded_names def.now ≡ true }
+        ensures was_honest { C.is_honest self.new → C.is_honest self.old }
         ensures was_clean { C.is_clean self.new → C.is_clean self.old }
-        ensures defines { C.is_clean self.new → DefinesTable (C.holding self.old) (C.holding self.new) def.now result }
+        ensures stays_clean { C.is_honest self.new → C.is_clean self.old → UnlessWant definitions.is_want result (C.is_clean self.new) }
+        ensures defines { C.is_clean self.new → DefinesTable (λ name. is_some (F.order_of functions.now name)) (C.holding self.old) (C.holding self.new) def.now result }
     {
         let tables = match self.cells.tables(alloc) {
             Ok(tables) => tables,
             Err(error) => return Err(DefineError::from(error)),
         };
-        accept(&tables, def)?;
+        accept(functions, &tables, def)?;
         match self.cells.add_replicated(alloc, def) {
             Ok(()) => Ok(()),
             Err(error) => Err(DefineError::from(error)),
         }
     }
 
-    /// Takes changes, all in one commit or none. Those that lose change nothing.
+    /// The first step of a taking: whether these changes may be taken, and what their commit would bring in. Nothing is
+    /// changed; `commit` is the second step.
     ///
     /// # Errors
     /// `Bad` with the reason why the first change that is not well formed is not; `VersionLimit` where a kept change
-    /// would change at the greatest version; `Memory`, or `Store`. Then nothing is changed.
-    pub fn take(&mut self, alloc: Global, changes: &[Change]) -> Result<(), TakeError>
+    /// would change at the greatest version; `Memory`, or `Store`.
+    pub fn prepare<'a>(
+        &mut self,
+        alloc: Global,
+        changes: &'a [Change],
+    ) -> Result<Taking<'a>, TakeError>
+        ensures was_honest { C.is_honest self.new → C.is_honest self.old }
         ensures was_clean { C.is_clean self.new → C.is_clean self.old }
-        ensures takes { C.is_clean self.new → Takes (C.holding self.old) (C.holding self.new) changes.now result }
-        ensures joins { C.is_clean self.new → OnOk result ((held : List Change) → Stands held (C.holding self.old)
-            → Stands (held ++ changes.now) (C.holding self.new)) }
+        ensures stays_clean { C.is_honest self.new → C.is_clean self.old → UnlessWant takings.is_want result (C.is_clean self.new) }
+        ensures prepares { C.is_clean self.new → Prepares (C.holding self.old) (C.holding self.new) changes.now result }
+        ensures changes { IfOk result (λ taking. taking.changes.now ≡ changes.now) }
     {
         let tables = match self.cells.tables(alloc) {
             Ok(tables) => tables,
@@ -179,9 +209,64 @@ impl<C: Cells> Replica<C> {
             Err(CheckError::Bad(reason)) => return Err(TakeError::Bad(reason)),
             Err(CheckError::Memory) => return Err(TakeError::Memory),
         }
-        match self.cells.commit(alloc, changes, None) {
-            Ok(_) => Ok(()),
+        match newly_kept(alloc, &mut self.cells, changes) {
+            Ok(newly_kept) => Ok(Taking {
+                changes,
+                newly_kept: Items::new(newly_kept),
+            }),
             Err(error) => Err(TakeError::from(error)),
+        }
+    }
+
+    /// The first step of taking what a peer offers, as `prepare`.
+    ///
+    /// # Errors
+    /// `SameSite` where the peer's site is this replica's own; else those of `prepare`.
+    pub fn prepare_offer<'a>(
+        &mut self,
+        alloc: Global,
+        offer: &'a Offer,
+    ) -> Result<Taking<'a>, TakeError>
+        ensures was_honest { C.is_honest self.new → C.is_honest self.old }
+        ensures was_clean { C.is_clean self.new → C.is_clean self.old }
+        ensures stays_clean { C.is_honest self.new → C.is_clean self.old → UnlessWant takings.is_want result (C.is_clean self.new) }
+        ensures prepares { C.is_clean self.new → (peer : Holding) → IsOffer peer offer.now
+            → PreparesPull peer (C.holding self.old) (C.holding self.new) result }
+        ensures own { C.is_clean self.new → offer.now.site ≡ (C.holding self.old).site → result ≡ Err SameSite }
+        ensures same { C.is_clean self.new → C.holding self.new ≡ C.holding self.old }
+        ensures changes { IfOk result (λ taking. taking.changes.now ≡ offer.now.changes) }
+        ensures ready { C.is_clean self.new → IfOk result (λ taking. IsReady (C.holding self.new) taking.changes.now taking.newly_kept) }
+    {
+        if same_bytes(&offer.site, &self.site_id()) {
+            return Err(TakeError::SameSite);
+        }
+        self.prepare(alloc, offer.changes.as_slice())
+    }
+
+    /// The second step of a taking: its changes are committed, all in one commit, and with them the mark of a peer, its
+    /// site and its version, at least 0, up to which they were taken. Those that lose change nothing.
+    ///
+    /// # Errors
+    /// `Memory`, or `Store(Refused)`; then nothing is changed, and the mark neither.
+    pub fn commit(
+        &mut self,
+        alloc: Global,
+        taking: &Taking<'_>,
+        mark: Option<Mark>,
+    ) -> Result<(), CellsError>
+        requires ready { C.is_clean self.old → IsReady (C.holding self.old) taking.now.changes.now taking.now.newly_kept }
+        requires from_0 { ForSome mark (λ m. pos 0 ≤ℤ m.1) }
+        ensures was_honest { C.is_honest self.new → C.is_honest self.old }
+        ensures was_clean { C.is_clean self.new → C.is_clean self.old }
+        ensures stays_clean { C.is_honest self.new → C.is_clean self.old → UnlessWant is_want result (C.is_clean self.new) }
+        ensures commits { C.is_clean self.new → CommitsAll (C.holding self.old) (C.holding self.new) taking.now.changes.now mark result }
+        ensures joins { C.is_clean self.new → OnOk result ((held : List Change) → Stands held (C.holding self.old)
+            → Stands (held ++ taking.now.changes.now) (C.holding self.new)) }
+    {
+        let _ = self.cells.db_version();
+        match self.cells.commit(alloc, taking.changes, mark) {
+            Ok(_) => Ok(()),
+            Err(error) => Err(error),
         }
     }
 
@@ -190,7 +275,9 @@ impl<C: Cells> Replica<C> {
     /// # Errors
     /// `Memory`, or `Store(Refused)`.
     pub fn offer(&mut self, alloc: Global) -> Result<Offer, CellsError>
+        ensures was_honest { C.is_honest self.new → C.is_honest self.old }
         ensures was_clean { C.is_clean self.new → C.is_clean self.old }
+        ensures stays_clean { C.is_honest self.new → C.is_clean self.old → UnlessWant is_want result (C.is_clean self.new) }
         ensures sound { C.is_clean self.new → IsSound (C.holding self.new) }
         ensures reads { C.is_clean self.new → Reads (C.holding self.old) (C.holding self.new) result (IsOffer (C.holding self.old)) }
     {
@@ -204,52 +291,14 @@ impl<C: Cells> Replica<C> {
         })
     }
 
-    /// Takes what a peer offers, in one commit.
-    ///
-    /// # Errors
-    /// `SameSite` where the peer's site is this replica's own; else those of `take`. Then nothing is changed.
-    pub fn take_offer(&mut self, alloc: Global, offer: &Offer) -> Result<(), TakeError>
-        ensures was_clean { C.is_clean self.new → C.is_clean self.old }
-        ensures pulls { C.is_clean self.new → (peer : Holding) → IsOffer peer offer.now
-            → Pulls peer (C.holding self.old) (C.holding self.new) result }
-        ensures own { C.is_clean self.new → offer.now.site ≡ (C.holding self.old).site → result ≡ Err SameSite }
-        ensures refused { C.is_clean self.new → OnErr result (C.holding self.new ≡ C.holding self.old) }
-        ensures joins { C.is_clean self.new → OnOk result ((peer : Holding) (mine theirs : List Change) → IsSound peer
-            → IsOffer peer offer.now → Stands mine (C.holding self.old) → Stands theirs peer
-            → Stands (mine ++ theirs) (C.holding self.new)) }
-    {
-        if same_bytes(&offer.site, &self.site_id()) {
-            return Err(TakeError::SameSite);
-        }
-        self.take(alloc, offer.changes.as_slice())
-    }
-
-    /// Takes all changes that a peer keeps, in one commit. The peer stays as it is.
-    ///
-    /// # Errors
-    /// `SameSite` where the peer's site is this replica's own; else those of `take`. Then nothing is changed.
-    pub fn pull<D: Cells>(&mut self, alloc: Global, peer: &mut Replica<D>) -> Result<(), TakeError>
-        ensures was_clean { C.is_clean self.new → C.is_clean self.old }
-        ensures peer_was_clean { D.is_clean peer.new → D.is_clean peer.old }
-        ensures peer_stays { D.is_clean peer.new → D.holding peer.new ≡ D.holding peer.old }
-        ensures pulls { C.is_clean self.new → D.is_clean peer.new
-            → Pulls (D.holding peer.old) (C.holding self.old) (C.holding self.new) result }
-        ensures joins { C.is_clean self.new → D.is_clean peer.new → OnOk result ((mine theirs : List Change)
-            → Stands mine (C.holding self.old) → Stands theirs (D.holding peer.old)
-            → Stands (mine ++ theirs) (C.holding self.new)) }
-    {
-        match peer.offer(alloc) {
-            Ok(offer) => self.take_offer(alloc, &offer),
-            Err(error) => Err(TakeError::from(error)),
-        }
-    }
-
     /// The rows of the table of that name, in ascending order: none where it isn't replicated.
     ///
     /// # Errors
     /// `NoSuchTable` where no table has the name; `Memory`, or `Store`.
     pub fn rows_of(&mut self, alloc: Global, name: &str) -> Result<Items<Row>, RowsError>
+        ensures was_honest { C.is_honest self.new → C.is_honest self.old }
         ensures was_clean { C.is_clean self.new → C.is_clean self.old }
+        ensures stays_clean { C.is_honest self.new → C.is_clean self.old → UnlessWant showings.is_want result (C.is_clean self.new) }
         ensures same { C.is_clean self.new → C.holding self.new ≡ C.holding self.old }
         ensures shows { C.is_clean self.new → Shows (C.holding self.old) (find (is_named name.now) (C.holding self.old).tables) result }
     {
@@ -278,7 +327,9 @@ impl<C: Cells> Replica<C> {
     /// # Errors
     /// `Memory`, or `Store(Refused)`.
     pub fn changes_since(&mut self, alloc: Global, version: i64) -> Result<Vec<Stamped>, CellsError>
+        ensures was_honest { C.is_honest self.new → C.is_honest self.old }
         ensures was_clean { C.is_clean self.new → C.is_clean self.old }
+        ensures stays_clean { C.is_honest self.new → C.is_clean self.old → UnlessWant is_want result (C.is_clean self.new) }
         ensures sound { C.is_clean self.new → IsSound (C.holding self.new) }
         ensures reads { C.is_clean self.new → Reads (C.holding self.old) (C.holding self.new) result
             (λ cells. cells.items ≡ since (C.holding self.old).cells version) }

@@ -86,9 +86,10 @@ module _ {C : Type 0} (is_clean : C → Type 0) (holding : C → Holding) (old :
       (λ clean w s. inl (subst (λ o. IsWantFor o r) (sym (told w false false false (free w s e) (count w false s f) (site_same w s ∙ g clean))) is)) (λ w. refl)
 
   pub open_done : (c : C) → is_free_name name old ≡ true → nat_le 64 (length old.0) ≡ false → (AreClean is_clean old → list_any (λ r. same_bytes (holding r.1).site site) old.0 ≡ false)
-      → (is_clean c → holding c ≡ empty_holding site) → Steps is_clean holding old (Open name site) Done (old.0 ++ (name, c) ∷ [], Some (length old.0))
-  open_done c e f g made = record {
+      → (is_clean c → holding c ≡ empty_holding site) → is_clean c → Steps is_clean holding old (Open name site) Done (old.0 ++ (name, c) ∷ [], Some (length old.0))
+  open_done c e f g made clean_new = record {
     was_clean = λ clean. all_front (λ r. is_clean r.1) old.0 ((name, c) ∷ []) clean;
+    stays_clean = λ clean answered. all_append (λ r. is_clean r.1) old.0 ((name, c) ∷ []) clean (clean_new, tt);
     steps = λ clean w s. (
         let before = all_front (λ r. is_clean r.1) old.0 ((name, c) ∷ []) clean in
         let new = new_member name site in (
@@ -120,13 +121,13 @@ module _ {C : Type 0} (is_clean : C → Type 0) (holding : C → Holding) where
   pub opened : (items new : List (Named C)) (in_use : Option ℕ) (at : ℕ) (n : Named C) (name site : List ℕ) → new ≡ items ++ n ∷ [] → n.name ≡ name → at ≡ length items
       → is_free_name name (map pair items, in_use) ≡ true → nat_le 64 (length (map pair items)) ≡ false
       → (AreClean is_clean (map pair items, in_use) → list_any (λ (r : List ℕ × C). same_bytes (holding r.1).site site) (map pair items) ≡ false)
-      → (is_clean n.replica → holding n.replica ≡ empty_holding site)
+      → (is_clean n.replica → holding n.replica ≡ empty_holding site) → is_clean n.replica
       → Steps is_clean holding (map pair items, in_use) (Open name site) Done (map pair new, Some at)
-  opened items new in_use at n name site pushed named place free room other made =
+  opened items new in_use at n name site pushed named place free room other made clean_new =
       let there : map pair new ≡ map pair items ++ (name, n.replica) ∷ [] = ap (map pair) pushed ∙ map_append pair items (n ∷ []) ∙ (λ i. map pair items ++ (named i, n.replica) ∷ []) in
       let last : at ≡ length (map pair items) = place ∙ sym (length-map items pair) in
       subst (λ (f : FleetOf C). Steps is_clean holding (map pair items, in_use) (Open name site) Done f) (sym (λ i. (there i, Some (last i))))
-      (open_done is_clean holding (map pair items, in_use) name site n.replica free room other made)
+      (open_done is_clean holding (map pair items, in_use) name site n.replica free room other made clean_new)
 
   pub not_opened : (items new : List (Named C)) (in_use : Option ℕ) (name site : List ℕ) (r : Refusal) → new ≡ items → IsWant r
       → is_free_name name (map pair items, in_use) ≡ true → nat_le 64 (length (map pair items)) ≡ false

@@ -54,6 +54,11 @@ all_before P [] i x x' a e f = tt
 all_before P (y ∷ ys) zero x x' a e f = (subst P (let q : x ≡ y = cc in q) (f a.0), a.1)
 all_before P (y ∷ ys) (suc i) x x' a e f = (a.0, all_before P ys i x x' a.1 e f)
 
+pub all_after : {X : Type 0} (P : X → Type 0) (xs : List X) (i : ℕ) (x x' : X) → AllByRecursion P xs → slice_get xs i ≡ Some x → (P x → P x') → AllByRecursion P (slice_set xs i x')
+all_after P [] i x x' a e f = tt
+all_after P (y ∷ ys) zero x x' a e f = (f (subst P (let q : y ≡ x = cc in q) a.0), a.1)
+all_after P (y ∷ ys) (suc i) x x' a e f = (a.0, all_after P ys i x x' a.1 e f)
+
 pub some_within : {X : Type 0} (xs : List X) (i : ℕ) → i < length xs → (x : X) × (slice_get xs i ≡ Some x)
 some_within [] i h = absurd (omega (arith, h))
 some_within (y ∷ ys) zero h = (y, refl)

@@ -13,12 +13,18 @@ use Rattle.cr_cells.specs.Commit.{committed}
 use Rattle.cr_cells.specs.Holding.{Holding}
 use Rattle.cr_cells.specs.Tables.{is_named, first_fault, has_folded_names}
 use Rattle.cr_replica.specs.declared.change_row.ChangeRow.{ChangeRow}
+use Rattle.cr_lattice.specs.declared.profile.ProfileFault.{ProfileFault}
+use Rattle.cr_lattice.specs.declared.profile.ProfileFault.TheVariants as profile
 use Rattle.cr_replica.specs.declared.definition.DefineError.{DefineError}
+use Rattle.cr_replica.specs.declared.definition.DefineError.TheVariants as define
 use Rattle.cr_replica.specs.declared.replica.RowsError.{RowsError}
 use Rattle.cr_replica.specs.declared.replica.RowsError.TheVariants as rows
 use Rattle.cr_replica.specs.declared.replica.TakeError.{TakeError}
 use Rattle.cr_replica.specs.declared.replica.TakeError.TheVariants as take
 use Rattle.cr_replica.specs.ChangeRow.{change_of}
+use Rattle.cr_replica.specs.Definition as definitions
+use Rattle.cr_replica.specs.Taking as takings
+use Rattle.cr_replica.specs.Showing as showings
 use Rattle.cr_replica.specs.Definition.{DefinesTable, IsAccepted, IsRefusedFor, defined}
 use Rattle.cr_replica.specs.Showing.{Shows as ShowsRows}
 use Rattle.cr_replica.specs.Taking.{Stands, Takes as TakesAll, IsNotTaken}
@@ -32,11 +38,48 @@ use Rattle.cr_session.specs.declared.fleet.Named.{Named}
 use Rattle.cr_session.specs.declared.refusal.OutOfProfile.TheVariants as out
 use Rattle.cr_session.specs.declared.refusal.Refusal.{Refusal}
 use Rattle.cr_session.specs.declared.refusal.Refusal.TheVariants.{OutOfProfile, BadChange, Store, Memory, NoReplica}
-use Rattle.cr_session.specs.Refusals.{of_definition, of_taking, of_rows}
+use Rattle.cr_session.specs.Refusals.{is_want, of_profile, of_definition, of_taking, of_rows}
 use Rattle.cr_session.specs.World.{World, Member, Keeps, changed_at, changed_in_use, with_used, used, place_of, item_at, defining, taking, after}
-use Rattle.cr_session.specs.Answers.{Answers, Uses, OfUsed, Takes, Shows as ShowsTable}
+use Rattle.cr_session.specs.Answers.{Answers, tells_want, Uses, OfUsed, Takes, Shows as ShowsTable, has_collation}
 use Rattle.cr_session.specs.Fleets.{FleetOf, AreClean, Shows, Steps, seen, name_and_holding, place_in}
-use Rattle.cr_session.proofs.Places.{some_within, pair, map_set, position_map, same_at, none_at, set_at, stays_at, keeps_set, all_at, all_set, all_before}
+use Rattle.cr_session.proofs.Places.{some_within, pair, map_set, position_map, same_at, none_at, set_at, stays_at, keeps_set, all_at, all_set, all_before, all_after}
+
+-- ---- who tells of want
+
+want_of_profile : (def : TableDef) (f : ProfileFault) → is_want (of_profile def f) ≡ false
+want_of_profile def profile.PrimaryKey = refl
+want_of_profile def profile.Collation = refl
+want_of_profile def profile.RowCid = refl
+want_of_profile def profile.Default = refl
+want_of_profile def profile.Columns = refl
+want_of_profile def profile.KeyColumns = refl
+want_of_profile def profile.Name = refl
+
+want_of_definition : (def : TableDef) (e : DefineError) → is_want (of_definition def e) ≡ definitions.is_want e
+want_of_definition def define.Memory = refl
+want_of_definition def (define.Store f) = refl
+want_of_definition def (define.Profile f) = want_of_profile def f
+want_of_definition def define.TableExists = refl
+want_of_definition def (define.Duplicate i) = refl
+want_of_definition def (define.NoSuchCollation i) = refl
+want_of_definition def (define.NoDefault i) = refl
+
+pub want_of_taking : (e : TakeError) → is_want (of_taking e) ≡ takings.is_want e
+want_of_taking take.Memory = refl
+want_of_taking (take.Store f) = refl
+want_of_taking (take.Bad b) = refl
+want_of_taking take.VersionLimit = refl
+want_of_taking take.SameSite = refl
+
+want_of_rows : (name : List ℕ) (e : RowsError) → is_want (of_rows name e) ≡ showings.is_want e
+want_of_rows name rows.Memory = refl
+want_of_rows name (rows.Store f) = refl
+want_of_rows name rows.NoSuchTable = refl
+
+-- where no want is told there is none
+unwanted : (told cause : Refusal) (b : Bool) → ((told ≡ Memory) ⊎ (told ≡ cause)) → is_want cause ≡ b → is_want told ≡ false → b ≡ false
+unwanted told cause b (inl e) w n = absurd (let q : true ≡ false = sym (ap is_want e) ∙ n in cc)
+unwanted told cause b (inr e) w n = sym w ∙ sym (ap is_want e) ∙ n
 
 module _ {C : Type 0} (is_clean : C → Type 0) (holding : C → Holding) where
   -- ---- who is meant
@@ -61,6 +104,7 @@ module _ {C : Type 0} (is_clean : C → Type 0) (holding : C → Holding) where
   pub same_steps : (old : FleetOf C) (command : Command) (reply : FleetReply) → (AreClean is_clean old → (w : World) → Shows holding w old → Answers w command reply) → ((w : World) → after w command reply ≡ w) → Steps is_clean holding old command reply old
   same_steps old command reply answers stays = record {
     was_clean = λ clean. clean;
+    stays_clean = λ clean answered. clean;
     steps = λ clean w s. (answers clean w s, subst (λ (v : World). Shows holding v old) (sym (stays w)) s);
   }
 
@@ -72,6 +116,9 @@ module _ {C : Type 0} (is_clean : C → Type 0) (holding : C → Holding) where
 
     pub clean_before : AreClean is_clean new → AreClean is_clean old
     clean_before clean = all_before (λ x. is_clean x.1) old.0 i r r' clean at cleans
+
+    pub clean_after : AreClean is_clean old → (is_clean r.1 → is_clean r'.1) → AreClean is_clean new
+    clean_after clean = all_after (λ x. is_clean x.1) old.0 i r r' clean at
 
     clean_called : AreClean is_clean new → is_clean r'.1
     clean_called clean = all_set (λ x. is_clean x.1) old.0 i r r' clean at
@@ -85,12 +132,13 @@ module _ {C : Type 0} (is_clean : C → Type 0) (holding : C → Holding) where
         (m, is_used, found.1, ap (λ (x : List ℕ × Holding). x.0) found.2, ap (λ (x : List ℕ × Holding). x.1) found.2, all_at Keeps w.members i m s.keep found.1)
 
     -- it is left as it was
-    pub stays_steps : (command : Command) (reply : FleetReply) → (is_clean r'.1 → seen holding r' ≡ seen holding r)
+    pub stays_steps : (command : Command) (reply : FleetReply) → (is_clean r.1 → tells_want reply ≡ false → is_clean r'.1) → (is_clean r'.1 → seen holding r' ≡ seen holding r)
         → ((w : World) → after w command reply ≡ w)
         → (AreClean is_clean new → is_clean r'.1 → (w : World) (m : Member) → Shows holding w old → used w ≡ Some m → m.holding ≡ holding r.1 → Answers w command reply)
         → Steps is_clean holding old command reply new
-    stays_steps command reply same stays answers = record {
+    stays_steps command reply lasts same stays answers = record {
       was_clean = clean_before;
+      stays_clean = λ clean answered. clean_after clean (λ before. lasts before answered);
       steps = λ clean w s. (
           let m = in_use w s in (
             answers clean (clean_called clean) w m.0 s m.1 m.4,
@@ -106,13 +154,14 @@ module _ {C : Type 0} (is_clean : C → Type 0) (holding : C → Holding) where
     used_is f w s = ap (λ (o : Option ℕ). record w { members = changed_in_use o f w.members }) (s.in_use ∙ place)
 
     -- it changes
-    pub used_steps : (command : Command) (reply : FleetReply) (f : World → Member → Member)
+    pub used_steps : (command : Command) (reply : FleetReply) → (is_clean r.1 → tells_want reply ≡ false → is_clean r'.1) → (f : World → Member → Member)
         → ((w : World) → after w command reply ≡ with_used w (f w))
         → (AreClean is_clean new → is_clean r'.1 → (w : World) (m : Member) → Shows holding w old → used w ≡ Some m → m.holding ≡ holding r.1 → m.name ≡ r.0 → Keeps m
         → Answers w command reply × (name_and_holding (f w m) ≡ seen holding r') × Keeps (f w m))
         → Steps is_clean holding old command reply new
-    used_steps command reply f changes called = record {
+    used_steps command reply lasts f changes called = record {
       was_clean = clean_before;
+      stays_clean = λ clean answered. clean_after clean (λ before. lasts before answered);
       steps = λ clean w s. (
           let m = in_use w s in
           let told = called clean (clean_called clean) w m.0 s m.1 m.4 m.3 m.5 in (
@@ -130,6 +179,7 @@ module _ {C : Type 0} (is_clean : C → Type 0) (holding : C → Holding) where
   pub use_step : (old : FleetOf C) (name : List ℕ) (at : ℕ) → position (λ r. same_bytes r.0 name) old.0 ≡ Some at → Steps is_clean holding old (Use name) Done (old.0, Some at)
   use_step old name at e = record {
     was_clean = λ clean. clean;
+    stays_clean = λ clean answered. clean;
     steps = λ clean w s. (
         let there : place_of w name ≡ Some at = place_same w old name s ∙ e in
         (subst (λ (o : Option ℕ). Uses o Done) (sym there) refl, record { members = s.members; in_use = there; keep = s.keep }));
@@ -164,23 +214,23 @@ module _ {C : Type 0} (is_clean : C → Type 0) (holding : C → Holding) where
   module _ (old : FleetOf C) (i : ℕ) (r r' : List ℕ × C) (place : old.1 ≡ Some i) (at : slice_get old.0 i ≡ Some r) (name : r'.0 ≡ r.0) (cleans : is_clean r'.1 → is_clean r.1) where
     -- definitions
 
-    pub define_real : seen holding r' ≡ seen holding r → Steps is_clean holding old (Define Real) (Refused (OutOfProfile out.Real)) (slice_set old.0 i r', old.1)
-    define_real same = stays_steps old i r r' place at cleans (Define Real) _ (λ clean. same) (λ w. refl) (λ all clean w m s u h. of_used w m _ _ u refl)
+    pub define_real : (is_clean r.1 → is_clean r'.1) → seen holding r' ≡ seen holding r → Steps is_clean holding old (Define Real) (Refused (OutOfProfile out.Real)) (slice_set old.0 i r', old.1)
+    define_real lasts same = stays_steps old i r r' place at cleans (Define Real) _ (λ clean answered. lasts clean) (λ clean. same) (λ w. refl) (λ all clean w m s u h. of_used w m _ _ u refl)
 
     module _ (def : TableDef) (ready : has_folded_names def ≡ true) where
-      pub define_ok : (is_clean r'.1 → DefinesTable (holding r.1) (holding r'.1) def (Ok tt)) → Steps is_clean holding old (Define (Table def)) Done (slice_set old.0 i r', old.1)
-      define_ok defines = used_steps old i r r' place at cleans (Define (Table def)) Done (λ w. defining def) (λ w. refl) (λ all clean w m s u h n k. (
-        of_used w m Done _ u (subst (λ (x : Holding). IsAccepted x.tables def) (sym h) (defines clean).0),
+      pub define_ok : (is_clean r.1 → is_clean r'.1) → (is_clean r'.1 → DefinesTable has_collation (holding r.1) (holding r'.1) def (Ok tt)) → Steps is_clean holding old (Define (Table def)) Done (slice_set old.0 i r', old.1)
+      define_ok lasts defines = used_steps old i r r' place at cleans (Define (Table def)) Done (λ clean answered. lasts clean) (λ w. defining def) (λ w. refl) (λ all clean w m s u h n k. (
+        of_used w m Done _ u (subst (λ (x : Holding). IsAccepted has_collation x.tables def) (sym h) (defines clean).0),
         (λ j. ((n ∙ sym name) j, (ap (λ (x : Holding). defined x def) h ∙ sym (defines clean).1) j)),
         k,
       ))
 
-      pub define_err : (e : DefineError) (t : Refusal) → (is_clean r'.1 → DefinesTable (holding r.1) (holding r'.1) def (Err e)) → ((t ≡ Memory) ⊎ (t ≡ of_definition def e))
+      pub define_err : (e : DefineError) (t : Refusal) → (is_clean r.1 → definitions.is_want e ≡ false → is_clean r'.1) → (is_clean r'.1 → DefinesTable has_collation (holding r.1) (holding r'.1) def (Err e)) → ((t ≡ Memory) ⊎ (t ≡ of_definition def e))
           → Steps is_clean holding old (Define (Table def)) (Refused t) (slice_set old.0 i r', old.1)
-      define_err e t defines told = stays_steps old i r r' place at cleans (Define (Table def)) (Refused t) (λ clean j. (name j, (defines clean).1 j)) (λ w. refl) (λ all clean w m s u h. of_used w m _ _ u (
+      define_err e t lasts defines told = stays_steps old i r r' place at cleans (Define (Table def)) (Refused t) (λ clean answered. lasts clean (unwanted t (of_definition def e) (definitions.is_want e) told (want_of_definition def e) answered)) (λ clean j. (name j, (defines clean).1 j)) (λ w. refl) (λ all clean w m s u h. of_used w m _ _ u (
           elim told [
             | inl x ↦ inl (inl x)
-            | inr x ↦ inr (e, subst (λ (y : Holding). IsRefusedFor y.tables def e) (sym h) (defines clean).0, x)
+            | inr x ↦ inr (e, subst (λ (y : Holding). IsRefusedFor has_collation y.tables def e) (sym h) (defines clean).0, x)
           ]))
 
     -- takings
@@ -191,16 +241,16 @@ module _ {C : Type 0} (is_clean : C → Type 0) (holding : C → Holding) where
       takes_memory m (Some c) = (take.Memory, tt, refl)
 
       pub take_memory : seen holding r' ≡ seen holding r → Steps is_clean holding old (Take row) (Refused Memory) (slice_set old.0 i r', old.1)
-      take_memory same = stays_steps old i r r' place at cleans (Take row) (Refused Memory) (λ clean. same) (λ w. refl) (λ all clean w m s u h. of_used w m _ _ u (takes_memory m (change_of row)))
+      take_memory same = stays_steps old i r r' place at cleans (Take row) (Refused Memory) (λ clean answered. absurd cc) (λ clean. same) (λ w. refl) (λ all clean w m s u h. of_used w m _ _ u (takes_memory m (change_of row)))
 
-      pub take_shape : change_of row ≡ None → seen holding r' ≡ seen holding r → Steps is_clean holding old (Take row) (Refused (BadChange Shape)) (slice_set old.0 i r', old.1)
-      take_shape e same = stays_steps old i r r' place at cleans (Take row) (Refused (BadChange Shape)) (λ clean. same) (λ w. refl) (λ all clean w m s u h. of_used w m _ _ u (
+      pub take_shape : (is_clean r.1 → is_clean r'.1) → change_of row ≡ None → seen holding r' ≡ seen holding r → Steps is_clean holding old (Take row) (Refused (BadChange Shape)) (slice_set old.0 i r', old.1)
+      take_shape lasts e same = stays_steps old i r r' place at cleans (Take row) (Refused (BadChange Shape)) (λ clean answered. lasts clean) (λ clean. same) (λ w. refl) (λ all clean w m s u h. of_used w m _ _ u (
           subst (λ (o : Option Change). Takes m o (Refused (BadChange Shape))) (sym e) (inr refl)))
 
       module _ (c : Change) (row_is : change_of row ≡ Some c) where
-        pub take_ok : (is_clean r'.1 → TakesAll (holding r.1) (holding r'.1) (c ∷ []) (Ok tt)) → (is_clean r'.1 → (held : List Change) → Stands held (holding r.1) → Stands (held ++ c ∷ []) (holding r'.1))
+        pub take_ok : (is_clean r.1 → is_clean r'.1) → (is_clean r'.1 → TakesAll (holding r.1) (holding r'.1) (c ∷ []) (Ok tt)) → (is_clean r'.1 → (held : List Change) → Stands held (holding r.1) → Stands (held ++ c ∷ []) (holding r'.1))
             → Steps is_clean holding old (Take row) Done (slice_set old.0 i r', old.1)
-        take_ok takes joins = used_steps old i r r' place at cleans (Take row) Done (λ w. taking (Some c)) (λ w. ap (λ (o : Option Change). with_used w (taking o)) row_is) (λ all clean w m s u h n k. (
+        take_ok lasts takes joins = used_steps old i r r' place at cleans (Take row) Done (λ clean answered. lasts clean) (λ w. taking (Some c)) (λ w. ap (λ (o : Option Change). with_used w (taking o)) row_is) (λ all clean w m s u h n k. (
             let is : committed m.holding (c ∷ []) None ≡ holding r'.1 = ap (λ (x : Holding). committed x (c ∷ []) None) h ∙ sym (takes clean).2 in (
               of_used w m Done _ u (subst (λ (o : Option Change). Takes m o Done) (sym row_is)
                   (subst (λ (x : Holding). (first_fault x.tables (c ∷ []) ≡ None) × (is_past_limit x (c ∷ []) ≡ false)) (sym h) ((takes clean).0, (takes clean).1))),
@@ -208,8 +258,8 @@ module _ {C : Type 0} (is_clean : C → Type 0) (holding : C → Holding) where
               subst (Stands (m.held ++ c ∷ [])) (sym is) (joins clean m.held (subst (Stands m.held) h k)),
             )))
 
-        pub take_err : (e : TakeError) → (is_clean r'.1 → TakesAll (holding r.1) (holding r'.1) (c ∷ []) (Err e)) → Steps is_clean holding old (Take row) (Refused (of_taking e)) (slice_set old.0 i r', old.1)
-        take_err e takes = stays_steps old i r r' place at cleans (Take row) (Refused (of_taking e)) (λ clean j. (name j, (takes clean).0 j)) (λ w. refl) (λ all clean w m s u h. of_used w m _ _ u (
+        pub take_err : (e : TakeError) → (is_clean r.1 → takings.is_want e ≡ false → is_clean r'.1) → (is_clean r'.1 → TakesAll (holding r.1) (holding r'.1) (c ∷ []) (Err e)) → Steps is_clean holding old (Take row) (Refused (of_taking e)) (slice_set old.0 i r', old.1)
+        take_err e lasts takes = stays_steps old i r r' place at cleans (Take row) (Refused (of_taking e)) (λ clean answered. lasts clean (sym (want_of_taking e) ∙ answered)) (λ clean j. (name j, (takes clean).0 j)) (λ w. refl) (λ all clean w m s u h. of_used w m _ _ u (
             subst (λ (o : Option Change). Takes m o (Refused (of_taking e))) (sym row_is) (e, subst (λ (x : Holding). IsNotTaken x (c ∷ []) e) (sym h) (takes clean).1, refl)))
 
     -- rows
@@ -232,13 +282,13 @@ module _ {C : Type 0} (is_clean : C → Type 0) (holding : C → Holding) where
       here : (m : Member) (result : Result (List (List Value)) RowsError) → m.holding ≡ holding r.1 → ShowsRows (holding r.1) (find (is_named table) (holding r.1).tables) result → ShowsRows m.holding (find (is_named table) m.holding.tables) result
       here m result h = subst (λ (x : Holding). ShowsRows x (find (is_named table) x.tables) result) (sym h)
 
-      pub rows_ok : (rs : List (List Value)) → (is_clean r'.1 → ShowsRows (holding r.1) (find (is_named table) (holding r.1).tables) (Ok rs)) → Steps is_clean holding old (Rows table) (Shown rs) (slice_set old.0 i r', old.1)
-      rows_ok rs shows = stays_steps old i r r' place at cleans (Rows table) (Shown rs) (λ clean j. (name j, same clean j)) (λ w. refl) (λ all clean w m s u h. of_used w m _ _ u (
+      pub rows_ok : (rs : List (List Value)) → (is_clean r.1 → is_clean r'.1) → (is_clean r'.1 → ShowsRows (holding r.1) (find (is_named table) (holding r.1).tables) (Ok rs)) → Steps is_clean holding old (Rows table) (Shown rs) (slice_set old.0 i r', old.1)
+      rows_ok rs lasts shows = stays_steps old i r r' place at cleans (Rows table) (Shown rs) (λ clean answered. lasts clean) (λ clean j. (name j, same clean j)) (λ w. refl) (λ all clean w m s u h. of_used w m _ _ u (
           shown m (find (is_named table) m.holding.tables) rs (here m (Ok rs) h (shows clean))))
 
-      pub rows_err : (e : RowsError) (x : Refusal) → (is_clean r'.1 → ShowsRows (holding r.1) (find (is_named table) (holding r.1).tables) (Err e)) → ((x ≡ Memory) ⊎ (x ≡ of_rows table e))
+      pub rows_err : (e : RowsError) (x : Refusal) → (is_clean r.1 → showings.is_want e ≡ false → is_clean r'.1) → (is_clean r'.1 → ShowsRows (holding r.1) (find (is_named table) (holding r.1).tables) (Err e)) → ((x ≡ Memory) ⊎ (x ≡ of_rows table e))
           → Steps is_clean holding old (Rows table) (Refused x) (slice_set old.0 i r', old.1)
-      rows_err e x shows told = stays_steps old i r r' place at cleans (Rows table) (Refused x) (λ clean j. (name j, same clean j)) (λ w. refl) (λ all clean w m s u h. of_used w m _ _ u (
+      rows_err e x lasts shows told = stays_steps old i r r' place at cleans (Rows table) (Refused x) (λ clean answered. lasts clean (unwanted x (of_rows table e) (showings.is_want e) told (want_of_rows table e) answered)) (λ clean j. (name j, same clean j)) (λ w. refl) (λ all clean w m s u h. of_used w m _ _ u (
           not_shown m (find (is_named table) m.holding.tables) e x (here m (Err e) h (shows clean)) told))
 
   -- ---- the stores of a fleet, by their names

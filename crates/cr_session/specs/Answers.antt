@@ -1,7 +1,7 @@
 -- Which reply a command may have in a world. Want of memory, or a store that refuses, may be the reply of every command
 -- that needs them; else the reply is the one that is said here. Source: this project's own.
 use Rattle.std.specs.Prelude.{◌≡◌, ◌≢◌, ◌⊎◌, ℕ, Bool, true, false, not, ◌&&◌, ◌||◌, nat_le, nat_lt, List, [], ◌∷◌, length, find, Option, Some, None, is_some, if◌then◌else◌}
-use Rattle.std.specs.List.{list_any, list_all}
+use Rattle.std.specs.List.{list_any, list_all, AllByRecursion}
 use Rattle.std.specs.Char.{is_ascii_alphanumeric}
 use Rattle.cr_lattice.specs.declared.change.Change.{Change}
 use Rattle.cr_lattice.specs.declared.check.BadChange.TheVariants.{Shape}
@@ -13,6 +13,8 @@ use Rattle.cr_cells.specs.Tables.{is_named, first_fault, has_folded_names}
 use Rattle.cr_cells.specs.Calls.{is_past_limit}
 use Rattle.cr_replica.specs.declared.definition.DefineError.{DefineError}
 use Rattle.cr_replica.specs.declared.replica.TakeError.{TakeError}
+use Rattle.cr_host.specs.Orders.{built_in_only}
+use Rattle.cr_host.specs.Registry.{order_for}
 use Rattle.cr_replica.specs.ChangeRow.{change_of}
 use Rattle.cr_replica.specs.Definition.{IsAccepted, IsRefusedFor}
 use Rattle.cr_replica.specs.Taking.{IsNotTaken, IsNotPulled, changes_of_peer}
@@ -26,7 +28,7 @@ use Rattle.cr_session.specs.declared.refusal.Refusal.{Refusal}
 use Rattle.cr_session.specs.declared.refusal.Refusal.TheVariants as refusal
 use Rattle.cr_session.specs.declared.refusal.OutOfProfile.TheVariants as out
 use Rattle.cr_session.specs.declared.refusal.Limit.TheVariants as limit
-use Rattle.cr_session.specs.Refusals.{has_name, of_definition, of_taking}
+use Rattle.cr_session.specs.Refusals.{has_name, is_want, of_definition, of_taking}
 use Rattle.cr_session.specs.World.{World, Member, place_of, named, used}
 
 -- ---- a new replica
@@ -50,6 +52,16 @@ opening_refusal w name site =
 abbrev pub IsWant : Refusal → Type 0
 IsWant r = (r ≡ refusal.Memory) ⊎ (r ≡ refusal.Store store.Refused)
 
+-- the reply tells that memory or the store does not suffice
+abbrev pub tells_want : FleetReply → Bool
+tells_want Done = false
+tells_want (Shown rows) = false
+tells_want (Refused r) = is_want r
+
+-- no reply does
+abbrev pub AreAnswered : List FleetReply → Type 0
+AreAnswered replies = AllByRecursion (λ r. tells_want r ≡ false) replies
+
 -- what may be told in place of the first cause: of a cause with a name that there is no memory for the name, of another
 -- nothing, and where there is no cause that memory or the store does not suffice
 abbrev pub IsWantFor : Option Refusal → Refusal → Type 0
@@ -68,10 +80,14 @@ Uses (Some i) reply = reply ≡ Done
 
 -- ---- the replica in use
 
+-- a collation of the engine's own: a fleet has no others
+abbrev pub has_collation : List ℕ → Bool
+has_collation name = is_some (order_for built_in_only name [])
+
 abbrev pub Defines : Member → TableDef → FleetReply → Type 0
-Defines m def Done = IsAccepted m.holding.tables def
+Defines m def Done = IsAccepted has_collation m.holding.tables def
 Defines m def (Shown rows) = ⊥
-Defines m def (Refused r) = IsWant r ⊎ ((e : DefineError) × IsRefusedFor m.holding.tables def e × (r ≡ of_definition def e))
+Defines m def (Refused r) = IsWant r ⊎ ((e : DefineError) × IsRefusedFor has_collation m.holding.tables def e × (r ≡ of_definition def e))
 
 -- a row without the shape of a change is none
 abbrev pub Takes : Member → Option Change → FleetReply → Type 0

@@ -90,6 +90,24 @@ has_name NoReplica = false
 has_name SameSite = false
 has_name Command = false
 
+-- memory or the store does not suffice
+abbrev pub is_want : Refusal → Bool
+is_want Memory = true
+is_want (Store f) = true
+is_want (NoSuchTable name) = false
+is_want (AmbiguousColumn name) = false
+is_want (NoSuchCollation name) = false
+is_want (TableExists name) = false
+is_want (NoDefault name) = false
+is_want (BadName name) = false
+is_want (OutOfProfile what) = false
+is_want VersionLimit = false
+is_want (BadChange b) = false
+is_want (Limit which) = false
+is_want NoReplica = false
+is_want SameSite = false
+is_want Command = false
+
 -- ---- how a refusal is printed
 
 -- SQLite's NOMEM, IOERR, FULL and MISMATCH, and ERROR for all others

@@ -1,14 +1,13 @@
 -- Runs of a fleet, and what holds over each. Source: this project's own.
-use Rattle.std.specs.Prelude.{◌≡◌, ℕ, List, [], ◌∷◌, find, take, Option, Some, None, slice_get}
+use Rattle.std.specs.Prelude.{◌≡◌, ℕ, false, List, [], ◌∷◌, find, take, Option, Some, None, slice_get}
 use Rattle.cr_lattice.specs.declared.table.Table.{Table}
 use Rattle.cr_lattice.specs.Keep.{SameMembers}
 use Rattle.cr_cells.specs.Tables.{is_named}
 use Rattle.cr_session.specs.declared.command.Command.{Command}
 use Rattle.cr_session.specs.declared.command.Command.TheVariants.{Rows}
 use Rattle.cr_session.specs.declared.command.FleetReply.{FleetReply}
-use Rattle.cr_session.specs.declared.command.FleetReply.TheVariants.{Rows as Shown}
 use Rattle.cr_session.specs.World.{World, Member, AllKeep, used, after}
-use Rattle.cr_session.specs.Answers.{Answers}
+use Rattle.cr_session.specs.Answers.{Answers, tells_want}
 
 -- Each reply is one for the world that the commands before it leave. In each of these worlds every replica keeps what all
 -- that it ever held keeps.
@@ -41,13 +40,14 @@ HeldTheSame (Some m) (Some n) = SameMembers m.held n.held
 HeldTheSame (Some m) None = ⊥
 HeldTheSame None n = ⊥
 
--- where both replies show rows, the rows are the same
+-- the replies show the same rows or tell the same refusal, unless one of them tells of want
 abbrev pub ShowTheSame : Option FleetReply → Option FleetReply → Type 0
-ShowTheSame (Some (Shown a)) (Some (Shown b)) = a ≡ b
-ShowTheSame r s = Unit {0}
+ShowTheSame (Some r) (Some s) = tells_want r ≡ false → tells_want s ≡ false → r ≡ s
+ShowTheSame None s = Unit {0}
+ShowTheSame (Some r) None = Unit {0}
 
 -- Wherever in a run a replica shows a table's rows, and wherever a replica that held the same changes shows a table of the
--- same definition, they show the same rows.
+-- same definition, they show the same rows or tell the same refusal.
 abbrev pub Converges : World → List Command → List FleetReply → Type 0
 Converges w commands replies = (p q : ℕ) (name : List ℕ)
     → slice_get commands p ≡ Some (Rows name) → slice_get commands q ≡ Some (Rows name)

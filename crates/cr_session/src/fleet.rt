@@ -9,7 +9,9 @@ ghost use Rattle.cr_session.specs.Fleets.{reply_of};
 
 use crate::command::{Command, Declaration, FleetReply};
 use crate::refusal::{Limit, OutOfProfile, Refusal, of_definition, of_rows};
+use crate::taking::{take, take_offer};
 use cr_cells::store::{CellsError, NewCells};
+use cr_host::functions::BuiltIns;
 use cr_lattice::change::Site;
 use cr_lattice::check::BadChange;
 use cr_lattice::table::TableDef;
@@ -95,10 +97,10 @@ impl<C: NewCells> Fleet<C> {
     ghost use Rattle.std.specs.Prelude.{[], None, map};
     ghost use Rattle.cr_session.specs.declared.command.Command.TheVariants.{Open, Use, Define, Take, Rows, Pull};
     ghost use Rattle.cr_session.specs.declared.command.Declaration.TheVariants.{Table};
-    ghost use Rattle.cr_session.specs.Fleets.{Steps, Offers, AreClean, Shows, is_free_name};
+    ghost use Rattle.cr_session.specs.Fleets.{Steps, Offers, AreClean, IsUnharmed, Shows, is_free_name};
     ghost use Rattle.cr_session.specs.World.{World};
     ghost use Rattle.cr_session.specs.Run.{Run, world_after, Converges};
-    ghost use Rattle.cr_session.specs.Answers.{IsReady};
+    ghost use Rattle.cr_session.specs.Answers.{IsReady, AreAnswered};
 
     /// A fleet without replicas.
     pub fn new(alloc: Global) -> Fleet<C>
@@ -171,7 +173,7 @@ impl<C: NewCells> Fleet<C> {
         let Declaration::Table(def) = declaration else {
             return Err(Refusal::OutOfProfile(OutOfProfile::Real));
         };
-        match named.replica.define(alloc, def) {
+        match named.replica.define(alloc, &BuiltIns, def) {
             Ok(()) => Ok(()),
             Err(error) => Err(of_definition(alloc, def, error)),
         }
@@ -189,7 +191,7 @@ impl<C: NewCells> Fleet<C> {
             Ok(None) => return Err(Refusal::BadChange(BadChange::Shape)),
             Err(AllocError) => return Err(Refusal::Memory),
         };
-        match named.replica.take(alloc, &[change]) {
+        match take(alloc, &mut named.replica, &[change]) {
             Ok(()) => Ok(()),
             Err(error) => Err(Refusal::from(error)),
         }
@@ -240,7 +242,7 @@ impl<C: NewCells> Fleet<C> {
         let Some(named) = self.replicas.get_mut(at) else {
             return Err(Refusal::NoReplica);
         };
-        match named.replica.take_offer(alloc, &offer) {
+        match take_offer(alloc, &mut named.replica, &offer) {
             Ok(()) => Ok(()),
             Err(error) => Err(Refusal::from(error)),
         }
@@ -272,9 +274,10 @@ impl<C: NewCells> Fleet<C> {
     ) -> Result<Vec<FleetReply>, AllocError>
         requires { AllByRecursion IsReady commands.now }
         ensures was_clean { AreClean C.is_clean self.new → AreClean C.is_clean self.old }
-        ensures runs { IfOk result (λ replies. AreClean C.is_clean self.new → (w : World) → Shows C.holding w self.old
+        ensures stays_clean { IfOk result (λ replies. AreClean C.is_clean self.old → AreAnswered replies.items → AreClean C.is_clean self.new) }
+        ensures runs { IfOk result (λ replies. IsUnharmed C.is_clean self.old replies.items self.new → (w : World) → Shows C.holding w self.old
             → Run w commands.now replies.items × Shows C.holding (world_after w commands.now replies.items) self.new) }
-        ensures converges { IfOk result (λ replies. AreClean C.is_clean self.new → (w : World) → Shows C.holding w self.old
+        ensures converges { IfOk result (λ replies. IsUnharmed C.is_clean self.old replies.items self.new → (w : World) → Shows C.holding w self.old
             → Converges w commands.now replies.items) }
         ensures refused { OnErr result (self.new ≡ self.old) }
     {

@@ -1,8 +1,8 @@
-use Rattle.std.proofs.Common.{◌≡◌, ℕ, List, [], ◌++◌, Option, Some, None, refl, sym, ap, ◌∙◌, append_assoc, take, drop, append-nil, length, ◌-◌, ◌+◌, ◌≤◌, arith, subst, length-drop, length-append}
+use Rattle.std.proofs.Common.{◌≡◌, ◌≢◌, ◌<◌, ℕ, List, [], ◌++◌, Option, Some, None, refl, sym, ap, ◌∙◌, append_assoc, take, drop, append-nil, length, ◌-◌, ◌+◌, ◌≤◌, arith, subst, length-drop, length-append}
 use Rattle.std.proofs.lemmas.List.{take_all, take-append-drop, length-take}
 use Rattle.std.proofs.Math.Seq.{take-add}
 use Rattle.std.specs.Io.KnownBytes.{Appends, Consumes, Keeps}
-use Rattle.cr_shell.specs.Printing.{AppendsFront}
+use Rattle.cr_shell.specs.Printing.{AppendsPart}
 
 pub appends_none : (a : Option (List ℕ)) → Appends a a []
 appends_none None = tt
@@ -46,24 +46,11 @@ appends_next a b c at n xs p q =
     subst (Appends a c) (sym (take-add at n xs)) (appends_more a b c (take at xs) (take n (drop at xs)) p (subst (λ (l : List ℕ). Appends b c (take n l)) (rest_from at xs) q))
 
 -- no more is
-pub front_of : (a b c : Option (List ℕ)) (at : ℕ) (xs : List ℕ) → Appends a b (take at xs) → Keeps b c → AppendsFront a c xs
-front_of a b c at xs p q = (take at xs, drop at xs, sym (take-append-drop at xs), appends_kept a b c (take at xs) p q)
+some_left : (at : ℕ) (xs : List ℕ) → at < length xs → drop at xs ≢ []
+some_left at xs h = λ e. (let n : length (drop at xs) ≡ 0 = ap length e in omega (arith, h, n, length-drop at xs))
 
-pub front_next : (a b c : Option (List ℕ)) (at : ℕ) (xs : List ℕ) → Appends a b (take at xs) → Appends b c [] → AppendsFront a c xs
-front_next a b c at xs p q = (take at xs, drop at xs, sym (take-append-drop at xs), subst (Appends a c) (append-nil (take at xs)) (appends_more a b c (take at xs) [] p q))
+pub part_of : (a b c : Option (List ℕ)) (at : ℕ) (xs : List ℕ) → at < length xs → Appends a b (take at xs) → Keeps b c → AppendsPart a c xs
+part_of a b c at xs h p q = (take at xs, drop at xs, sym (take-append-drop at xs), some_left at xs h, appends_kept a b c (take at xs) p q)
 
-module _ (a b c x y z : Option (List ℕ)) (n k : ℕ) (buf piece : List ℕ) (same : piece ≡ take n buf) (short : length buf ≡ 100)
-    (done : (input : List ℕ) × Consumes a b input × Appends x y input × (length input ≤ k)) (more : Consumes b c (take n buf)) where
-  next_length : length (done.0 ++ take n buf) ≤ k + 100
-  next_length = let l = done.3 in omega (arith, length-append done.0 (take n buf), length-take n buf)
-
-  pub next_done : Appends y z piece → (input : List ℕ) × Consumes a c input × Appends x z input × (length input ≤ k + 100)
-  next_done w = (done.0 ++ take n buf, consumes_more a b c done.0 (take n buf) done.1 more, appends_more x y z done.0 (take n buf) done.2 (subst (Appends y z) same w), next_length)
-
-  pub next_front : AppendsFront y z piece → (input : List ℕ) × Consumes a c input × AppendsFront x z input × (length input ≤ k + 100)
-  next_front w = (
-    done.0 ++ take n buf,
-    consumes_more a b c done.0 (take n buf) done.1 more,
-    (done.0 ++ w.0, w.1, ap (λ l. done.0 ++ l) (sym same ∙ w.2) ∙ sym (append_assoc done.0 w.0 w.1), appends_more x y z done.0 w.0 done.2 w.3),
-    next_length,
-  )
+pub part_next : (a b c : Option (List ℕ)) (at : ℕ) (xs : List ℕ) → at < length xs → Appends a b (take at xs) → Appends b c [] → AppendsPart a c xs
+part_next a b c at xs h p q = (take at xs, drop at xs, sym (take-append-drop at xs), some_left at xs h, subst (Appends a c) (append-nil (take at xs)) (appends_more a b c (take at xs) [] p q))

@@ -1,5 +1,5 @@
 -- What a watched writer wrote, piece by piece.
-use Rattle.std.proofs.Common.{◌≡◌, ◌∙◌, refl, sym, ap, subst, ℕ, Bool, true, false, List, [], ◌∷◌, ◌++◌, ◌==◌, append_assoc, append-nil, take, slice_index, ◌+◌, ◌/◌, ◌%◌, Option}
+use Rattle.std.proofs.Common.{◌≡◌, ◌≢◌, ◌∙◌, refl, sym, ap, subst, ℕ, Bool, true, false, List, [], ◌∷◌, ◌++◌, ◌==◌, append_assoc, append-nil, take, slice_index, ◌+◌, ◌/◌, ◌%◌, Option}
 use Rattle.std.proofs.lemmas.Bool.{ne_eqb}
 use Rattle.std.proofs.lemmas.Grind.{flat_map-append}
 use Rattle.std.specs.List.{flat_map}
@@ -7,37 +7,35 @@ use Rattle.std.specs.Io.KnownBytes.{Appends}
 use Rattle.hex.specs.Hex.{encode_with, encode_upper, upper_digits}
 use Rattle.cr_value.specs.declared.value.Value.{Value}
 use Rattle.cr_value.specs.Literal.{literal, doubled}
-use Rattle.cr_shell.specs.Printing.{AppendsFront, Prints, behind_bars, row_line}
+use Rattle.cr_shell.specs.Printing.{AppendsPart, Prints, behind_bars, row_line}
 use Rattle.cr_shell.proofs.BytesLemmas.{appends_none, appends_more}
 
--- ---- fronts
+-- ---- parts
 
-pub front_none : (a : Option (List ℕ)) (x : List ℕ) → AppendsFront a a x
-front_none a x = ([], x, refl, appends_none a)
+some_more : (x y : List ℕ) → x ≢ [] → x ++ y ≢ []
+some_more [] y n = absurd (n refl)
+some_more (b ∷ x) y n = λ e. (let f : b ∷ x ++ y ≡ [] = e in cc)
 
-pub front_whole : (a b : Option (List ℕ)) (x : List ℕ) → Appends a b x → AppendsFront a b x
-front_whole a b x p = (x, [], sym (append-nil x), p)
+part_more : (a b : Option (List ℕ)) (x y : List ℕ) → AppendsPart a b x → AppendsPart a b (x ++ y)
+part_more a b x y p = (p.0, p.1 ++ y, ap (λ l. l ++ y) p.2 ∙ append_assoc p.0 p.1 y, some_more p.1 y p.3, p.4)
 
-front_more : (a b : Option (List ℕ)) (x y : List ℕ) → AppendsFront a b x → AppendsFront a b (x ++ y)
-front_more a b x y p = (p.0, p.1 ++ y, ap (λ l. l ++ y) p.2 ∙ append_assoc p.0 p.1 y, p.3)
-
-front_after : (a b c : Option (List ℕ)) (x y : List ℕ) → Appends a b x → AppendsFront b c y → AppendsFront a c (x ++ y)
-front_after a b c x y p q = (x ++ q.0, q.1, ap (λ l. x ++ l) q.2 ∙ sym (append_assoc x q.0 q.1), appends_more a b c x q.0 p q.3)
+part_after : (a b c : Option (List ℕ)) (x y : List ℕ) → Appends a b x → AppendsPart b c y → AppendsPart a c (x ++ y)
+part_after a b c x y p q = (x ++ q.0, q.1, ap (λ l. x ++ l) q.2 ∙ sym (append_assoc x q.0 q.1), q.3, appends_more a b c x q.0 p q.4)
 
 -- ---- prints
 
 module _ {W : Type 0} (contents : W → Option (List ℕ)) where
   pub prints_none : (a : W × Bool) → Prints contents a a []
-  prints_none a = record { whole = λ h. (h, appends_none (contents a.0)); front = λ h. front_none (contents a.0) []; failed = λ h. refl }
+  prints_none a = record { whole = λ h. (h, appends_none (contents a.0)); part = λ h f. absurd (let e : false ≡ true = sym h ∙ f in cc); failed = λ h. refl }
 
-  front_of_both : (a b c : W × Bool) (x y : List ℕ) → Prints contents a b x → Prints contents b c y → a.1 ≡ false → AppendsFront (contents a.0) (contents c.0) (x ++ y)
-  front_of_both a (w, false) c x y p q h = front_after (contents a.0) (contents w) (contents c.0) x y (p.whole refl).1 (q.front refl)
-  front_of_both a (w, true) c x y p q h = subst (λ (d : W × Bool). AppendsFront (contents a.0) (contents d.0) (x ++ y)) (sym (q.failed refl)) (front_more (contents a.0) (contents w) x y (p.front h))
+  part_of_both : (a b c : W × Bool) (x y : List ℕ) → Prints contents a b x → Prints contents b c y → a.1 ≡ false → c.1 ≡ true → AppendsPart (contents a.0) (contents c.0) (x ++ y)
+  part_of_both a (w, false) c x y p q h f = part_after (contents a.0) (contents w) (contents c.0) x y (p.whole refl).1 (q.part refl f)
+  part_of_both a (w, true) c x y p q h f = subst (λ (d : W × Bool). AppendsPart (contents a.0) (contents d.0) (x ++ y)) (sym (q.failed refl)) (part_more (contents a.0) (contents w) x y (p.part h refl))
 
   pub prints_more : (a b c : W × Bool) (x y : List ℕ) → Prints contents a b x → Prints contents b c y → Prints contents a c (x ++ y)
   prints_more a b c x y p q = record {
     whole = λ h. let r = q.whole h in let s = p.whole r.0 in (s.0, appends_more (contents a.0) (contents b.0) (contents c.0) x y s.1 r.1);
-    front = front_of_both a b c x y p q;
+    part = part_of_both a b c x y p q;
     failed = λ h. let e = p.failed h in q.failed (ap (λ (d : W × Bool). d.1) e ∙ h) ∙ e;
   }
 

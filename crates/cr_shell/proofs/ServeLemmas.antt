@@ -8,8 +8,10 @@ use Rattle.cr_cells.specs.Holding.{Holding}
 use Rattle.cr_session.specs.declared.command.Command.{Command}
 use Rattle.cr_session.specs.declared.command.FleetReply.{FleetReply}
 use Rattle.cr_session.specs.World.{World, after}
-use Rattle.cr_session.specs.Fleets.{FleetOf, Steps}
+use Rattle.cr_session.specs.Answers.{tells_want, AreAnswered}
+use Rattle.cr_session.specs.Fleets.{FleetOf, AreClean, Shows, Steps}
 use Rattle.cr_session.specs.Run.{Run, world_after}
+use Rattle.cr_session.proofs.Running.{run_converges, clean_after_run}
 use Rattle.cr_shell.specs.declared.asking.Asked.TheVariants.{Quit, Asks}
 use Rattle.cr_shell.specs.declared.serving.Line.{Line}
 use Rattle.cr_shell.specs.declared.serving.Next.TheVariants as next
@@ -66,42 +68,64 @@ all_more : {X : Type 0} (P : X → Type 0) (xs ys : List X) → AllByRecursion P
 all_more P [] ys p q = q
 all_more P (x ∷ xs) ys p q = (p.0, all_more P xs ys p.1 q)
 
+all_both : {X : Type 0} (P : X → Type 0) (xs ys : List X) → AllByRecursion P (xs ++ ys) → AllByRecursion P xs × AllByRecursion P ys
+all_both P [] ys a = (tt, a)
+all_both P (x ∷ xs) ys a = let t = all_both P xs ys a.1 in ((a.0, t.0), t.1)
+
 -- ---- lines
 
 pub stepped : {C : Type 0} (is_clean : C → Type 0) (holding : C → Holding) (f0 f1 : FleetOf C) (line : Line) (b : List ℕ) (c : Command) (r : FleetReply) → IsKept line b → (line.is_lost ≡ false) × (Asks c ≡ asked line.bytes.items)
     → Steps is_clean holding f0 c r f1 → Replies is_clean holding f0 b (Some r) f1
 stepped is_clean holding f0 f1 line b c r k e s =
-    (Some c, sym (e.1 ∙ ap asked (kept_bytes line b k e.0)), s.was_clean, λ clean w h. let t = s.steps clean w h in ((h.keep, t.0, t.1.keep), t.1))
+    (Some c, sym (e.1 ∙ ap asked (kept_bytes line b k e.0)), s.was_clean, λ clean answered. s.stays_clean clean answered.0, λ clean w h. let t = s.steps clean w h in ((h.keep, t.0, t.1.keep), t.1))
 
 module _ {W C : Type 0} (contents : W → Option (List ℕ)) (is_clean : C → Type 0) (holding : C → Holding) where
   pub heard_none : (w : W × Bool) (f : FleetOf C) → Heard contents is_clean holding w w f f []
-  heard_none w f = record { turns = []; lines_are = refl; are_for = tt; clean = λ clean. clean; ran = λ clean v s. (s.keep, s); written = prints_none contents w }
+  heard_none w f = record {
+    turns = [];
+    lines_are = refl;
+    are_for = tt;
+    was_clean = λ clean. clean;
+    stays_clean = λ clean answered. clean;
+    ran = λ harm v s. (s.keep, s);
+    converges = λ harm v s. run_converges v [] [] s.keep;
+    written = prints_none contents w;
+  }
 
   pub heard_one : (w0 w1 : W × Bool) (f0 f1 : FleetOf C) (line : List ℕ) (reply : FleetReply) → Replies is_clean holding f0 line (Some reply) f1 → Prints contents w0 w1 (printed reply) → Heard contents is_clean holding w0 w1 f0 f1 (line ∷ [])
   heard_one w0 w1 f0 f1 line reply p q = record {
     turns = record { line = line; command = p.0; reply = reply } ∷ [];
     lines_are = refl;
     are_for = (p.1, tt);
-    clean = p.2;
-    ran = p.3;
+    was_clean = p.2;
+    stays_clean = p.3;
+    ran = λ harm w s. p.4 (clean_after_run is_clean f0 f1 (with_reply p.0 reply []) p.3 harm) w s;
+    converges = λ harm w s. run_converges w (with_command p.0 []) (with_reply p.0 reply []) (p.4 (clean_after_run is_clean f0 f1 (with_reply p.0 reply []) p.3 harm) w s).0;
     written = subst (Prints contents w0 w1) (sym (append-nil (printed reply))) q;
   }
 
   pub heard_more : (w0 w1 w2 : W × Bool) (f0 f1 f2 : FleetOf C) (xs ys : List (List ℕ)) → Heard contents is_clean holding w0 w1 f0 f1 xs → Heard contents is_clean holding w1 w2 f1 f2 ys
       → Heard contents is_clean holding w0 w2 f0 f2 (xs ++ ys)
-  heard_more w0 w1 w2 f0 f1 f2 xs ys p q = record {
-    turns = p.turns ++ q.turns;
-    lines_are = map_more (λ t. t.line) p.turns q.turns ∙ ap (λ l. l ++ map (λ t. t.line) q.turns) p.lines_are ∙ ap (λ l. xs ++ l) q.lines_are;
-    are_for = all_more IsTurn p.turns q.turns p.are_for q.are_for;
-    clean = λ clean. p.clean (q.clean clean);
-    ran = λ clean w s.
-        let a = p.ran (q.clean clean) w s in
-        let b = q.ran clean (world_after w (commands p.turns) (replies p.turns)) a.1 in
-        let t = run_both w (commands p.turns) (replies p.turns) (commands q.turns) (replies q.turns) a.0 b.0 in
-        rw (commands_more p.turns q.turns, replies_more p.turns q.turns, t.1) (t.0, b.1);
-    written = subst (Prints contents w0 w2) (sym (ap (flat_map printed) (map_more (λ t. t.reply) p.turns q.turns) ∙ flat_map-append printed (map (λ t. t.reply) p.turns) (map (λ t. t.reply) q.turns)))
-        (prints_more contents w0 w1 w2 _ _ p.written q.written);
-  }
+  heard_more w0 w1 w2 f0 f1 f2 xs ys p q =
+      let lasts : AreClean is_clean f0 → AreAnswered (replies (p.turns ++ q.turns)) → AreClean is_clean f2 = (λ clean answered.
+      let both = all_both (λ r. tells_want r ≡ false) (replies p.turns) (replies q.turns) (subst AreAnswered (replies_more p.turns q.turns) answered) in
+      q.stays_clean (p.stays_clean clean both.0) both.1) in
+      let run : AreClean is_clean f2 → (w : World) → Shows holding w f0 → Run w (commands (p.turns ++ q.turns)) (replies (p.turns ++ q.turns)) × Shows holding (world_after w (commands (p.turns ++ q.turns)) (replies (p.turns ++ q.turns))) f2 = (λ clean w s.
+      let a = p.ran (inl (q.was_clean clean)) w s in
+      let b = q.ran (inl clean) (world_after w (commands p.turns) (replies p.turns)) a.1 in
+      let t = run_both w (commands p.turns) (replies p.turns) (commands q.turns) (replies q.turns) a.0 b.0 in
+      rw (commands_more p.turns q.turns, replies_more p.turns q.turns, t.1) (t.0, b.1)) in
+      record {
+        turns = p.turns ++ q.turns;
+        lines_are = map_more (λ t. t.line) p.turns q.turns ∙ ap (λ l. l ++ map (λ t. t.line) q.turns) p.lines_are ∙ ap (λ l. xs ++ l) q.lines_are;
+        are_for = all_more IsTurn p.turns q.turns p.are_for q.are_for;
+        was_clean = λ clean. p.was_clean (q.was_clean clean);
+        stays_clean = lasts;
+        ran = λ harm w s. run (clean_after_run is_clean f0 f2 (replies (p.turns ++ q.turns)) lasts harm) w s;
+        converges = λ harm w s. run_converges w (commands (p.turns ++ q.turns)) (replies (p.turns ++ q.turns)) (run (clean_after_run is_clean f0 f2 (replies (p.turns ++ q.turns)) lasts harm) w s).0;
+        written = subst (Prints contents w0 w2) (sym (ap (flat_map printed) (map_more (λ t. t.reply) p.turns q.turns) ∙ flat_map-append printed (map (λ t. t.reply) p.turns) (map (λ t. t.reply) q.turns)))
+            (prints_more contents w0 w1 w2 _ _ p.written q.written);
+      }
 
 -- ---- the input so far
 

@@ -1,6 +1,6 @@
 -- What a fleet's replies are printed as. Source: this project's own; rows as SQL literals joined by bars, a refusal as a
 -- line of its code, its name and its details.
-use Rattle.std.specs.Prelude.{◌≡◌, Bool, true, false, ℕ, List, [], ◌∷◌, ◌++◌, codes, decimal, Option}
+use Rattle.std.specs.Prelude.{◌≡◌, ◌≢◌, Bool, true, false, ℕ, List, [], ◌∷◌, ◌++◌, codes, decimal, Option}
 use Rattle.std.specs.List.{flat_map}
 use Rattle.std.specs.Io.KnownBytes.{Appends}
 use Rattle.cr_value.specs.declared.value.Value.{Value}
@@ -17,15 +17,15 @@ use Rattle.cr_session.specs.declared.refusal.Refusal.{Refusal}
 use Rattle.cr_session.specs.declared.refusal.Refusal.TheVariants.{OutOfProfile, NoSuchTable, AmbiguousColumn, NoSuchCollation, TableExists, NoDefault, VersionLimit, BadChange as Bad, Limit, Store, Memory, BadName, NoReplica, SameSite, Command}
 use Rattle.cr_session.specs.Refusals.{code_of, title_of}
 
--- known bytes grow by a front of these
-abbrev pub AppendsFront : Option (List ℕ) → Option (List ℕ) → List ℕ → Type 0
-AppendsFront old new bytes = (front : List ℕ) × (rest : List ℕ) × (bytes ≡ front ++ rest) × Appends old new front
+-- known bytes grow by a front of these, and not by all of them
+abbrev pub AppendsPart : Option (List ℕ) → Option (List ℕ) → List ℕ → Type 0
+AppendsPart old new bytes = (front : List ℕ) × (rest : List ℕ) × (bytes ≡ front ++ rest) × (rest ≢ []) × Appends old new front
 
--- A watched writer wrote the bytes: whole if it hasn't failed, and a front of them if it failed meanwhile. Once it has
--- failed, nothing more is written.
+-- A watched writer wrote the bytes: whole if it hasn't failed, and a front of them, not all, if it failed meanwhile. Once
+-- it has failed, nothing more is written.
 pub record Prints {W : Type 0} (contents : W → Option (List ℕ)) (old new : W × Bool) (bytes : List ℕ) : Type 0 where
   pub whole : new.1 ≡ false → (old.1 ≡ false) × Appends (contents old.0) (contents new.0) bytes
-  pub front : old.1 ≡ false → AppendsFront (contents old.0) (contents new.0) bytes
+  pub part : old.1 ≡ false → new.1 ≡ true → AppendsPart (contents old.0) (contents new.0) bytes
   pub failed : old.1 ≡ true → new ≡ old
 
 -- ---- rows

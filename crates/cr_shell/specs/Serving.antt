@@ -7,9 +7,10 @@ use Rattle.cr_session.specs.declared.command.Command.{Command}
 use Rattle.cr_session.specs.declared.command.FleetReply.{FleetReply}
 use Rattle.cr_session.specs.declared.command.FleetReply.TheVariants.{Done, Refused}
 use Rattle.cr_session.specs.declared.refusal.Refusal.TheVariants as refusal
+use Rattle.cr_session.specs.Answers.{AreAnswered}
 use Rattle.cr_session.specs.World.{World}
-use Rattle.cr_session.specs.Fleets.{FleetOf, AreClean, Shows}
-use Rattle.cr_session.specs.Run.{Run, world_after}
+use Rattle.cr_session.specs.Fleets.{FleetOf, AreClean, IsUnharmed, Shows}
+use Rattle.cr_session.specs.Run.{Run, world_after, Converges}
 use Rattle.cr_shell.specs.declared.serving.Line.{Line}
 use Rattle.cr_shell.specs.declared.serving.Next.{Next}
 use Rattle.cr_shell.specs.declared.serving.Next.TheVariants as next
@@ -74,14 +75,17 @@ abbrev pub replies : List Turn → List FleetReply
 replies [] = []
 replies (t ∷ ts) = with_reply t.command t.reply (replies ts)
 
--- Lines were heard: each has its turn, the commands ran as a run of the fleet with these replies, and what is written is
--- what they are printed as.
+-- Lines were heard: each has its turn, the commands ran as a run of the fleet with these replies, which converges, and what
+-- is written is what they are printed as. Where each store was clean and no command's reply tells of want, each is clean
+-- then; a line for which there is no memory runs no command.
 pub record Heard {W C : Type 0} (contents : W → Option (List ℕ)) (is_clean : C → Type 0) (holding : C → Holding) (w0 w1 : W × Bool) (f0 f1 : FleetOf C) (lines : List (List ℕ)) : Type 0 where
   pub turns : List Turn
   pub lines_are : map (λ t. t.line) turns ≡ lines
   pub are_for : AllByRecursion IsTurn turns
-  pub clean : AreClean is_clean f1 → AreClean is_clean f0
-  pub ran : AreClean is_clean f1 → (w : World) → Shows holding w f0 → Run w (commands turns) (replies turns) × Shows holding (world_after w (commands turns) (replies turns)) f1
+  pub was_clean : AreClean is_clean f1 → AreClean is_clean f0
+  pub stays_clean : AreClean is_clean f0 → AreAnswered (replies turns) → AreClean is_clean f1
+  pub ran : IsUnharmed is_clean f0 (replies turns) f1 → (w : World) → Shows holding w f0 → Run w (commands turns) (replies turns) × Shows holding (world_after w (commands turns) (replies turns)) f1
+  pub converges : IsUnharmed is_clean f0 (replies turns) f1 → (w : World) → Shows holding w f0 → Converges w (commands turns) (replies turns)
   pub written : Prints contents w0 w1 (output_of (map (λ t. t.reply) turns))
 
 -- a line as far as it was read, lost where there was no memory for it
@@ -92,6 +96,7 @@ IsKept line bytes = (line.is_lost ≡ true) ⊎ (line.bytes.items ≡ bytes)
 abbrev pub Replies : {C : Type 0} → (C → Type 0) → (C → Holding) → FleetOf C → List ℕ → Option FleetReply → FleetOf C → Type 0
 Replies is_clean holding f0 line None f1 = (asked line ≡ Quit) × (f1 ≡ f0)
 Replies is_clean holding f0 line (Some reply) f1 = (command : Option Command) × IsFor (asked line) command reply × (AreClean is_clean f1 → AreClean is_clean f0)
+    × (AreClean is_clean f0 → AreAnswered (with_reply command reply []) → AreClean is_clean f1)
     × (AreClean is_clean f1 → (w : World) → Shows holding w f0 → Run w (with_command command []) (with_reply command reply []) × Shows holding (world_after w (with_command command []) (with_reply command reply [])) f1)
 
 -- a line was heard, or ends the run

@@ -166,7 +166,7 @@ fn hear_last<W: Write, C: NewCells>(
 ///
 /// # Errors
 /// `Read` where the reader failed or the input reached 16,000,000 bytes; an unfinished line isn't run then. `Write` where
-/// the writer failed: then a front of the replies was written, and no line was heard after the one that they failed at.
+/// the writer failed: then a front of the replies was written, not all of them, and no line was heard after the one that they failed at.
 pub fn serve<R: Read, W: Write, C: NewCells>(
     alloc: Global,
     reader: &mut Watched<R>,

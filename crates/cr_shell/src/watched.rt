@@ -1,7 +1,7 @@
 //! A reader or writer that keeps whether a call of it failed.
 ghost use Rattle.std.specs.Prelude.{◌≡◌, ◌≤◌, ◌||◌, true, false, length, is_err, IfOk};
 ghost use Rattle.std.specs.Io.KnownBytes.{Appends, ReadConsumes};
-ghost use Rattle.cr_shell.specs.Printing.{AppendsFront, Prints};
+ghost use Rattle.cr_shell.specs.Printing.{AppendsPart, Prints};
 ghost use Rattle.cr_shell.specs.Reading.{ReadsByte};
 
 use std::io::{Read, Write};
@@ -81,10 +81,10 @@ impl<R: Read> Watched<R> {
     }
 }
 
-// Whether the writer took all of the bytes.
+// Whether the writer took all of the bytes: if not, some are not written.
 fn takes<W: Write>(writer: &mut W, bytes: &[u8]) -> bool
     ensures whole { result ≡ true → Appends (W.contents writer.old) (W.contents writer.new) bytes.now }
-    ensures front { AppendsFront (W.contents writer.old) (W.contents writer.new) bytes.now }
+    ensures part { result ≡ false → AppendsPart (W.contents writer.old) (W.contents writer.new) bytes.now }
 {
     let mut at = 0;
     while at < bytes.len() {

@@ -1,83 +1,26 @@
 -- What is to be written leaves the cells of the commit.
-use Rattle.std.proofs.Common.{◌≡◌, inl, inr, ℤ, pos, ◌+ℤ◌, Bool, true, false, not, ◌&&◌, List, [], ◌∷◌, ◌++◌, refl, sym, ap, ◌∙◌, subst, arith}
+use Rattle.std.proofs.Common.{◌≡◌, inl, inr, ℤ, pos, ◌+ℤ◌, true, false, not, List, [], ◌∷◌, ◌++◌, refl, sym, ap, ◌∙◌, subst, arith}
 use Rattle.std.proofs.lemmas.Int.{ints}
-use Rattle.std.specs.Prelude.{filter, int_lt}
+use Rattle.std.specs.Prelude.{int_lt}
 use Rattle.std.specs.List.{AllByRecursion, IsDistinct}
-use Rattle.std.specs.List.Sorted.{IsStrictlySortedBy}
-use Rattle.std.proofs.lemmas.List.Kept.{IsStrictlySortedBy-filter}
 use Rattle.cr_lattice.specs.declared.change.Change.{Change}
 use Rattle.cr_lattice.specs.declared.stamped.Stamped.{Stamped}
-use Rattle.cr_lattice.specs.Change.{change_cmp, beats}
-use Rattle.cr_lattice.specs.ChangeOrder.{change_total, change_exact}
-use Rattle.cr_lattice.specs.Keep.{has, is_beaten, keep, join}
+use Rattle.cr_lattice.specs.Change.{beats}
+use Rattle.cr_lattice.specs.Keep.{has, keep, join}
 use Rattle.cr_lattice.proofs.ChangeLaws.{beats_trans}
-use Rattle.cr_lattice.proofs.SortedSets.{has-filter}
-use Rattle.cr_lattice.proofs.KeepLaws.{In, In-left, In-right, In-append, beaten_by, beaten_from, kept_from, kept_to, kept_above, sorted-keep, same_lists}
-use Rattle.cr_lattice.proofs.Tested.{and_true, not_true, both_ways}
+use Rattle.cr_lattice.proofs.KeepLaws.{In, In-left, kept_from, kept_to, kept_above}
+use Rattle.cr_lattice.proofs.Tested.{and_true, not_true}
 use Rattle.cr_cells.specs.Holding.{changes_of}
 use Rattle.cr_cells.specs.Commit.{newly_kept, stamped, still_kept, cells_after}
 use Rattle.cr_cells.proofs.MemberLemmas.{split, Among, all_at, Among-filter, filter-Among, Among-append, append-left, append-right, Among-set_of, set_of-Among}
 use Rattle.cr_cells.proofs.CellLemmas.{cell_total, cell_exact, has_from}
 use Rattle.cr_cells.proofs.CommitLemmas.{stamped-at}
+use Rattle.cr_cells.proofs.NewLemmas.{In-filter, no_both, sorted-newly_kept}
 use Rattle.cr_store.specs.declared.plan.New.{New}
-use Rattle.cr_store.specs.Plan.{is_new, gone_by, put_all, without_all}
+use Rattle.cr_store.specs.Plan.{gone_by, put_all, without_all}
 use Rattle.cr_store.specs.Words.{same_key}
 use Rattle.cr_store.proofs.CommitKeys.{key_itself, kept_one, keys_distinct, In-Among, Among-In}
 use Rattle.cr_store.proofs.CommitWrites.{cells_of_news, AreTold, Goes, put_from, put_other, put_comes, change_among, without_from, without_to, gone_from, gone_to}
-
--- ---- what comes in
-
-In-filter : (p : Change → Bool) (cs : List Change) (c : Change) → has (filter p cs) c ≡ (has cs c && p c)
-unfolding has
-In-filter p cs c = has-filter change_total change_exact p cs c
-
-no_both : (b : Bool) → b ≡ true → b ≡ false → ⊥
-no_both true p q = absurd cc
-no_both false p q = absurd cc
-
-not_false : (b : Bool) → b ≡ false → not b ≡ true
-not_false true e = absurd cc
-not_false false e = refl
-
-comes_with : (kept more : List Change) (c : Change) → In (filter (is_new kept) (keep more)) c → In (newly_kept kept more) c
-unfolding newly_kept
-comes_with kept more c e =
-    let p = and_true _ _ (sym (In-filter (is_new kept) (keep more) c) ∙ e) in
-    let q = and_true _ _ p.1 in
-    let k = kept_from more c p.0 in
-    let in_join : In (join kept more) c = kept_to (kept ++ more) c (record {
-      member = In-right kept more c k.member;
-      unbeaten = λ d in_d b. elim (In-append kept more d in_d) [
-        | inl l ↦ no_both _ (beaten_from kept c d l b) (not_true _ q.1)
-        | inr r ↦ k.unbeaten d r b
-      ];
-    }) in
-    In-filter (λ c. not (has kept c)) (join kept more) c ∙ rw (in_join, not_true _ q.0) refl
-
-comes_from : (kept more : List Change) (c : Change) → In (newly_kept kept more) c → In (filter (is_new kept) (keep more)) c
-unfolding newly_kept
-comes_from kept more c e =
-    let p = and_true _ _ (sym (In-filter (λ c. not (has kept c)) (join kept more) c) ∙ e) in
-    let k = kept_from (kept ++ more) c p.0 in
-    let other : has kept c ≡ false = not_true _ p.1 in
-    let in_more : In more c = elim (In-append kept more c k.member) [ inl l ↦ absurd (no_both _ l other) | inr r ↦ r ] in
-    let in_keep : In (keep more) c = kept_to more c (record { member = in_more; unbeaten = λ d in_d b. k.unbeaten d (In-right kept more d in_d) b }) in
-    let unbeaten : is_beaten kept c ≡ false = elim (split (is_beaten kept c)) [
-      | inl so ↦ (let d = beaten_by kept c so in absurd (k.unbeaten d.0 (In-left kept more d.0 d.1) d.2))
-      | inr not_so ↦ not_so
-    ] in
-    In-filter (is_new kept) (keep more) c ∙ rw (in_keep, other, unbeaten) refl
-
-pub sorted-newly_kept : (kept more : List Change) → IsStrictlySortedBy change_cmp (newly_kept kept more)
-unfolding newly_kept
-sorted-newly_kept kept more = IsStrictlySortedBy-filter change_cmp (λ c. not (has kept c)) (join kept more) (sorted-keep (kept ++ more))
-
--- what is new of what the changes keep of one another is what comes in
-pub news_are : (kept more : List Change) → filter (is_new kept) (keep more) ≡ newly_kept kept more
-news_are kept more =
-    same_lists (filter (is_new kept) (keep more)) (newly_kept kept more)
-    (IsStrictlySortedBy-filter change_cmp (is_new kept) (keep more) (sorted-keep more)) (sorted-newly_kept kept more)
-    (λ c. both_ways _ _ (comes_with kept more c) (comes_from kept more c))
 
 -- a change that comes in
 pub record ComesIn (kept more : List Change) (c : Change) : Type 0 where

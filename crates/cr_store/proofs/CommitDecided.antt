@@ -2,7 +2,7 @@
 use Rattle.std.proofs.Common.{◌≡◌, inl, inr, ℤ, pos, ◌+ℤ◌, ◌≤ℤ◌, Bool, true, false, not, cond, ◌&&◌, List, [], ◌∷◌, map, Option, refl, sym, ap, ◌∙◌, subst, arith}
 use Rattle.std.proofs.lemmas.Int.{ints}
 use Rattle.std.specs.Prelude.{filter, int_lt}
-use Rattle.std.specs.List.{list_any, AllByRecursion}
+use Rattle.std.specs.List.{AllByRecursion}
 use Rattle.std.specs.Ordering.{int_eq}
 use Rattle.sqlite.specs.Effect.{Database}
 use Rattle.sqlite.specs.Order.{Row}
@@ -17,6 +17,7 @@ use Rattle.cr_cells.specs.Holding.{Holding, changes_of, kept_of, IsStampedTo, Is
 use Rattle.cr_cells.specs.Marks.{Mark, marks_after}
 use Rattle.cr_cells.proofs.MemberLemmas.{split, Among}
 use Rattle.cr_cells.proofs.CommitLemmas.{none_passes, unchanged_cells}
+use Rattle.cr_cells.proofs.NewLemmas.{news_are, some-newly_kept}
 use Rattle.cr_store.specs.declared.plan.New.{New}
 use Rattle.cr_store.specs.declared.plan.Plan.{Plan}
 use Rattle.cr_store.specs.declared.outcome.Decision.{Decision}
@@ -25,7 +26,7 @@ use Rattle.cr_store.specs.Committing.{is_none, left_by, IsDecided, HasCommitted}
 use Rattle.cr_store.specs.Plan.{is_new, gone_by, put_all, without_all, IsPlan}
 use Rattle.cr_store.specs.Rows.{cell_row, meta_rows, table_rows, mark_row}
 use Rattle.cr_store.specs.Shows.{Holds, Shows}
-use Rattle.cr_store.proofs.CommitCells.{news_are, IsToWrite, left_after, after_left}
+use Rattle.cr_store.proofs.CommitCells.{IsToWrite, left_after, after_left}
 
 -- ---- whether something comes in
 
@@ -36,18 +37,6 @@ is_none-news (n ∷ ns) = refl
 is_none-stamped : (version seq : ℤ) (cs : List Change) → is_none (stamped version seq cs) ≡ is_none cs
 is_none-stamped version seq [] = refl
 is_none-stamped version seq (c ∷ cs) = refl
-
-some-filter : (p : Change → Bool) (cs : List Change) → not (is_none (filter p cs)) ≡ list_any p cs
-some-filter p [] = refl
-some-filter p (c ∷ cs) =
-    elim (split (p c)) [
-      | inl so ↦ rw so refl
-      | inr not_so ↦ rw not_so (some-filter p cs)
-    ]
-
-some-newly_kept : (kept more : List Change) → not (is_none (newly_kept kept more)) ≡ is_changed kept more
-unfolding newly_kept is_changed
-some-newly_kept kept more = some-filter (λ c. not (has kept c)) (join kept more)
 
 pub plan_changes : (ss : List Stamped) (more : List Change) (version : ℤ) (p : Plan) → IsPlan ss (keep more) version p → not (is_none p.news.items) ≡ is_changed (changes_of ss) more
 plan_changes ss more version p plan =

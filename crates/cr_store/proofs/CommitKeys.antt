@@ -1,14 +1,12 @@
 -- Changes of one key, and that a set keeps one change of a key.
-use Rattle.std.proofs.Common.{◌≡◌, ◌⊎◌, inl, inr, true, false, List, [], ◌∷◌, refl, sym, ap, ◌∙◌, subst, ℕ, Ordering, Less, Equal, Greater, int_cmp}
+use Rattle.std.proofs.Common.{◌≡◌, ◌⊎◌, inl, inr, true, false, List, [], ◌∷◌, refl, sym, ap, ◌∙◌, subst, Ordering, Less, Equal, Greater, int_cmp}
 use Rattle.std.specs.List.{IsDistinct}
 use Rattle.std.specs.List.Sorted.{IsStrictlySortedBy}
 use Rattle.std.specs.Ordering.{eq_by_cmp, is_eq, ordering_reverse}
 use Rattle.std.specs.Cmp.{tied_itself}
 use Rattle.std.proofs.lemmas.Cmp.{int_cmp_total, tied_back}
 use Rattle.cr_value.specs.Order.{bytes_cmp}
-use Rattle.cr_value.specs.OrderLaws.{bytes_total, bytes_exact}
 use Rattle.cr_lattice.specs.declared.change.Change.{Change}
-use Rattle.cr_lattice.specs.Check.{same_bytes}
 use Rattle.cr_lattice.specs.Change.{cid_cmp, row_cmp, weight_cmp, change_cmp, beats}
 use Rattle.cr_lattice.specs.ChangeOrder.{cid_total, row_total, weight_total, change_total, change_exact}
 use Rattle.cr_lattice.specs.Keep.{has, keep}
@@ -16,18 +14,10 @@ use Rattle.cr_lattice.proofs.ChangeLaws.{beats-Beats}
 use Rattle.cr_lattice.proofs.KeepLaws.{In, kept_from}
 use Rattle.cr_lattice.proofs.Tested.{and_true, eq_true}
 use Rattle.cr_cells.proofs.MemberLemmas.{split, Among, any_gives, any_from, all_at, all_from}
+use Rattle.cr_cells.proofs.NewLemmas.{same_is, same_from}
 use Rattle.cr_store.specs.Words.{same_key}
 
 -- ---- one key
-
-pub same_is : (x y : List ℕ) → same_bytes x y ≡ true → x ≡ y
-same_is x y e = bytes_exact x y (eq_true _ e)
-
-pub same_itself : (x : List ℕ) → same_bytes x x ≡ true
-same_itself x = ap is_eq (tied_itself bytes_total x)
-
-pub same_from : (x y : List ℕ) → x ≡ y → same_bytes x y ≡ true
-same_from x y e = ap (same_bytes x) (sym e) ∙ same_itself x
 
 -- two changes are of one cell, in words
 pub record OneKey (c d : Change) : Type 0 where

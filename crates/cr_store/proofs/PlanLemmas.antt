@@ -1,46 +1,28 @@
 -- What a change makes of a plan, from the cells of its row.
-use Rattle.std.proofs.Common.{◌≡◌, inl, inr, ℤ, pos, ◌+ℤ◌, ℕ, ◌+◌, Bool, true, false, not, cond, ◌&&◌, ◌||◌, List, [], ◌∷◌, ◌++◌, map, length, suc, refl, sym, ap, ◌∙◌, subst, arith}
+use Rattle.std.proofs.Common.{◌≡◌, inl, inr, ℤ, pos, ◌+ℤ◌, ℕ, ◌+◌, Bool, true, false, cond, List, [], ◌∷◌, ◌++◌, map, length, suc, refl, sym, ap, ◌∙◌, subst, arith}
 use Rattle.std.proofs.lemmas.List.{append-nil, map-append}
 use Rattle.std.proofs.lemmas.List.Elements.{filter-append}
 use Rattle.std.proofs.lemmas.List.Concat.{flat_map-append}
 use Rattle.std.specs.Prelude.{filter}
-use Rattle.std.specs.List.{list_any, AllByRecursion}
-use Rattle.std.specs.Ordering.{eq_by_cmp}
+use Rattle.std.specs.List.{AllByRecursion}
 use Rattle.cr_lattice.specs.declared.change.Change.{Change}
 use Rattle.cr_lattice.specs.declared.stamped.Stamped.{Stamped}
-use Rattle.cr_lattice.specs.Change.{change_cmp, beats}
-use Rattle.cr_lattice.specs.ChangeOrder.{change_exact, row_exact}
-use Rattle.cr_lattice.specs.Keep.{has, is_beaten}
+use Rattle.cr_lattice.specs.Change.{beats}
+use Rattle.cr_lattice.specs.ChangeOrder.{row_exact}
 use Rattle.cr_lattice.specs.Rows.{is_of_row}
 use Rattle.cr_lattice.proofs.ChangeLaws.{Beats-beats}
-use Rattle.cr_lattice.proofs.Tested.{and_true, eq_true}
+use Rattle.cr_lattice.proofs.Tested.{and_true}
 use Rattle.cr_cells.specs.Holding.{changes_of, cells_of}
-use Rattle.cr_cells.specs.Commit.{stamped}
+use Rattle.cr_cells.specs.Commit.{stamped, is_new_in}
 use Rattle.cr_cells.proofs.MemberLemmas.{split}
+use Rattle.cr_cells.proofs.NewLemmas.{fails, any_of_part, of_row, new_by_row}
 use Rattle.cr_store.specs.declared.plan.New.{New}
 use Rattle.cr_store.specs.declared.plan.Plan.{Plan}
 use Rattle.cr_store.specs.Plan.{is_new, removes, gone_by, is_there, IsPlan}
 use Rattle.cr_store.specs.Words.{same_key}
-use Rattle.cr_store.proofs.CommitKeys.{same_from, one_key}
+use Rattle.cr_store.proofs.CommitKeys.{one_key}
 
 -- ---- what only cells of a row pass
-
-no_both : (b : Bool) → b ≡ true → b ≡ false → ⊥
-no_both true p q = absurd cc
-no_both false p q = absurd cc
-
-fails : (p q : Bool) → (p ≡ true → q ≡ true) → q ≡ false → p ≡ false
-fails true q f e = absurd (no_both q (f refl) e)
-fails false q f e = refl
-
-module _ {X : Type 0} (p q : X → Bool) (f : (x : X) → p x ≡ true → q x ≡ true) where
-  any_of_part : (xs : List X) → list_any p (filter q xs) ≡ list_any p xs
-  any_of_part [] = refl
-  any_of_part (x ∷ xs) =
-      elim (split (q x)) [
-        | inl so ↦ rw so (ap (λ b. p x || b) (any_of_part xs))
-        | inr not_so ↦ rw (not_so, fails (p x) (q x) (f x) not_so) (any_of_part xs)
-      ]
 
 part_of_part : (p : Change → Bool) (q : Stamped → Bool) → ((s : Stamped) → p s.change ≡ true → q s ≡ true) → (ss : List Stamped) → filter p (changes_of (filter q ss)) ≡ filter p (changes_of ss)
 part_of_part p q f [] = refl
@@ -50,17 +32,6 @@ part_of_part p q f (s ∷ ss) =
       | inr not_so ↦ rw (not_so, fails (p s.change) (q s) (f s) not_so) (part_of_part p q f ss)
     ]
 
-of_row : (c d : Change) → d.table ≡ c.table → d.pk ≡ c.pk → is_of_row c.table c.pk d ≡ true
-of_row c d t k = rw (same_from _ _ t, same_from _ _ k) refl
-
-row_of_same : (c : Change) (s : Stamped) → eq_by_cmp change_cmp c s.change ≡ true → is_of_row c.table c.pk s.change ≡ true
-row_of_same c s e =
-    let same : c ≡ s.change = change_exact c s.change (eq_true _ e) in
-    of_row c s.change (ap (λ (d : Change). d.table) (sym same)) (ap (λ (d : Change). d.pk) (sym same))
-
-row_of_winner : (c d : Change) → beats d c ≡ true → is_of_row c.table c.pk d ≡ true
-row_of_winner c d e = let r = row_exact d c (Beats-beats d c e).row in of_row c d r.0 r.1
-
 row_of_loser : (c d : Change) → beats c d ≡ true → is_of_row c.table c.pk d ≡ true
 row_of_loser c d e = let r = row_exact c d (Beats-beats c d e).row in of_row c d (sym r.0) (sym r.1)
 
@@ -68,25 +39,6 @@ row_of_key : (c d : Change) → same_key d c ≡ true → is_of_row c.table c.pk
 row_of_key c d e = let k = one_key d c e in of_row c d k.table k.pk
 
 -- ---- by the cells of the row
-
-any-changes : (p : Change → Bool) (ss : List Stamped) → list_any p (changes_of ss) ≡ list_any (λ s. p s.change) ss
-any-changes p [] = refl
-any-changes p (s ∷ ss) = ap (λ b. p s.change || b) (any-changes p ss)
-
--- the change is not among these cells, and none of them beats it
-abbrev pub passes : List Stamped → Change → Bool
-passes row c = not (list_any (λ s. eq_by_cmp change_cmp c s.change) row) && not (list_any (λ s. beats s.change c) row)
-
-passes-row : (ss : List Stamped) (c : Change) → passes (cells_of ss c.table c.pk) c ≡ is_new (changes_of ss) c
-unfolding cells_of has is_beaten
-passes-row ss c =
-    let q = λ (s : Stamped). is_of_row c.table c.pk s.change in
-    rw (
-      any_of_part (λ s. eq_by_cmp change_cmp c s.change) q (row_of_same c) ss,
-      any_of_part (λ s. beats s.change c) q (λ s. row_of_winner c s.change) ss,
-      any-changes (eq_by_cmp change_cmp c) ss,
-      any-changes (λ d. beats d c) ss,
-    ) refl
 
 pub is_there-row : (ss : List Stamped) (c : Change) → is_there (cells_of ss c.table c.pk) c ≡ is_there ss c
 unfolding cells_of
@@ -118,10 +70,10 @@ length-map [] = refl
 length-map (n ∷ ns) = ap (λ m. suc m) (length-map ns)
 
 -- a change that does not come in leaves the plan
-pub plan_stays : (ss : List Stamped) (cs : List Change) (c : Change) (version : ℤ) (p : Plan) (row : List Stamped) → row ≡ cells_of ss c.table c.pk → passes row c ≡ false
+pub plan_stays : (ss : List Stamped) (cs : List Change) (c : Change) (version : ℤ) (p : Plan) (row : List Stamped) → row ≡ cells_of ss c.table c.pk → is_new_in row c ≡ false
     → IsPlan ss cs version p → IsPlan ss (cs ++ c ∷ []) version p
 plan_stays ss cs c version p row from_row none plan =
-    let old : is_new (changes_of ss) c ≡ false = sym (passes-row ss c) ∙ ap (λ r. passes r c) (sym from_row) ∙ none in
+    let old : is_new (changes_of ss) c ≡ false = sym (new_by_row ss c) ∙ ap (λ r. is_new_in r c) (sym from_row) ∙ none in
     let tail : filter (is_new (changes_of ss)) (c ∷ []) ≡ [] = rw old refl in
     let same : filter (is_new (changes_of ss)) (cs ++ c ∷ []) ≡ filter (is_new (changes_of ss)) cs =
     filter-append (is_new (changes_of ss)) cs (c ∷ []) ∙ ap (λ l. filter (is_new (changes_of ss)) cs ++ l) tail ∙ append-nil _ in
@@ -132,14 +84,14 @@ plan_stays ss cs c version p row from_row none plan =
     }
 
 -- a change that comes in is the next cell, and removes what it beats under other keys
-pub plan_grows : (ss : List Stamped) (cs : List Change) (c : Change) (version : ℤ) (p q : Plan) (row : List Stamped) (n : New) → row ≡ cells_of ss c.table c.pk → passes row c ≡ true
+pub plan_grows : (ss : List Stamped) (cs : List Change) (c : Change) (version : ℤ) (p q : Plan) (row : List Stamped) (n : New) → row ≡ cells_of ss c.table c.pk → is_new_in row c ≡ true
     → n.cell ≡ record { change = c; version = version; seq = pos (length p.news.items) } → n.is_there ≡ is_there row c
     → q.news.items ≡ p.news.items ++ n ∷ [] → q.gone.items ≡ p.gone.items ++ filter (removes c) (changes_of row)
     → IsPlan ss cs version p → IsPlan ss (cs ++ c ∷ []) version q
 plan_grows ss cs c version p q row n from_row some cell there grown gone plan =
     let kept : List Change = changes_of ss in
     let came : List Change = filter (is_new kept) cs in
-    let new : is_new kept c ≡ true = sym (passes-row ss c) ∙ ap (λ r. passes r c) (sym from_row) ∙ some in
+    let new : is_new kept c ≡ true = sym (new_by_row ss c) ∙ ap (λ r. is_new_in r c) (sym from_row) ∙ some in
     let tail : filter (is_new kept) (c ∷ []) ≡ c ∷ [] = rw new refl in
     let more : filter (is_new kept) (cs ++ c ∷ []) ≡ came ++ c ∷ [] = filter-append (is_new kept) cs (c ∷ []) ∙ ap (λ l. came ++ l) tail in
     let same_length : length p.news.items ≡ length came = sym (length-map p.news.items) ∙ ap length plan.news ∙ length-stamped version (pos 0) came in

@@ -1,8 +1,10 @@
 -- What a call leaves where it ends well, and what its database holds with one table changed.
-use Rattle.std.proofs.Common.{◌≡◌, List, Ok, Err, Result, OnOk, IfOk, arith, ◌∙◌}
+use Rattle.std.proofs.Common.{◌≡◌, ℕ, List, Ok, Err, Result, OnOk, IfOk, IsTrue, Option, Some, None, arith, ◌∙◌}
 use Rattle.sqlite.specs.Order.{Row}
 use Rattle.sqlite.specs.Effect.{Database}
-use Rattle.sqlite.specs.State.{State, HasCleanDisk, KeepsCommit, Survives}
+use Rattle.sqlite_schema.specs.declared.command.Returning.{Returning}
+use Rattle.sqlite_resolve.specs.declared.compiled.Compiled.{Compiled}
+use Rattle.sqlite.specs.State.{State, HasCleanDisk, KeepsCommit, Survives, Shown, ShowsRows}
 use Rattle.cr_rows.specs.Rows.{Lists}
 use Rattle.cr_rows.proofs.RowLemmas.{lists_in}
 use Rattle.cr_rows.proofs.InsertLemmas.{KeepsOthers}
@@ -13,6 +15,10 @@ pub ok_then : {B E : Type 0} (r : Result B E) (P Q : Type 0) → (P → Q) → O
 ok_then (Ok b) P Q f h = f h
 ok_then (Err e) P Q f h = tt
 
+pub on_ok : {B E : Type 0} (r : Result B E) (P : Type 0) → P → OnOk r P
+on_ok (Ok b) P p = p
+on_ok (Err e) P p = tt
+
 pub if_then : {B E : Type 0} (r : Result B E) (P Q : B → Type 0) → ((b : B) → P b → Q b) → IfOk r P → IfOk r Q
 if_then (Ok b) P Q f h = f b h
 if_then (Err e) P Q f h = tt
@@ -22,6 +28,15 @@ was_clean old new s clean = omega (arith, s.clean, clean)
 
 pub keeps_then : (a b c : State) → KeepsCommit a b → KeepsCommit b c → KeepsCommit a c
 keeps_then a b c p q = record { was_open = λ it. p.was_open (q.was_open it); committed = λ it. q.committed it ∙ p.committed (q.was_open it) }
+
+-- what shows rows is open
+rows_open : (old new : State) (sql : List ℕ) (c : Compiled) (params : Row) (rows : List Row) (what : Option Returning) → ShowsRows old new sql c params rows what → IsTrue new.is_open
+rows_open old new sql c params rows None s = s.3.0.is_open
+rows_open old new sql c params rows (Some what) s = s.1.shown.is_open
+
+pub shown_open : (old new : State) (sql : List ℕ) (params : Row) (rows : List Row) → Shown sql params old new rows → IsTrue new.is_open
+unfolding Shown
+shown_open old new sql params rows s = rows_open old new sql s.0 _ rows s.0.returning s.2
 
 -- ---- one table is changed
 

@@ -1,25 +1,19 @@
 -- What a commit decides before it writes, and what it leaves.
-use Rattle.std.specs.Prelude.{◌≡◌, ℤ, pos, ◌+ℤ◌, Bool, true, false, ◌&&◌, List, [], ◌∷◌, Option, Result, Ok, Err, if◌then◌else◌}
-use Rattle.std.specs.Ordering.{int_eq}
+use Rattle.std.specs.Prelude.{◌≡◌, pos, ◌+ℤ◌, false, List, Option, if◌then◌else◌}
 use Rattle.sqlite.specs.Effect.{Database}
 use Rattle.sqlite_rules.specs.Lists.{Has}
 use Rattle.cr_lattice.specs.declared.change.Change.{Change}
 use Rattle.cr_lattice.specs.declared.stamped.Stamped.{Stamped}
-use Rattle.cr_cells.specs.declared.store.CellsError.{CellsError}
-use Rattle.cr_cells.specs.declared.store.CellsError.TheVariants as error
-use Rattle.cr_cells.specs.declared.store.StoreFault.TheVariants as fault
+pub use Rattle.cr_cells.specs.Calls.{StaysWithinLimit, IsNotCommitted as IsUndecided}
+pub use Rattle.cr_cells.specs.Commit.{is_none}
 use Rattle.cr_cells.specs.Calls.{is_past_limit}
-use Rattle.cr_cells.specs.Commit.{is_changed, greatest_version, cells_after, committed}
+use Rattle.cr_cells.specs.Commit.{is_changed, cells_after, committed}
 use Rattle.cr_cells.specs.Holding.{Holding, kept_of}
 use Rattle.cr_cells.specs.Marks.{Mark, marks_after}
 use Rattle.cr_store.specs.declared.outcome.Decision.{Decision}
 use Rattle.cr_store.specs.declared.outcome.Outcome.{Outcome}
 use Rattle.cr_store.specs.Plan.{put_all, without_all}
 use Rattle.cr_store.specs.Shows.{Shows}
-
-abbrev pub is_none : {X : Type 0} → List X → Bool
-is_none [] = true
-is_none (x ∷ xs) = false
 
 -- the cells that are left by what is to be written
 abbrev pub left_by : Decision → List Stamped → List Stamped
@@ -32,19 +26,6 @@ pub record IsDecided (h : Holding) (more : List Change) (d : Decision) : Type 0 
   pub version : d.version ≡ (if is_changed (kept_of h) more then h.version +ℤ pos 1 else h.version)
   pub to : (s : Stamped) → Has (left_by d h.cells) s → Has (cells_after h.cells more (h.version +ℤ pos 1)) s
   pub from : (s : Stamped) → Has (cells_after h.cells more (h.version +ℤ pos 1)) s → Has (left_by d h.cells) s
-
--- a commit is refused for want of versions where it would need one above the greatest, and this takes no memory
-abbrev pub StaysWithinLimit : Bool → ℤ → Result (Unit {0}) CellsError → Type 0
-StaysWithinLimit is_changed version (Ok u) = (is_changed && int_eq version greatest_version) ≡ false
-StaysWithinLimit is_changed version (Err error.Memory) = ⊥
-StaysWithinLimit is_changed version (Err (error.Store f)) = ⊥
-StaysWithinLimit is_changed version (Err error.VersionLimit) = (is_changed && int_eq version greatest_version) ≡ true
-
--- why a commit is refused
-abbrev pub IsUndecided : Holding → List Change → CellsError → Type 0
-IsUndecided h more error.Memory = Unit {0}
-IsUndecided h more (error.Store f) = f ≡ fault.Refused
-IsUndecided h more error.VersionLimit = is_past_limit h more ≡ true
 
 -- the database shows what is committed
 pub record HasCommitted (db : Database) (h : Holding) (more : List Change) (peer : Option Mark) (o : Outcome) : Type 0 where

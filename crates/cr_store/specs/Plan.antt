@@ -4,16 +4,12 @@ use Rattle.std.specs.List.{flat_map, list_any, AllByRecursion}
 use Rattle.cr_lattice.specs.declared.change.Change.{Change}
 use Rattle.cr_lattice.specs.declared.stamped.Stamped.{Stamped}
 use Rattle.cr_lattice.specs.Change.{beats}
-use Rattle.cr_lattice.specs.Keep.{has, is_beaten}
 use Rattle.cr_cells.specs.Holding.{changes_of}
+pub use Rattle.cr_cells.specs.Commit.{is_new}
 use Rattle.cr_cells.specs.Commit.{stamped}
 use Rattle.cr_store.specs.declared.plan.New.{New}
 use Rattle.cr_store.specs.declared.plan.Plan.{Plan}
 use Rattle.cr_store.specs.Words.{same_key, replaced}
-
--- the change is not kept, and no kept change beats it
-abbrev pub is_new : List Change → Change → Bool
-is_new kept c = not (has kept c) && not (is_beaten kept c)
 
 -- c beats d, which is of another cell
 abbrev pub removes : Change → Change → Bool

@@ -5,9 +5,10 @@ ghost use Rattle.std.specs.Ordering.{int_eq};
 ghost use Rattle.sqlite.specs.Held.{state};
 ghost use Rattle.sqlite.specs.State.{HasCleanDisk};
 ghost use Rattle.cr_lattice.specs.Keep.{keep};
+ghost use Rattle.cr_cells.specs.Calls.{is_want, UnlessWant};
 ghost use Rattle.cr_cells.specs.Commit.{greatest_version};
 ghost use Rattle.cr_cells.specs.Holding.{IsSound};
-ghost use Rattle.cr_store.specs.Committing.{is_none, StaysWithinLimit, IsDecided, HasCommitted, IsUndecided};
+ghost use Rattle.cr_store.specs.Committing.{is_none, IsDecided, HasCommitted, IsUndecided};
 ghost use Rattle.cr_store.specs.Kept.{holding_of};
 ghost use Rattle.cr_store.specs.Schema.{store_schema};
 ghost use Rattle.cr_store.specs.Shows.{Shows};
@@ -19,6 +20,7 @@ use crate::planning::plan;
 use crate::rows::refusal;
 use crate::writing::{is_marked, write_commit};
 use cr_cells::marks::{Mark, marks_after};
+use cr_cells::newly::stay_within_limit;
 use cr_cells::store::CellsError;
 use cr_lattice::change::Change;
 use cr_lattice::merge::merge;
@@ -33,23 +35,6 @@ fn stamp_after(version: i64) -> i64
         Some(next) => next,
         None => version,
     }
-}
-
-// Whether the commit would need a version above the greatest.
-fn is_past_limit(is_changed: bool, version: i64) -> bool
-    ensures { result ≡ (is_changed && int_eq version greatest_version) }
-{
-    is_changed && version == i64::MAX
-}
-
-// A commit is refused for want of versions where it would need one above the greatest. That takes no memory.
-fn stay_within_limit(is_changed: bool, version: i64) -> Result<(), CellsError>
-    ensures { StaysWithinLimit is_changed version result }
-{
-    if is_past_limit(is_changed, version) {
-        return Err(CellsError::VersionLimit);
-    }
-    Ok(())
 }
 
 fn version_after(is_changed: bool, stamp: i64, version: i64) -> i64
@@ -83,6 +68,7 @@ fn decide<S: Alter>(
         → MatchResult result (IsDecided (holding_of (state S.Store conn.old).now known.now) changes.now) (IsUndecided (holding_of (state S.Store conn.old).now known.now) changes.now) }
     ensures same { HasCleanDisk (state S.Store conn.new) → (state S.Store conn.old).now.schema ≡ store_schema
         → IsTrue (state S.Store conn.new).is_open → (state S.Store conn.new).now ≡ (state S.Store conn.old).now }
+    ensures opened { HasCleanDisk (state S.Store conn.new) → IsTrue (state S.Store conn.old).is_open → UnlessWant is_want result (IsTrue (state S.Store conn.new).is_open) }
     ensures was_open { HasCleanDisk (state S.Store conn.new) → IsTrue (state S.Store conn.new).is_open → IsTrue (state S.Store conn.old).is_open }
     ensures mode { conn.new.in_transaction ≡ false }
     ensures clean { HasCleanDisk (state S.Store conn.new) → HasCleanDisk (state S.Store conn.old) }
@@ -116,6 +102,7 @@ pub(crate) fn commit<S: Alter>(
     ensures done { HasCleanDisk (state S.Store conn.new) → IsTrue (state S.Store conn.new).is_open → Shows (state S.Store conn.old).now (holding_of (state S.Store conn.old).now known.now) → IsSound (holding_of (state S.Store conn.old).now known.now)
         → MatchResult result (HasCommitted (state S.Store conn.new).now (holding_of (state S.Store conn.old).now known.now) changes.now peer)
         (λ e. ((state S.Store conn.new).now ≡ (state S.Store conn.old).now) × IsUndecided (holding_of (state S.Store conn.old).now known.now) changes.now e) }
+    ensures opened { HasCleanDisk (state S.Store conn.new) → IsTrue (state S.Store conn.old).is_open → UnlessWant is_want result (IsTrue (state S.Store conn.new).is_open) }
     ensures was_open { HasCleanDisk (state S.Store conn.new) → IsTrue (state S.Store conn.new).is_open → IsTrue (state S.Store conn.old).is_open }
     ensures mode { conn.new.in_transaction ≡ false }
     ensures clean { HasCleanDisk (state S.Store conn.new) → HasCleanDisk (state S.Store conn.old) }

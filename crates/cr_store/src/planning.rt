@@ -1,16 +1,13 @@
 //! What a commit is to write, from the cells that it touches.
 
-ghost use Rattle.std.specs.Prelude.{◌≡◌, pos, length, [], ◌∷◌, ◌++◌, List, false, not, ◌&&◌, filter, map, IsTrue, IfOk, OnOk, MatchResult};
+ghost use Rattle.std.specs.Prelude.{◌≡◌, pos, length, [], ◌∷◌, ◌++◌, List, true, false, not, ◌&&◌, filter, map, IsTrue, IfOk, IfErr, OnOk, MatchResult};
 ghost use Rattle.std.specs.List.Sorted.{IsStrictlySortedBy};
 ghost use Rattle.sqlite.specs.Held.{state};
 ghost use Rattle.sqlite.specs.Order.{Row};
 ghost use Rattle.sqlite.specs.State.{HasCleanDisk};
-ghost use Rattle.std.specs.List.{list_any};
-ghost use Rattle.std.specs.Ordering.{eq_by_cmp};
-ghost use Rattle.cr_lattice.specs.Change.{change_cmp, beats};
 ghost use Rattle.cr_lattice.specs.declared.change.Change.{Change};
 ghost use Rattle.cr_lattice.specs.declared.stamped.Stamped.{Stamped};
-ghost use Rattle.cr_cells.specs.Calls.{IsRefusal};
+ghost use Rattle.cr_cells.specs.Calls.{IsRefusal, is_want};
 ghost use Rattle.cr_cells.specs.Holding.{changes_of, cell_cmp, cells_of};
 ghost use Rattle.cr_store.specs.Rows.{cell_row};
 ghost use Rattle.cr_store.specs.Schema.{store_schema};
@@ -20,6 +17,7 @@ ghost use Rattle.cr_store.specs.Words.{same_key};
 
 use crate::plan::{New, Plan};
 use crate::reads::cells_of;
+use cr_cells::newly::is_new;
 use cr_cells::store::CellsError;
 use cr_lattice::change::Change;
 use cr_lattice::order::beats;
@@ -34,24 +32,6 @@ fn same_key(a: &Change, b: &Change) -> bool
     same_bytes(a.table.as_str().as_bytes(), b.table.as_str().as_bytes())
         && same_bytes(a.pk.as_slice(), b.pk.as_slice())
         && same_bytes(a.cid.as_str().as_bytes(), b.cid.as_str().as_bytes())
-}
-
-fn is_kept(row: &[Stamped], change: &Change) -> bool
-    ensures { result ≡ list_any (λ s. eq_by_cmp change_cmp change.now s.change) row.now }
-{
-    row.iter().any(|cell| *change == cell.change)
-}
-
-fn is_beaten(row: &[Stamped], change: &Change) -> bool
-    ensures { result ≡ list_any (λ s. beats s.change change.now) row.now }
-{
-    row.iter().any(|cell| beats(&cell.change, change))
-}
-
-fn comes_in(row: &[Stamped], change: &Change) -> bool
-    ensures { result ≡ (not (list_any (λ s. eq_by_cmp change_cmp change.now s.change) row.now) && not (list_any (λ s. beats s.change change.now) row.now)) }
-{
-    !is_kept(row, change) && !is_beaten(row, change)
 }
 
 fn is_there(row: &[Stamped], change: &Change) -> bool
@@ -100,7 +80,7 @@ fn take(
     ensures { (ss : List Stamped) → (cs : List Change) → row.now ≡ cells_of ss change.now.table change.now.pk → IsPlan ss cs version plan.old
         → OnOk result (IsPlan ss (cs ++ change.now ∷ []) version plan.new) }
 {
-    if !comes_in(row, change) {
+    if !is_new(row, change) {
         return Ok(());
     }
     push_removed(alloc, &mut plan.gone, row, change)?;
@@ -129,6 +109,8 @@ pub(crate) fn plan<S: Alter>(
     requires mode { conn.old.in_transaction ≡ false }
     ensures planned { HasCleanDisk (state S.Store conn.new) → IsTrue (state S.Store conn.new).is_open → (a b d : List Row) → (ss : List Stamped) → Holds (state S.Store conn.old).now a b (map cell_row ss) d → IsStrictlySortedBy cell_cmp ss
         → MatchResult result (IsPlan ss changes.now version) IsRefusal }
+    ensures opened { HasCleanDisk (state S.Store conn.new) → IsTrue (state S.Store conn.old).is_open → OnOk result (IsTrue (state S.Store conn.new).is_open) }
+    ensures wants { IfErr result (λ e. is_want e ≡ true) }
     ensures same { HasCleanDisk (state S.Store conn.new) → (state S.Store conn.old).now.schema ≡ store_schema
         → IsTrue (state S.Store conn.new).is_open → (state S.Store conn.new).now ≡ (state S.Store conn.old).now }
     ensures was_open { HasCleanDisk (state S.Store conn.new) → IsTrue (state S.Store conn.new).is_open → IsTrue (state S.Store conn.old).is_open }

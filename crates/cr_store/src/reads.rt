@@ -1,6 +1,6 @@
 //! The cells that are read.
 
-ghost use Rattle.std.specs.Prelude.{◌≡◌, List, false, filter, map, int_lt, IfOk, IsTrue, MatchResult};
+ghost use Rattle.std.specs.Prelude.{◌≡◌, List, true, false, filter, map, int_lt, IfOk, IfErr, OnOk, IsTrue, MatchResult};
 ghost use Rattle.sqlite.specs.Held.{state};
 ghost use Rattle.sqlite.specs.Order.{Row};
 ghost use Rattle.sqlite.specs.State.{HasCleanDisk};
@@ -9,7 +9,7 @@ ghost use Rattle.std.specs.List.Sorted.{IsStrictlySortedBy};
 ghost use Rattle.cr_lattice.specs.Sets.{set_of};
 ghost use Rattle.cr_lattice.specs.declared.stamped.Stamped.{Stamped};
 ghost use Rattle.cr_cells.specs.Holding.{cell_cmp, stamp_cmp, since, cells_of};
-ghost use Rattle.cr_cells.specs.Calls.{IsRefusal};
+ghost use Rattle.cr_cells.specs.Calls.{IsRefusal, is_want};
 ghost use Rattle.cr_store.specs.Rows.{cell_row};
 ghost use Rattle.cr_store.specs.Schema.{store_schema};
 ghost use Rattle.cr_store.specs.Shows.{Holds};
@@ -38,6 +38,7 @@ pub(crate) fn cells_above<S: Alter>(
 ) -> Result<Vec<Stamped>, Error>
     ensures found { HasCleanDisk (state S.Store conn.new) → (a b d : List Row) → (ss : List Stamped) → Holds (state S.Store conn.old).now a b (map cell_row ss) d
         → IfOk result (λ cells. SameCells (filter (λ s. int_lt version s.version) ss) cells.items) }
+    ensures opened { HasCleanDisk (state S.Store conn.new) → OnOk result (IsTrue (state S.Store conn.new).is_open) }
     ensures same { HasCleanDisk (state S.Store conn.new) → (state S.Store conn.old).now.schema ≡ store_schema → (state S.Store conn.old).now ≡ (state S.Store conn.old).committed
         → IsTrue (state S.Store conn.new).is_open → (state S.Store conn.new).now ≡ (state S.Store conn.old).now }
     ensures was_open { HasCleanDisk (state S.Store conn.new) → IsTrue (state S.Store conn.new).is_open → IsTrue (state S.Store conn.old).is_open }
@@ -57,6 +58,7 @@ pub(crate) fn cells_of_row<'a, S: Alter>(
 ) -> Result<Vec<Stamped>, Error>
     ensures found { HasCleanDisk (state S.Store conn.new) → (a b d : List Row) → (ss : List Stamped) → Holds (state S.Store conn.old).now a b (map cell_row ss) d
         → IfOk result (λ cells. SameCells (filter (λ s. is_of_row table.now pk.now s.change) ss) cells.items) }
+    ensures opened { HasCleanDisk (state S.Store conn.new) → OnOk result (IsTrue (state S.Store conn.new).is_open) }
     ensures same { HasCleanDisk (state S.Store conn.new) → (state S.Store conn.old).now.schema ≡ store_schema → (state S.Store conn.old).now ≡ (state S.Store conn.old).committed
         → IsTrue (state S.Store conn.new).is_open → (state S.Store conn.new).now ≡ (state S.Store conn.old).now }
     ensures was_open { HasCleanDisk (state S.Store conn.new) → IsTrue (state S.Store conn.new).is_open → IsTrue (state S.Store conn.old).is_open }
@@ -114,6 +116,8 @@ pub(crate) fn since<S: Alter>(
 ) -> Result<Vec<Stamped>, CellsError>
     ensures found { HasCleanDisk (state S.Store conn.new) → (a b d : List Row) → (ss : List Stamped) → Holds (state S.Store conn.old).now a b (map cell_row ss) d
         → MatchResult result (λ cells. cells.items ≡ since ss version) IsRefusal }
+    ensures opened { HasCleanDisk (state S.Store conn.new) → OnOk result (IsTrue (state S.Store conn.new).is_open) }
+    ensures wants { IfErr result (λ e. is_want e ≡ true) }
     ensures same { HasCleanDisk (state S.Store conn.new) → (state S.Store conn.old).now.schema ≡ store_schema → (state S.Store conn.old).now ≡ (state S.Store conn.old).committed
         → IsTrue (state S.Store conn.new).is_open → (state S.Store conn.new).now ≡ (state S.Store conn.old).now }
     ensures was_open { HasCleanDisk (state S.Store conn.new) → IsTrue (state S.Store conn.new).is_open → IsTrue (state S.Store conn.old).is_open }
@@ -135,6 +139,8 @@ pub(crate) fn cells_of<'a, S: Alter>(
 ) -> Result<Vec<Stamped>, CellsError>
     ensures found { HasCleanDisk (state S.Store conn.new) → (a b d : List Row) → (ss : List Stamped) → Holds (state S.Store conn.old).now a b (map cell_row ss) d → IsStrictlySortedBy cell_cmp ss
         → MatchResult result (λ cells. cells.items ≡ cells_of ss table.now pk.now) IsRefusal }
+    ensures opened { HasCleanDisk (state S.Store conn.new) → OnOk result (IsTrue (state S.Store conn.new).is_open) }
+    ensures wants { IfErr result (λ e. is_want e ≡ true) }
     ensures same { HasCleanDisk (state S.Store conn.new) → (state S.Store conn.old).now.schema ≡ store_schema → (state S.Store conn.old).now ≡ (state S.Store conn.old).committed
         → IsTrue (state S.Store conn.new).is_open → (state S.Store conn.new).now ≡ (state S.Store conn.old).now }
     ensures was_open { HasCleanDisk (state S.Store conn.new) → IsTrue (state S.Store conn.new).is_open → IsTrue (state S.Store conn.old).is_open }

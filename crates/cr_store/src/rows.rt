@@ -1,11 +1,11 @@
 //! The rows of `cr_cell`: what is written and read.
 
-ghost use Rattle.std.specs.Prelude.{◌≡◌, [], ◌∷◌, ◌++◌, map, IfOk, OnOk};
+ghost use Rattle.std.specs.Prelude.{◌≡◌, true, [], ◌∷◌, ◌++◌, map, IfOk, OnOk};
 ghost use Rattle.sqlite.specs.declared.types.Value.TheVariants.{Null as SqlNull, Text as SqlText, Blob as SqlBlob, Int as SqlInt};
 ghost use Rattle.sqlite.specs.Values.{bound, bound_value};
 ghost use Rattle.sqlite_value.specs.Order.{column};
 ghost use Rattle.sqlite_value.specs.Value.{owned};
-ghost use Rattle.cr_cells.specs.Calls.{IsRefusal};
+ghost use Rattle.cr_cells.specs.Calls.{IsRefusal, is_want};
 ghost use Rattle.cr_store.specs.Rows.{value_of, cell_row, cell_of, value_in};
 
 use cr_cells::store::{CellsError, StoreFault};
@@ -23,7 +23,8 @@ pub(crate) const OUT_OF_MEMORY: Error = Error::SqliteFailure(ErrorCode::OutOfMem
 
 /// What an error of sqlite is to a caller: want of memory is `Memory`, whatever else sqlite refuses is `Refused`.
 pub(crate) fn refusal(error: Error) -> CellsError
-    ensures { IsRefusal result }
+    ensures refusal { IsRefusal result }
+    ensures wants { is_want result ≡ true }
 {
     match error {
         Error::SqliteFailure(ErrorCode::OutOfMemory) => CellsError::Memory,

@@ -5,7 +5,7 @@ ghost use Rattle.std.specs.Option.{ForSome};
 ghost use Rattle.sqlite.specs.Held.{state};
 ghost use Rattle.sqlite.specs.State.{HasCleanDisk};
 ghost use Rattle.cr_rows.specs.Schema.{no_schema};
-ghost use Rattle.cr_cells.specs.Calls.{IsRefusal, Reads, Defines, Commits};
+ghost use Rattle.cr_cells.specs.Calls.{IsRefusal, Reads, Defines, Commits, is_want, UnlessWant};
 ghost use Rattle.cr_cells.specs.Holding.{empty_holding, IsSound, since, cells_of};
 ghost use Rattle.cr_cells.specs.Tables.{AreWellFormed, IsNewTable, has_defaults, with_table, with_replicated, is_markable};
 ghost use Rattle.cr_store.specs.Making.{has_store, IsRefused};
@@ -154,7 +154,9 @@ impl<S: Alter> Store<S> {
     fn add(&mut self, alloc: Global, def: &TableDef, is_replicated: bool) -> Result<(), CellsError>
         requires is_new { IsClean S.Store self.old.0 → IsNewTable (holding_of (state S.Store self.old.0).now self.old.1).tables def.now }
         requires defaults { is_replicated ≡ true → has_defaults def.now ≡ true }
+        ensures was_honest { HasCleanDisk (state S.Store self.new.0) → HasCleanDisk (state S.Store self.old.0) }
         ensures was_clean { IsClean S.Store self.new.0 → IsClean S.Store self.old.0 }
+        ensures stays_clean { HasCleanDisk (state S.Store self.new.0) → IsClean S.Store self.old.0 → UnlessWant is_want result (IsClean S.Store self.new.0) }
         ensures sound { IsClean S.Store self.new.0 → IsSound (holding_of (state S.Store self.new.0).now self.new.1) }
         ensures defines { IsClean S.Store self.new.0 → Defines (holding_of (state S.Store self.old.0).now self.old.1) (holding_of (state S.Store self.new.0).now self.new.1) result
             (record (holding_of (state S.Store self.old.0).now self.old.1) { tables = with_table (holding_of (state S.Store self.old.0).now self.old.1).tables def.now is_replicated }) }
@@ -181,7 +183,9 @@ impl<S: Alter> Store<S> {
 
     fn mark(&mut self, alloc: Global, name: &str) -> Result<(), CellsError>
         requires { IsClean S.Store self.old.0 → is_markable name.now (holding_of (state S.Store self.old.0).now self.old.1).tables ≡ true }
+        ensures was_honest { HasCleanDisk (state S.Store self.new.0) → HasCleanDisk (state S.Store self.old.0) }
         ensures was_clean { IsClean S.Store self.new.0 → IsClean S.Store self.old.0 }
+        ensures stays_clean { HasCleanDisk (state S.Store self.new.0) → IsClean S.Store self.old.0 → UnlessWant is_want result (IsClean S.Store self.new.0) }
         ensures sound { IsClean S.Store self.new.0 → IsSound (holding_of (state S.Store self.new.0).now self.new.1) }
         ensures defines { IsClean S.Store self.new.0 → Defines (holding_of (state S.Store self.old.0).now self.old.1) (holding_of (state S.Store self.new.0).now self.new.1) result
             (record (holding_of (state S.Store self.old.0).now self.old.1) { tables = with_replicated name.now (holding_of (state S.Store self.old.0).now self.old.1).tables }) }
@@ -198,7 +202,9 @@ impl<S: Alter> Store<S> {
     }
 
     fn read_since(&mut self, alloc: Global, version: i64) -> Result<Vec<Stamped>, CellsError>
+        ensures was_honest { HasCleanDisk (state S.Store self.new.0) → HasCleanDisk (state S.Store self.old.0) }
         ensures was_clean { IsClean S.Store self.new.0 → IsClean S.Store self.old.0 }
+        ensures stays_clean { HasCleanDisk (state S.Store self.new.0) → IsClean S.Store self.old.0 → UnlessWant is_want result (IsClean S.Store self.new.0) }
         ensures sound { IsClean S.Store self.new.0 → IsSound (holding_of (state S.Store self.new.0).now self.new.1) }
         ensures reads { IsClean S.Store self.new.0 → Reads (holding_of (state S.Store self.old.0).now self.old.1) (holding_of (state S.Store self.new.0).now self.new.1) result
             (λ cells. cells.items ≡ since (holding_of (state S.Store self.old.0).now self.old.1).cells version) }
@@ -213,7 +219,9 @@ impl<S: Alter> Store<S> {
         table: &'a str,
         pk: &'a [u8],
     ) -> Result<Vec<Stamped>, CellsError>
+        ensures was_honest { HasCleanDisk (state S.Store self.new.0) → HasCleanDisk (state S.Store self.old.0) }
         ensures was_clean { IsClean S.Store self.new.0 → IsClean S.Store self.old.0 }
+        ensures stays_clean { HasCleanDisk (state S.Store self.new.0) → IsClean S.Store self.old.0 → UnlessWant is_want result (IsClean S.Store self.new.0) }
         ensures sound { IsClean S.Store self.new.0 → IsSound (holding_of (state S.Store self.new.0).now self.new.1) }
         ensures reads { IsClean S.Store self.new.0 → Reads (holding_of (state S.Store self.old.0).now self.old.1) (holding_of (state S.Store self.new.0).now self.new.1) result
             (λ cells. cells.items ≡ cells_of (holding_of (state S.Store self.old.0).now self.old.1).cells table.now pk.now) }
@@ -230,7 +238,9 @@ impl<S: Alter> Store<S> {
     ) -> Result<bool, CellsError>
         requires well_formed { IsClean S.Store self.old.0 → AreWellFormed (holding_of (state S.Store self.old.0).now self.old.1).tables changes.now }
         requires from_0 { ForSome peer (λ mark. pos 0 ≤ℤ mark.1) }
+        ensures was_honest { HasCleanDisk (state S.Store self.new.0) → HasCleanDisk (state S.Store self.old.0) }
         ensures was_clean { IsClean S.Store self.new.0 → IsClean S.Store self.old.0 }
+        ensures stays_clean { HasCleanDisk (state S.Store self.new.0) → IsClean S.Store self.old.0 → UnlessWant is_want result (IsClean S.Store self.new.0) }
         ensures sound { IsClean S.Store self.new.0 → IsSound (holding_of (state S.Store self.new.0).now self.new.1) }
         ensures commits { IsClean S.Store self.new.0 → Commits (holding_of (state S.Store self.old.0).now self.old.1) (holding_of (state S.Store self.new.0).now self.new.1) changes.now peer result }
     {
@@ -249,6 +259,8 @@ impl<S: Alter + Drop> Cells for Store<S> {
     ghost use Rattle.cr_store.specs.Kept.{IsClean, holding_of};
 
     ghost holding = { λ v. holding_of (state S.Store v.0).now v.1 };
+
+    ghost is_honest = { λ v. HasCleanDisk (state S.Store v.0) };
 
     ghost is_clean = { λ v. IsClean S.Store v.0 };
 

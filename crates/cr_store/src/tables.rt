@@ -82,6 +82,7 @@ pub(crate) fn add_table<'a, S: Alter>(
     requires settled { IsTrue (state S.Store conn.old).is_open → (state S.Store conn.old).now ≡ (state S.Store conn.old).committed }
     ensures put { HasCleanDisk (state S.Store conn.new) → (a b c d : List Row) → Holds (state S.Store conn.old).now a b c d
         → OnOk result (Holds (state S.Store conn.new).now a ((SqlText name.now ∷ SqlInt ordinal ∷ SqlInt crr ∷ SqlBlob definition.now ∷ []) ∷ b) c d) }
+    ensures opened { HasCleanDisk (state S.Store conn.new) → OnOk result (IsTrue (state S.Store conn.new).is_open) }
     ensures same { HasCleanDisk (state S.Store conn.new) → IsTrue (state S.Store conn.new).is_open → OnErr result ((state S.Store conn.new).now ≡ (state S.Store conn.old).now) }
     ensures auto { conn.new.in_transaction ≡ false }
     ensures clean { HasCleanDisk (state S.Store conn.new) → HasCleanDisk (state S.Store conn.old) }
@@ -99,6 +100,7 @@ pub(crate) fn replicate<S: Alter>(conn: &mut Connection<S>, name: &str) -> Resul
     requires settled { IsTrue (state S.Store conn.old).is_open → (state S.Store conn.old).now ≡ (state S.Store conn.old).committed }
     ensures set { HasCleanDisk (state S.Store conn.new) → (a c d : List Row) → (tables : List Table) → Holds (state S.Store conn.old).now a (table_rows 1 tables) c d
         → OnOk result (Holds (state S.Store conn.new).now a (table_rows 1 (with_replicated name.now tables)) c d) }
+    ensures opened { HasCleanDisk (state S.Store conn.new) → OnOk result (IsTrue (state S.Store conn.new).is_open) }
     ensures same { HasCleanDisk (state S.Store conn.new) → IsTrue (state S.Store conn.new).is_open → OnErr result ((state S.Store conn.new).now ≡ (state S.Store conn.old).now) }
     ensures auto { conn.new.in_transaction ≡ false }
     ensures clean { HasCleanDisk (state S.Store conn.new) → HasCleanDisk (state S.Store conn.old) }

@@ -143,6 +143,7 @@ pub(crate) fn write_commit<S: Alter>(
     requires settled { IsTrue (state S.Store conn.old).is_open → (state S.Store conn.old).now ≡ (state S.Store conn.old).committed }
     ensures put { HasCleanDisk (state S.Store conn.new) → (site : List ℕ) → (old : ℤ) → (b : List Row) → (ss : List Stamped) → (marks : List Mark) → IsTold mark is_there marks → Holds (state S.Store conn.old).now (meta_rows site old) b (map cell_row ss) (map mark_row marks)
         → OnOk result (Holds (state S.Store conn.new).now (meta_rows site version) b (map cell_row (without_all stamp plan.now.gone.items (put_all plan.now.news.items ss))) (map mark_row (marks_after marks mark))) }
+    ensures opened { HasCleanDisk (state S.Store conn.new) → OnOk result (IsTrue (state S.Store conn.new).is_open) }
     ensures same { HasCleanDisk (state S.Store conn.new) → IsTrue (state S.Store conn.new).is_open → OnErr result ((state S.Store conn.new).now ≡ (state S.Store conn.old).now) }
     ensures auto { conn.new.in_transaction ≡ false }
     ensures clean { HasCleanDisk (state S.Store conn.new) → HasCleanDisk (state S.Store conn.old) }

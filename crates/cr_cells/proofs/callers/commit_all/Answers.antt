@@ -16,6 +16,8 @@ loop-batch-preserved g c =
     let i = c.loop-batch.batch-index in
     let cut = ap (λ b. take i bs ++ b ∷ []) c.batch-item.is ∙ sym (take_more bs i c.batch-item.result c.loop-batch-test.true) in
     record {
+      was_honest = λ honest. c.loop-batch.invariant.was_honest (c.commit.ensures.was_honest honest);
+      stays_clean = λ honest clean. c.in_ok-commit.ensures.stays_clean honest (c.loop-batch.invariant.stays_clean (c.commit.ensures.was_honest honest) clean);
       was_clean = λ clean. c.loop-batch.invariant.was_clean (c.in_ok-commit.ensures.was_clean clean);
       tables = λ clean. ap (λ (h : Holding). h.tables) (c.in_ok-commit.ensures.commits clean).0 ∙ c.loop-batch.invariant.tables (c.in_ok-commit.ensures.was_clean clean);
       sound = c.in_ok-commit.ensures.sound;

@@ -7,6 +7,8 @@ use Rattle.cr_cells.proofs.callers.commit_all.Given as goal
 
 abbrev pub invariant-loop-batch : goal.invariant-loop-batch
 invariant-loop-batch g l = record {
+  was_honest : g.C.Cells.is_honest l.cells → g.C.Cells.is_honest l.fn.cells;
+  stays_clean : g.C.Cells.is_honest l.cells → g.C.Cells.is_clean l.fn.cells → g.C.Cells.is_clean l.cells;
   was_clean : g.C.Cells.is_clean l.cells → g.C.Cells.is_clean l.fn.cells;
   tables : g.C.Cells.is_clean l.cells → (g.C.Cells.holding l.cells).tables ≡ (g.C.Cells.holding l.fn.cells).tables;
   sound : g.C.Cells.is_clean l.cells → IsSound (g.C.Cells.holding l.cells);

@@ -30,6 +30,7 @@ loop-change-preserved g c =
       mode = read.mode was.mode;
       clean = λ clean. was.clean (read.clean clean);
       was_open = λ clean it. was.was_open (read.clean clean) (read.was_open clean it);
+      opened = λ clean it. c.in_ok-row.ensures.opened clean;
       same = λ clean schema it.
           let early = read.clean clean in
           let was_open = read.was_open clean it in

@@ -19,6 +19,7 @@ invariant-loop-change g l =
       mode : l.conn.in_transaction ≡ false;
       clean : HasCleanDisk new → HasCleanDisk old;
       was_open : HasCleanDisk new → IsTrue new.is_open → IsTrue old.is_open;
+      opened : HasCleanDisk new → IsTrue old.is_open → IsTrue new.is_open;
       same : HasCleanDisk new → old.now.schema ≡ store_schema → IsTrue new.is_open → new.now ≡ old.now;
       planned : HasCleanDisk new → IsTrue new.is_open → (a b d : List Row) → (ss : List Stamped) → Holds old.now a b (map cell_row ss) d → IsStrictlySortedBy cell_cmp ss
           → IsPlan ss (take l.change-index l.changes) l.version l.plan;

@@ -8,7 +8,7 @@ use Rattle.cr_rows.specs.Rows.{SameRows}
 use Rattle.cr_store.specs.Rows.{cell_row}
 use Rattle.cr_store.proofs.TextLemmas.{select_since, since_plain}
 use Rattle.cr_store.proofs.ReadLemmas.{shows_since, same_cells}
-use Rattle.cr_store.proofs.StoreLemmas.{if_then}
+use Rattle.cr_store.proofs.StoreLemmas.{if_then, on_ok, shown_open}
 use Rattle.cr_store.proofs.reads.cells_above.Goals as goal
 
 pub returns-in_err-rows-clause-same : goal.returns-in_err-rows-clause-same
@@ -24,3 +24,7 @@ returns-clause-found g c clean a b d ss it =
     let shown = simp (to_z-of_z w64 c.args.version c.ranges.version) at (c.in_ok-rows.ensures.found clean) in
     let found : SameRows (map cell_row (filter (λ s. int_lt c.args.version s.version) ss)) c.deref.result.now = rw c.deref.ensures.value (shows_since old new a b d ss c.args.version _ it shown) in
     if_then c.read_cells.result _ _ (λ cells is. same_cells (filter (λ s. int_lt c.args.version s.version) ss) c.deref.result.now cells.items found is) c.read_cells.ensures
+
+pub returns-clause-opened : goal.returns-clause-opened
+returns-clause-opened g c clean =
+    on_ok c.read_cells.result _ (shown_open (state g.S.Store c.args.conn.now) (state g.S.Store c.ask.new.conn) _ _ _ (c.in_ok-rows.ensures.found clean))

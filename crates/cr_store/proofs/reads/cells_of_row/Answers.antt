@@ -7,7 +7,7 @@ use Rattle.cr_rows.specs.Rows.{SameRows}
 use Rattle.cr_store.specs.Rows.{cell_row}
 use Rattle.cr_store.proofs.TextLemmas.{select_row, row_plain}
 use Rattle.cr_store.proofs.ReadLemmas.{shows_row, same_cells}
-use Rattle.cr_store.proofs.StoreLemmas.{if_then}
+use Rattle.cr_store.proofs.StoreLemmas.{if_then, on_ok, shown_open}
 use Rattle.cr_store.proofs.reads.cells_of_row.Goals as goal
 
 pub returns-in_err-rows-clause-same : goal.returns-in_err-rows-clause-same
@@ -23,3 +23,7 @@ returns-clause-found g c clean a b d ss it =
     let shown = rw c.as_bytes.ensures.value at (c.in_ok-rows.ensures.found clean) in
     let found : SameRows (map cell_row (filter (λ s. is_of_row c.args.table.now c.args.pk.now s.change) ss)) c.deref.result.now = rw c.deref.ensures.value (shows_row old new a b d ss c.args.table.now c.args.pk.now _ it shown) in
     if_then c.read_cells.result _ _ (λ cells is. same_cells (filter (λ s. is_of_row c.args.table.now c.args.pk.now s.change) ss) c.deref.result.now cells.items found is) c.read_cells.ensures
+
+pub returns-clause-opened : goal.returns-clause-opened
+returns-clause-opened g c clean =
+    on_ok c.read_cells.result _ (shown_open (state g.S.Store c.args.conn.now) (state g.S.Store c.ask.new.conn) _ _ _ (c.in_ok-rows.ensures.found clean))

@@ -10,7 +10,7 @@ add_replicated-requires-clause-is_new g c = λ clean.
     let def = c.args.def.now in
     let read = c.in-Ok.ensures.reads clean in
     let tables = c.deref.ensures.value ∙ read.answers ∙ sym (ap (λ (h : Holding). h.tables) read.same) in
-    subst (λ (ts : List Table). IsNewTable ts def) tables (accepted_is_new c.deref.result.now def c.requires c.in_ok-accept.ensures)
+    subst (λ (ts : List Table). IsNewTable ts def) tables (accepted_is_new _ c.deref.result.now def c.requires c.in_ok-accept.ensures)
 
 pub add_replicated-requires-clause-defaults : goal.add_replicated-requires-clause-defaults
-add_replicated-requires-clause-defaults g c = accepted_has_defaults c.deref.result.now c.args.def.now c.in_ok-accept.ensures
+add_replicated-requires-clause-defaults g c = accepted_has_defaults _ c.deref.result.now c.args.def.now c.in_ok-accept.ensures

@@ -11,7 +11,7 @@ returns-in_default-declaration g c =
     let at : slice_get replicas.items c.in_ok-at.at ≡ Some c.in-Some.named.now = slice_get-get_or replicas.items c.in_ok-at.at c.in-Some.named.now within ∙ ap Some (sym c.in-Some.ensures.value) in
     let paired = pair_at g.C.Cells.is_clean g.C.Cells.holding replicas.items c.in_ok-at.at c.in-Some.named.now at in
     rw c.in_default-declaration.is (rw (← c.self.view_is) (viewed g.C.Cells.is_clean g.C.Cells.holding replicas.items c.self.inside.in_use c.in_ok-at.at _ _ _
-    (define_real g.C.Cells.is_clean g.C.Cells.holding _ c.in_ok-at.at _ _ (search rules) paired refl (λ clean. clean) refl)))
+    (define_real g.C.Cells.is_clean g.C.Cells.holding _ c.in_ok-at.at _ _ (search rules) paired refl (λ clean. clean) (λ clean. clean) refl)))
 
 pub returns : goal.returns
 returns g c =
@@ -22,7 +22,7 @@ returns g c =
     let ready = rw c.in-Table.is at c.requires in
     elim c.match-define.branch [
       | in-Ok w ↦ rw w.result-is (rw c.in-Table.is (rw (← c.self.view_is) (viewed g.C.Cells.is_clean g.C.Cells.holding replicas.items c.self.inside.in_use c.in_ok-at.at _ _ _
-          (define_ok g.C.Cells.is_clean g.C.Cells.holding _ c.in_ok-at.at _ _ (search rules) paired refl c.define.ensures.was_clean c.in-Table.def ready w.in-Ok.ensures.defines))))
+          (define_ok g.C.Cells.is_clean g.C.Cells.holding _ c.in_ok-at.at _ _ (search rules) paired refl c.define.ensures.was_clean c.in-Table.def ready (λ clean. w.in-Ok.ensures.stays_clean (g.met.C.NewCells.always_honest _) clean) w.in-Ok.ensures.defines))))
       | in-Err w ↦ rw w.result-is (rw c.in-Table.is (rw (← c.self.view_is) (viewed g.C.Cells.is_clean g.C.Cells.holding replicas.items c.self.inside.in_use c.in_ok-at.at _ _ _
-          (define_err g.C.Cells.is_clean g.C.Cells.holding _ c.in_ok-at.at _ _ (search rules) paired refl c.define.ensures.was_clean c.in-Table.def ready w.in-Err.error w.of_definition.result w.in-Err.ensures.defines w.of_definition.ensures.told))))
+          (define_err g.C.Cells.is_clean g.C.Cells.holding _ c.in_ok-at.at _ _ (search rules) paired refl c.define.ensures.was_clean c.in-Table.def ready w.in-Err.error w.of_definition.result (λ clean. w.in-Err.ensures.stays_clean (g.met.C.NewCells.always_honest _) clean) w.in-Err.ensures.defines w.of_definition.ensures.told))))
     ]

@@ -17,7 +17,7 @@ returns g c =
     let place = place_paired g.C.Cells.is_clean g.C.Cells.holding replicas.items c.self.inside.in_use c.args.name.now (Some c.in-Some.at) (search rules) in
     elim c.match-offer.branch [
       | in-Ok w ↦ rw w.result-is (rw (← c.self.view_is) (viewed_offers g.C.Cells.is_clean g.C.Cells.holding replicas.items c.self.inside.in_use c.in-Some.at _ c.args.name.now _
-          (offer_ok g.C.Cells.is_clean g.C.Cells.holding _ c.args.name.now c.in-Some.at _ _ place paired refl c.offer.ensures.was_clean w.in-Ok.offer c.offer.ensures.sound w.in-Ok.ensures.reads)))
+          (offer_ok g.C.Cells.is_clean g.C.Cells.holding _ c.args.name.now c.in-Some.at _ _ place paired refl c.offer.ensures.was_clean w.in-Ok.offer (λ clean. w.in-Ok.ensures.stays_clean (g.met.C.NewCells.always_honest _) clean) c.offer.ensures.sound w.in-Ok.ensures.reads)))
       | in-Err w ↦ rw w.result-is (rw w.from.ensures (rw (← c.self.view_is) (viewed_offers g.C.Cells.is_clean g.C.Cells.holding replicas.items c.self.inside.in_use c.in-Some.at _ c.args.name.now _
-          (offer_err g.C.Cells.is_clean g.C.Cells.holding _ c.args.name.now c.in-Some.at _ _ place paired refl c.offer.ensures.was_clean w.in-Err.error w.in-Err.ensures.reads))))
+          (offer_err g.C.Cells.is_clean g.C.Cells.holding _ c.args.name.now c.in-Some.at _ _ place paired refl c.offer.ensures.was_clean w.in-Err.error (λ clean. w.in-Err.ensures.stays_clean (g.met.C.NewCells.always_honest _) clean) w.in-Err.ensures.reads))))
     ]

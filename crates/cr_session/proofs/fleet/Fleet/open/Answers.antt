@@ -78,4 +78,4 @@ returns g c =
     let copied : c.in_ok-name.name ≡ c.args.name.now = search rules in
     let at : c.len-at.result ≡ length replicas.items = (let l = c.len-at.ensures in let n = replicas.ok.0 in omega arith) in
     let free_site = site_paired g.C.Cells.is_clean g.C.Cells.holding replicas.items c.args.site false (λ clean. sym c.if-has_site.false ∙ rw c.deref.ensures.value at (c.has_site.ensures (subst (AllByRecursion (λ r. g.C.Cells.is_clean r.replica)) (sym c.deref.ensures.value) clean))) c.self.inside.in_use in
-    rw (← c.self.view_is) (opened g.C.Cells.is_clean g.C.Cells.holding replicas.items c.push.new.self.items c.self.inside.in_use c.len-at.result named c.args.name.now c.args.site pushed copied at (rw (← c.self.view_is) at free) (room_paired g.C.Cells.is_clean g.C.Cells.holding replicas.items c.args.site room) free_site c.in-Ok.ensures.made)
+    rw (← c.self.view_is) (opened g.C.Cells.is_clean g.C.Cells.holding replicas.items c.push.new.self.items c.self.inside.in_use c.len-at.result named c.args.name.now c.args.site pushed copied at (rw (← c.self.view_is) at free) (room_paired g.C.Cells.is_clean g.C.Cells.holding replicas.items c.args.site room) free_site c.in-Ok.ensures.made c.in-Ok.ensures.clean)

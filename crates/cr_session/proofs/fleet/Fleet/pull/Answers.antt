@@ -23,7 +23,7 @@ returns-in-Ok-take_offer g c =
     let used : c.self.inside.in_use ≡ Some c.in_ok-at.at = search rules in
     let place : c.self-2.inside.in_use ≡ Some c.in_ok-at.at = offers.in_use ∙ ap (λ (f : FleetOf g.row.C.Denot). f.1) (sym c.self.view_is) ∙ used in
     rw (map_set pair replicas.items c.in_ok-at.at _) (
-    pull_ok g.C.Cells.is_clean g.C.Cells.holding c.args.self.now (map pair replicas.items, c.self-2.inside.in_use) c.args.name.now c.in-Ok.offer offers c.in_ok-at.at _ _ place paired refl c.take_offer.ensures.was_clean c.in-Ok-take_offer.ensures.pulls c.in-Ok-take_offer.ensures.joins)
+    pull_ok g.C.Cells.is_clean g.C.Cells.holding c.args.self.now (map pair replicas.items, c.self-2.inside.in_use) c.args.name.now c.in-Ok.offer offers c.in_ok-at.at _ _ place paired refl c.take_offer.ensures.was_clean (λ clean. c.in-Ok-take_offer.ensures.stays_clean (g.met.C.NewCells.always_honest _) clean) c.in-Ok-take_offer.ensures.pulls c.in-Ok-take_offer.ensures.joins)
 
 pub returns : goal.returns
 returns g c =
@@ -35,4 +35,4 @@ returns g c =
     let used : c.self.inside.in_use ≡ Some c.in_ok-at.at = search rules in
     let place : c.self-2.inside.in_use ≡ Some c.in_ok-at.at = offers.in_use ∙ ap (λ (f : FleetOf g.row.C.Denot). f.1) (sym c.self.view_is) ∙ used in
     rw c.from.ensures (rw (map_set pair replicas.items c.in_ok-at.at _) (
-    pull_err g.C.Cells.is_clean g.C.Cells.holding c.args.self.now (map pair replicas.items, c.self-2.inside.in_use) c.args.name.now c.in-Ok.offer offers c.in_ok-at.at _ _ place paired refl c.take_offer.ensures.was_clean c.in-Err-take_offer.error c.in-Err-take_offer.ensures.pulls c.in-Err-take_offer.ensures.refused))
+    pull_err g.C.Cells.is_clean g.C.Cells.holding c.args.self.now (map pair replicas.items, c.self-2.inside.in_use) c.args.name.now c.in-Ok.offer offers c.in_ok-at.at _ _ place paired refl c.take_offer.ensures.was_clean c.in-Err-take_offer.error (λ clean. c.in-Err-take_offer.ensures.stays_clean (g.met.C.NewCells.always_honest _) clean) c.in-Err-take_offer.ensures.pulls c.in-Err-take_offer.ensures.refused))

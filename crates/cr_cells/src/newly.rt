@@ -1,0 +1,119 @@
+//! What a commit would bring in, told before it is made.
+
+ghost use Rattle.std.specs.Prelude.{◌≡◌, [], ◌∷◌, ◌++◌, not, ◌&&◌, filter, OnOk};
+ghost use Rattle.std.specs.List.{list_any};
+ghost use Rattle.std.specs.Ordering.{eq_by_cmp, int_eq};
+ghost use Rattle.cr_lattice.specs.Change.{change_cmp, beats};
+ghost use Rattle.cr_cells.specs.Holding.{kept_of, IsSound};
+ghost use Rattle.cr_cells.specs.Commit.{newly_kept, is_new, is_new_in, is_none, greatest_version};
+ghost use Rattle.cr_cells.specs.Calls.{Reads, Foresees, StaysWithinLimit, is_want, UnlessWant};
+
+use crate::store::{Cells, CellsError};
+use cr_lattice::change::Change;
+use cr_lattice::merge::merge;
+use cr_lattice::order::beats;
+use cr_lattice::stamped::Stamped;
+use std::alloc::{AllocError, Global};
+
+fn is_kept(row: &[Stamped], change: &Change) -> bool
+    ensures { result ≡ list_any (λ s. eq_by_cmp change_cmp change.now s.change) row.now }
+{
+    row.iter().any(|cell| *change == cell.change)
+}
+
+fn is_beaten(row: &[Stamped], change: &Change) -> bool
+    ensures { result ≡ list_any (λ s. beats s.change change.now) row.now }
+{
+    row.iter().any(|cell| beats(&cell.change, change))
+}
+
+/// Whether a change is new to the cells of its row: none of them is it or beats it.
+pub fn is_new(row: &[Stamped], change: &Change) -> bool
+    ensures { result ≡ is_new_in row.now change.now }
+{
+    !is_kept(row, change) && !is_beaten(row, change)
+}
+
+fn push_new(
+    alloc: Global,
+    news: &mut Vec<Change>,
+    row: &[Stamped],
+    change: &Change,
+) -> Result<(), AllocError>
+    ensures { OnOk result (news.new.items ≡ news.old.items ++ filter (is_new_in row.now) (change.now ∷ [])) }
+{
+    if is_new(row, change) {
+        news.push(change.copy(alloc)?)?;
+    }
+    Ok(())
+}
+
+// The changes that come in, of changes of which none beats another.
+fn news_of<C: Cells>(
+    alloc: Global,
+    cells: &mut C,
+    wanted: &[Change],
+) -> Result<Vec<Change>, CellsError>
+    ensures was_honest { C.is_honest cells.new → C.is_honest cells.old }
+    ensures was_clean { C.is_clean cells.new → C.is_clean cells.old }
+    ensures stays_clean { C.is_honest cells.new → C.is_clean cells.old → UnlessWant is_want result (C.is_clean cells.new) }
+    ensures reads { C.is_clean cells.new → Reads (C.holding cells.old) (C.holding cells.new) result
+        (λ news. news.items ≡ filter (is_new (kept_of (C.holding cells.old))) wanted.now) }
+{
+    let mut news = Vec::new(alloc);
+    for change in wanted {
+        let row = cells.cells_of(alloc, change.table.as_str(), change.pk.as_slice())?;
+        push_new(alloc, &mut news, &row, change)?;
+    }
+    Ok(news)
+}
+
+// Whether the commit would need a version above the greatest.
+fn is_past_limit(is_changed: bool, version: i64) -> bool
+    ensures { result ≡ (is_changed && int_eq version greatest_version) }
+{
+    is_changed && version == i64::MAX
+}
+
+/// A commit is refused for want of versions where it would need one above the greatest. That takes no memory.
+///
+/// # Errors
+/// `VersionLimit` there, and nowhere else.
+pub fn stay_within_limit(is_changed: bool, version: i64) -> Result<(), CellsError>
+    ensures { StaysWithinLimit is_changed version result }
+{
+    if is_past_limit(is_changed, version) {
+        return Err(CellsError::VersionLimit);
+    }
+    Ok(())
+}
+
+fn has_some(changes: &[Change]) -> bool
+    ensures { result ≡ not (is_none changes.now) }
+{
+    !changes.is_empty()
+}
+
+/// The changes that a commit of these would bring in, in the order of their places, with nothing committed. Reads the
+/// cells of their rows and no others.
+///
+/// # Errors
+/// `VersionLimit` exactly where the commit would be refused for that: some change would come in, and the version is the
+/// greatest; `Memory`, or `Store(Refused)`.
+pub fn newly_kept<C: Cells>(
+    alloc: Global,
+    cells: &mut C,
+    changes: &[Change],
+) -> Result<Vec<Change>, CellsError>
+    ensures was_honest { C.is_honest cells.new → C.is_honest cells.old }
+    ensures was_clean { C.is_clean cells.new → C.is_clean cells.old }
+    ensures stays_clean { C.is_honest cells.new → C.is_clean cells.old → UnlessWant is_want result (C.is_clean cells.new) }
+    ensures sound { C.is_clean cells.new → IsSound (C.holding cells.new) }
+    ensures foresees { C.is_clean cells.new → Foresees (C.holding cells.old) (C.holding cells.new) changes.now result (λ news. news.items) }
+{
+    let _ = cells.db_version();
+    let wanted = merge(alloc, &[], changes)?;
+    let news = news_of(alloc, cells, &wanted)?;
+    stay_within_limit(has_some(&news), cells.db_version())?;
+    Ok(news)
+}
