@@ -18,7 +18,7 @@ pair_is P p0 p1 p2 p3 p4 p5 a b e =
     is : (x y : ℕ) → P x y → (a == x && b == y) ≡ true → P a b
     is x y p h = let t = both (a == x) (b == y) h in subst (λ (d : ℕ). P d b) (sym (eqb-true a x t.0)) (subst (P x) (sym (eqb-true b y t.1)) p)
 
-between : (lo hi c : ℕ) → (leb lo c && leb c hi) ≡ true → (lo ≤ c) × (c ≤ hi)
+pub between : (lo hi c : ℕ) → (leb lo c && leb c hi) ≡ true → (lo ≤ c) × (c ≤ hi)
 between lo hi c e = let t = both (leb lo c) (leb c hi) e in (leb-true lo c t.0, leb-true c hi t.1)
 
 pub start_no_digit : (c : ℕ) → is_start c ≡ true → is_ascii_digit c ≡ false

@@ -7,3 +7,4 @@ pub mod Gaps
 pub mod Theory
 pub mod Places
 pub mod Unique
+pub mod Boundaries

@@ -1,5 +1,4 @@
 pub mod Texts
 pub mod Tokens
 pub mod Reading
-pub mod Keywords
 pub mod Laws

@@ -1,7 +1,6 @@
 //! The tokens of SQL texts.
 #![tactic(auto)]
 
-pub mod keywords;
 pub mod laws;
 mod number;
 mod runs;

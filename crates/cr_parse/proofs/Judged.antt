@@ -1,40 +1,43 @@
 -- The clauses of a parser of whole symbols, for any language, from what was read.
 use Rattle.std.proofs.Common.{◌≡◌, ℕ, ◌-◌, List, [], ◌∷◌, length, Ok, Err, IfOk, refl, ap, subst}
+use Rattle.cr_tree.specs.declared.limits.LimitKind.{LimitKind}
+use Rattle.cr_tree.specs.declared.limits.Limits.{Limits}
+use Rattle.cr_tree.specs.declared.limits.TheConstants.{LIMITS}
 use Rattle.cr_tree.specs.declared.symbol.Symbol.{Symbol}
 use Rattle.cr_tree.specs.Language.{Language}
 use Rattle.cr_tree.specs.Judging.{IsRead, IsBadPlace, MeetsLimit}
-use Rattle.cr_tree.specs.Reading.{Outcome, Reads, Fails, Syntax, Deep, Parser}
+use Rattle.cr_tree.specs.Reading.{Outcome, Reads, Fails, Syntax, Limit, Parser}
 use Rattle.cr_tree.proofs.Judged.{Masters, read_is, all_are_read, refused_is, left_over, limit_is}
 use Rattle.cr_parse.specs.declared.error.ParseError.TheVariants as p
 use Rattle.cr_parse.specs.Judge.{judge}
 
-module _ {A : Type 0} (L : Language A) (f : ℕ → ℕ → Parser A) (master : Masters L f) where
-  pub judged_read : (ts : List Symbol) → IfOk (judge ts (f 200 99 ts)) (λ x. IsRead L ts x)
-  judged_read ts = at (f 200 99 ts) refl
+module _ {A : Type 0} (L : Language A) (f : Limits → Parser A) (master : Masters L f) where
+  pub judged_read : (ts : List Symbol) → IfOk (judge ts (f LIMITS ts)) (λ x. IsRead L ts x)
+  judged_read ts = at (f LIMITS ts) refl
     where
-      at : (o : Outcome A) → f 200 99 ts ≡ o → IfOk (judge ts o) (λ x. IsRead L ts x)
+      at : (o : Outcome A) → f LIMITS ts ≡ o → IfOk (judge ts o) (λ x. IsRead L ts x)
       at (Reads x []) i = read_is L f master ts x i
       at (Reads x (t ∷ rest)) i = tt
       at (Fails Syntax rest) i = tt
-      at (Fails Deep rest) i = tt
+      at (Fails (Limit k) rest) i = tt
 
-  pub judged_only : (ts : List Symbol) (x : A) → IsRead L ts x → judge ts (f 200 99 ts) ≡ Ok x
+  pub judged_only : (ts : List Symbol) (x : A) → IsRead L ts x → judge ts (f LIMITS ts) ≡ Ok x
   judged_only ts x r = ap (judge ts) (all_are_read L f master ts x r)
 
-  pub judged_syntax : (ts : List Symbol) (n : ℕ) → judge ts (f 200 99 ts) ≡ Err (p.Syntax n) → IsBadPlace L ts n
-  judged_syntax ts n h = at (f 200 99 ts) refl h
+  pub judged_syntax : (ts : List Symbol) (n : ℕ) → judge ts (f LIMITS ts) ≡ Err (p.Syntax n) → IsBadPlace L ts n
+  judged_syntax ts n h = at (f LIMITS ts) refl h
     where
-      at : (o : Outcome A) → f 200 99 ts ≡ o → judge ts o ≡ Err (p.Syntax n) → IsBadPlace L ts n
+      at : (o : Outcome A) → f LIMITS ts ≡ o → judge ts o ≡ Err (p.Syntax n) → IsBadPlace L ts n
       at (Reads x []) i h = absurd (cc)
       at (Reads x (t ∷ rest)) i h = let same : length ts - length (t ∷ rest) ≡ n = cc in subst (IsBadPlace L ts) same (left_over L f master ts t rest x i)
       at (Fails Syntax rest) i h = let same : length ts - length rest ≡ n = cc in subst (IsBadPlace L ts) same (refused_is L f master ts rest i)
-      at (Fails Deep rest) i h = absurd (cc)
+      at (Fails (Limit k) rest) i h = absurd (cc)
 
-  pub judged_depth : (ts : List Symbol) → judge ts (f 200 99 ts) ≡ Err p.Depth → MeetsLimit L ts
-  judged_depth ts h = at (f 200 99 ts) refl h
+  pub judged_limit : (ts : List Symbol) (which : LimitKind) → judge ts (f LIMITS ts) ≡ Err (p.Limit which) → MeetsLimit which L ts
+  judged_limit ts which h = at (f LIMITS ts) refl h
     where
-      at : (o : Outcome A) → f 200 99 ts ≡ o → judge ts o ≡ Err p.Depth → MeetsLimit L ts
+      at : (o : Outcome A) → f LIMITS ts ≡ o → judge ts o ≡ Err (p.Limit which) → MeetsLimit which L ts
       at (Reads x []) i h = absurd (cc)
       at (Reads x (t ∷ rest)) i h = absurd (cc)
       at (Fails Syntax rest) i h = absurd (cc)
-      at (Fails Deep rest) i h = limit_is L f master ts rest i
+      at (Fails (Limit x) rest) i h = let same : x ≡ which = cc in subst (λ z. MeetsLimit z L ts) same (limit_is L f master x ts rest i)

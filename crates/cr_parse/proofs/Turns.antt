@@ -1,11 +1,12 @@
 -- One turn of a loop that reads as many as there are, and where it stops.
 use Rattle.std.proofs.Common.{◌≡◌, ℕ, zero, suc, Bool, true, false, List, [], ◌∷◌, refl, sym, ap, ◌∙◌}
+use Rattle.cr_tree.specs.declared.limits.LimitKind.{LimitKind}
 use Rattle.cr_tree.specs.declared.symbol.Mark.{Mark}
 use Rattle.cr_tree.specs.declared.symbol.Symbol.{Symbol}
 use Rattle.cr_tree.specs.Marks.{is_mark}
-use Rattle.cr_tree.specs.Reading.{Outcome, Reads, Fails, Syntax, Parser, and_then, many_from, sees, sees_name, is_name, name, listed, expect, behind, rest_of}
+use Rattle.cr_tree.specs.Reading.{Reads, Fails, Syntax, Limit, Parser, and_then, many_from, up_to, sees, sees_name, is_name, name, listed, expect, behind, rest_of}
 use Rattle.cr_tree.proofs.Forms.{if_true, if_false}
-use Rattle.cr_tree.proofs.Repeats.{begins_next}
+use Rattle.cr_tree.proofs.Repeats.{begins_next, up_turn, up_stop, up_out}
 
 module _ {A S : Type 0} (b : Symbol → Bool) (item : Parser A) (add : S → A → S) where
   pub many_stops : (n : ℕ) (a : S) (ts : List Symbol) → begins_next b ts ≡ false → many_from b item add n a ts ≡ Reads a ts
@@ -57,3 +58,15 @@ pub behind_seen : {A : Type 0} (x : Mark) (item : Parser A) (ts : List Symbol) �
 unfolding expect
 behind_seen x item [] h = absurd (cc)
 behind_seen x item (t ∷ ts) h = ap (λ o. and_then o (λ _. item)) (if_true (is_mark x t) (Reads (tt {0}) ts) (Fails Syntax (t ∷ ts)) h)
+
+-- ---- at most so many
+
+module _ {A S : Type 0} (k : LimitKind) (x : Mark) (item : Parser A) (add : S → A → S) where
+  pub marks_up_turn : (n n' : ℕ) (a : S) (ts : List Symbol) → n ≡ suc n' → sees x ts ≡ true → up_to k (is_mark x) item add n a ts ≡ and_then (item ts) (λ y. up_to k (is_mark x) item add n' (add a y))
+  marks_up_turn n n' a ts i h = up_turn k (is_mark x) item add n n' a ts i (sym (marks_next x ts) ∙ h)
+
+  pub marks_up_stop : (n : ℕ) (a : S) (ts : List Symbol) → sees x ts ≡ false → up_to k (is_mark x) item add n a ts ≡ Reads a ts
+  marks_up_stop n a ts h = up_stop k (is_mark x) item add n a ts (sym (marks_next x ts) ∙ h)
+
+  pub marks_up_out : (n : ℕ) (a : S) (ts : List Symbol) → n ≡ 0 → sees x ts ≡ true → up_to k (is_mark x) item add n a ts ≡ Fails (Limit k) ts
+  marks_up_out n a ts i h = up_out k (is_mark x) item add n a ts i (sym (marks_next x ts) ∙ h)

@@ -4,6 +4,7 @@ ghost use Rattle.std.specs.Prelude.{◌≡◌};
 ghost use Rattle.cr_parse.specs.Judge.{refusal};
 
 use crate::fault::Fault;
+use cr_tree::limits::LimitKind;
 
 /// Why symbols are refused.
 #[derive(Debug, Drop)]
@@ -13,8 +14,8 @@ pub enum ParseError {
     /// How many symbols stand before the first one with which nothing begins that may be written; or how many there
     /// are, if more are wanted.
     Syntax(usize),
-    /// The depth or the open parentheses would pass their limit.
-    Depth,
+    /// A limit would be passed.
+    Limit(LimitKind),
 }
 
 /// How a fault is told that stands behind so many symbols.
@@ -24,6 +25,6 @@ pub fn refusal(fault: Fault, place: usize) -> ParseError
     match fault {
         Fault::Memory => ParseError::Memory,
         Fault::Syntax => ParseError::Syntax(place),
-        Fault::Deep => ParseError::Depth,
+        Fault::Limit(which) => ParseError::Limit(which),
     }
 }

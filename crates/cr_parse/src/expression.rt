@@ -5,6 +5,7 @@ ghost use Rattle.cr_tree.specs.Reading as spec;
 ghost use Rattle.cr_tree.specs.Language as language;
 ghost use Rattle.cr_tree.specs.Judging.{IsRead, IsBadPlace, MeetsLimit};
 ghost use Rattle.cr_tree.specs.declared.expr.Expr as trees;
+ghost use Rattle.cr_tree.specs.declared.limits.LimitKind.{LimitKind};
 ghost use Rattle.cr_parse.specs.Given.{Gives};
 ghost use Rattle.cr_parse.specs.Judge.{judge};
 
@@ -13,25 +14,20 @@ use crate::error::{ParseError, refusal};
 use crate::fault::Fault;
 use crate::level::expr;
 use cr_tree::expr::Expr;
+use cr_tree::limits::LIMITS;
 use cr_tree::symbol::Symbol;
 use std::alloc::Global;
 
-/// How many parentheses may be open at once, those of types aside.
-pub const PARENTHESES: u8 = 200;
-
-/// The greatest depth of an expression: a leaf is 1, and all else one more than its deepest part.
-pub const DEPTH: u8 = 100;
-
 // An expression within the limits, with its height.
 fn limited(alloc: Global, tokens: &mut Cursor<'_>) -> Result<(Expr, u8), Fault>
-    ensures { Gives (λ x. x) (spec.expr 200 99 1 tokens.old) result tokens.new }
+    ensures { Gives (λ x. x) (spec.expr LIMITS 1 tokens.old) result tokens.new }
 {
-    expr(alloc, tokens, PARENTHESES, DEPTH - 1, 1)
+    expr(alloc, tokens, LIMITS, 1)
 }
 
 #[tactic(auto, using(crate::proofs::Refusals::told_then), unfolding(cr_tree::specs::Reading::whole))]
 fn read(alloc: Global, symbols: &[Symbol]) -> Result<Expr, ParseError>
-    ensures { result ≢ Err ParseError.Memory → result ≡ judge symbols.now (spec.whole 200 99 symbols.now) }
+    ensures { result ≢ Err ParseError.Memory → result ≡ judge symbols.now (spec.whole LIMITS symbols.now) }
 {
     let mut cursor = Cursor::new(symbols);
     let outcome = limited(alloc, &mut cursor);
@@ -53,17 +49,17 @@ fn read(alloc: Global, symbols: &[Symbol]) -> Result<Expr, ParseError>
 ///
 /// # Errors
 /// `Syntax` with the number of symbols before the first with which no expression goes on, or with their number where
-/// more are wanted; `Depth` where the depth would pass 100 or the open parentheses 200, if that is met first from the
-/// left; `Memory`.
+/// more are wanted; `Limit` with its kind where the depth would pass 100, the open parentheses 200 or the arguments of a
+/// call 100, if that is met first from the left; `Memory`.
 pub fn expression(alloc: Global, symbols: &[Symbol]) -> Result<Expr, ParseError>
     // What is read is an expression with this tree.
     ensures read { IfOk result (λ x. IsRead language.expr symbols.now x) }
     // Each expression within the limits is read, unless memory runs out.
     ensures only { (x : trees.Expr) → IsRead language.expr symbols.now x → result ≢ Err ParseError.Memory → result ≡ Ok x }
     ensures syntax { (n : ℕ) → result ≡ Err (ParseError.Syntax n) → IsBadPlace language.expr symbols.now n }
-    ensures depth { result ≡ Err ParseError.Depth → MeetsLimit language.expr symbols.now }
+    ensures limit { (which : LimitKind) → result ≡ Err (ParseError.Limit which) → MeetsLimit which language.expr symbols.now }
     // What is met first from the left decides.
-    ensures reading { result ≢ Err ParseError.Memory → result ≡ judge symbols.now (spec.whole 200 99 symbols.now) }
+    ensures reading { result ≢ Err ParseError.Memory → result ≡ judge symbols.now (spec.whole LIMITS symbols.now) }
 {
     read(alloc, symbols)
 }

@@ -1,10 +1,11 @@
+use cr_tree::limits::LimitKind;
 use std::alloc::{AllocError, AllocFailed};
 
 #[derive(Debug, Drop)]
 pub enum Fault {
     Memory,
     Syntax,
-    Deep,
+    Limit(LimitKind),
 }
 
 impl From<AllocError> for Fault {

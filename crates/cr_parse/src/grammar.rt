@@ -9,6 +9,7 @@ ghost use Rattle.cr_parse.specs.Given.{Gives, Nests};
 use crate::cursor::Cursor;
 use crate::fault::Fault;
 use cr_tree::expr::Expr;
+use cr_tree::limits::{LimitKind, Limits};
 use cr_tree::symbol::{Mark, Symbol};
 use cr_value::value::Value;
 use std::alloc::{AllocError, Global};
@@ -17,10 +18,8 @@ use std::alloc::{AllocError, Global};
 #[derive(Clone, Copy)]
 pub struct Grammar<F> {
     pub alloc: Global,
-    /// How many parentheses may still be opened.
-    pub opens: u8,
-    /// How high the tree may be.
-    pub room: u8,
+    /// What is left of the limits.
+    pub limits: Limits,
     /// The parser of expressions with fewer parentheses or less room.
     pub expr: F,
 }
@@ -91,51 +90,64 @@ fn begins(symbol: &Symbol, least: u8) -> bool
 
 // Why there is no expression where a tree would be too high.
 fn too_high(tokens: &Cursor<'_>, least: u8) -> Fault
-    ensures { result ≡ (if spec.begins_at least (spec.head tokens.now) then Fault.Deep else Fault.Syntax) }
+    ensures { result ≡ (if spec.begins_at least (spec.head tokens.now) then Fault.Limit LimitKind.Depth else Fault.Syntax) }
 {
     match tokens.peek() {
-        Some(symbol) if begins(symbol, least) => Fault::Deep,
+        Some(symbol) if begins(symbol, least) => Fault::Limit(LimitKind::Depth),
         _ => Fault::Syntax,
     }
 }
 
-impl<F: Fn(Global, &mut Cursor<'_>, u8, u8, u8) -> Result<(Expr, u8), Fault>> Grammar<F> {
+impl<F: Fn(Global, &mut Cursor<'_>, Limits, u8) -> Result<(Expr, u8), Fault>> Grammar<F> {
     /// An expression in parentheses, with its height.
     #[tactic(auto, using(cr_tree::proofs::Knot::inside_expr))]
     pub fn inside(&self, tokens: &mut Cursor<'_>) -> Result<(Expr, u8), Fault>
-        requires nests { Nests self.now.opens self.now.room (F.pre self.now.expr) (F.post self.now.expr) }
-        requires opens { 0 < self.now.opens }
-        ensures reads { Gives (λ x. x) (spec.inside_of self.now.opens self.now.room tokens.old) result tokens.new }
-        ensures low { IfOk result (λ x. x.1 ≤ self.now.room) }
+        requires nests { Nests self.now.limits (F.pre self.now.expr) (F.post self.now.expr) }
+        requires opens { 0 < self.now.limits.opens }
+        ensures reads { Gives (λ x. x) ((spec.rules_of self.now.limits).inside tokens.old) result tokens.new }
+        ensures low { IfOk result (λ x. x.1 ≤ self.now.limits.room) }
     {
-        (self.expr)(self.alloc, tokens, self.opens - 1, self.room, 1)
+        let limits = Limits {
+            opens: self.limits.opens - 1,
+            ..self.limits
+        };
+        (self.expr)(self.alloc, tokens, limits, 1)
     }
 
     /// An argument, with its height.
     #[tactic(auto, using(cr_tree::proofs::Knot::argument_expr, cr_tree::proofs::Knot::argument_high), unfolding(cr_tree::specs::Reading::too_high))]
     pub fn argument(&self, tokens: &mut Cursor<'_>) -> Result<(Expr, u8), Fault>
-        requires nests { Nests self.now.opens self.now.room (F.pre self.now.expr) (F.post self.now.expr) }
-        requires opens { 0 < self.now.opens }
-        ensures reads { Gives (λ x. x) (spec.argument_of self.now.opens self.now.room tokens.old) result tokens.new }
-        ensures low { IfOk result (λ x. x.1 < self.now.room) }
+        requires nests { Nests self.now.limits (F.pre self.now.expr) (F.post self.now.expr) }
+        requires opens { 0 < self.now.limits.opens }
+        ensures reads { Gives (λ x. x) ((spec.rules_of self.now.limits).argument tokens.old) result tokens.new }
+        ensures low { IfOk result (λ x. x.1 < self.now.limits.room) }
     {
-        if self.room == 0 {
+        if self.limits.room == 0 {
             return Err(too_high(tokens, 1));
         }
-        (self.expr)(self.alloc, tokens, self.opens - 1, self.room - 1, 1)
+        let limits = Limits {
+            opens: self.limits.opens - 1,
+            room: self.limits.room - 1,
+            ..self.limits
+        };
+        (self.expr)(self.alloc, tokens, limits, 1)
     }
 
     /// An operand, with its height.
     #[tactic(auto, using(cr_tree::proofs::Knot::below_expr, cr_tree::proofs::Knot::below_high), unfolding(cr_tree::specs::Reading::too_high))]
     pub fn below(&self, tokens: &mut Cursor<'_>, least: u8) -> Result<(Expr, u8), Fault>
-        requires nests { Nests self.now.opens self.now.room (F.pre self.now.expr) (F.post self.now.expr) }
-        ensures reads { Gives (λ x. x) (spec.below_of self.now.opens self.now.room least tokens.old) result tokens.new }
-        ensures low { IfOk result (λ x. x.1 < self.now.room) }
+        requires nests { Nests self.now.limits (F.pre self.now.expr) (F.post self.now.expr) }
+        ensures reads { Gives (λ x. x) ((spec.rules_of self.now.limits).below least tokens.old) result tokens.new }
+        ensures low { IfOk result (λ x. x.1 < self.now.limits.room) }
         ensures small { IfOk result (λ x. x.1 < 255) }
     {
-        if self.room == 0 {
+        if self.limits.room == 0 {
             return Err(too_high(tokens, least));
         }
-        (self.expr)(self.alloc, tokens, self.opens, self.room - 1, least)
+        let limits = Limits {
+            room: self.limits.room - 1,
+            ..self.limits
+        };
+        (self.expr)(self.alloc, tokens, limits, least)
     }
 }

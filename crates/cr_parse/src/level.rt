@@ -8,10 +8,11 @@ use crate::cursor::Cursor;
 use crate::fault::Fault;
 use crate::grammar::{Grammar, binding};
 use cr_tree::expr::Expr;
+use cr_tree::limits::{LimitKind, Limits};
 use cr_tree::symbol::{Mark, Symbol};
 use std::alloc::Global;
 
-impl<F: Fn(Global, &mut Cursor<'_>, u8, u8, u8) -> Result<(Expr, u8), Fault>> Grammar<F> {
+impl<F: Fn(Global, &mut Cursor<'_>, Limits, u8) -> Result<(Expr, u8), Fault>> Grammar<F> {
     /// Goes on from what stands to the left with what binds at least and at most so tightly.
     #[tactic(auto, unfolding(cr_tree::specs::Reading::climb, cr_tree::specs::Reading::tail))]
     pub fn climb(
@@ -22,15 +23,15 @@ impl<F: Fn(Global, &mut Cursor<'_>, u8, u8, u8) -> Result<(Expr, u8), Fault>> Gr
         left: Expr,
         start: u8,
     ) -> Result<(Expr, u8), Fault>
-        requires nests { Nests self.now.opens self.now.room (F.pre self.now.expr) (F.post self.now.expr) }
-        requires left { start ≤ self.now.room }
-        ensures reads { Gives (λ x. x) (spec.climb self.now.opens (spec.inside_of self.now.opens self.now.room) (spec.argument_of self.now.opens self.now.room) self.now.room (spec.below_of self.now.opens self.now.room) self.now.room least most (left, start) tokens.old) result tokens.new }
-        ensures low { IfOk result (λ x. x.1 ≤ self.now.room) }
+        requires nests { Nests self.now.limits (F.pre self.now.expr) (F.post self.now.expr) }
+        requires left { start ≤ self.now.limits.room }
+        ensures reads { Gives (λ x. x) (spec.climb self.now.limits (spec.rules_of self.now.limits) self.now.limits.room least most (left, start) tokens.old) result tokens.new }
+        ensures low { IfOk result (λ x. x.1 ≤ self.now.limits.room) }
     {
         let mut tree = left;
         let mut height = start;
         let mut bound = most;
-        for _turn in 0..self.room {
+        for _turn in 0..self.limits.room {
             let Some(symbol) = tokens.peek() else {
                 return Ok((tree, height));
             };
@@ -38,15 +39,15 @@ impl<F: Fn(Global, &mut Cursor<'_>, u8, u8, u8) -> Result<(Expr, u8), Fault>> Gr
             if binds < least || binds > bound {
                 return Ok((tree, height));
             }
-            if height >= self.room {
-                return Err(Fault::Deep);
+            if height >= self.limits.room {
+                return Err(Fault::Limit(LimitKind::Depth));
             }
             (tree, height) = self.tail(tokens, symbol, tree, height)?;
             bound = binds;
         }
         match tokens.peek() {
             Some(symbol) if least <= binding(symbol) && binding(symbol) <= bound => Err(
-                Fault::Deep,
+                Fault::Limit(LimitKind::Depth),
             ),
             _ => Ok((tree, height)),
         }
@@ -55,9 +56,9 @@ impl<F: Fn(Global, &mut Cursor<'_>, u8, u8, u8) -> Result<(Expr, u8), Fault>> Gr
     /// An expression that binds at least so tightly, with its height.
     #[tactic(auto, unfolding(cr_tree::specs::Reading::level))]
     pub fn level(&self, tokens: &mut Cursor<'_>, least: u8) -> Result<(Expr, u8), Fault>
-        requires nests { Nests self.now.opens self.now.room (F.pre self.now.expr) (F.post self.now.expr) }
-        ensures reads { Gives (λ x. x) (spec.level self.now.opens (spec.inside_of self.now.opens self.now.room) (spec.argument_of self.now.opens self.now.room) self.now.room (spec.below_of self.now.opens self.now.room) least tokens.old) result tokens.new }
-        ensures low { IfOk result (λ x. x.1 ≤ self.now.room) }
+        requires nests { Nests self.now.limits (F.pre self.now.expr) (F.post self.now.expr) }
+        ensures reads { Gives (λ x. x) (spec.level self.now.limits (spec.rules_of self.now.limits) least tokens.old) result tokens.new }
+        ensures low { IfOk result (λ x. x.1 ≤ self.now.limits.room) }
     {
         let Some(symbol) = tokens.peek() else {
             return Err(Fault::Syntax);
@@ -78,23 +79,20 @@ fn ceiling(symbol: &Symbol) -> u8
     }
 }
 
-/// An expression that binds at least so tightly, with its height: parentheses may be opened `opens` times, and the
-/// tree may be `room` high.
+/// An expression within limits that binds at least so tightly, with its height.
 #[tactic(auto, using(cr_tree::proofs::Knot::expr_level))]
 pub fn expr(
     alloc: Global,
     tokens: &mut Cursor<'_>,
-    opens: u8,
-    room: u8,
+    limits: Limits,
     least: u8,
 ) -> Result<(Expr, u8), Fault>
-    ensures reads { Gives (λ x. x) (spec.expr opens room least tokens.old) result tokens.new }
-    ensures low { IfOk result (λ x. x.1 ≤ room) }
+    ensures reads { Gives (λ x. x) (spec.expr limits least tokens.old) result tokens.new }
+    ensures low { IfOk result (λ x. x.1 ≤ limits.room) }
 {
     Grammar {
         alloc,
-        opens,
-        room,
+        limits,
         expr,
     }
     .level(tokens, least)

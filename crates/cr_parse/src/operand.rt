@@ -12,6 +12,7 @@ use crate::fault::Fault;
 use crate::grammar::{Grammar, leaf};
 use crate::sizes::sizes;
 use cr_tree::expr::{Expr, Unary, When};
+use cr_tree::limits::{LimitKind, Limits};
 use cr_tree::symbol::{Mark, Symbol};
 use cr_value::text::Text;
 use cr_value::value::Value;
@@ -83,14 +84,14 @@ pub fn type_words(alloc: Global, tokens: &mut Cursor<'_>) -> Result<Items<Text>,
     Ok(all)
 }
 
-impl<F: Fn(Global, &mut Cursor<'_>, u8, u8, u8) -> Result<(Expr, u8), Fault>> Grammar<F> {
-    /// One argument or more, with the greatest height.
-    #[tactic(auto, unfolding(cr_tree::specs::Reading::arguments))]
-    pub fn arguments(&self, tokens: &mut Cursor<'_>) -> Result<(Items<Expr>, u8), Fault>
-        requires nests { Nests self.now.opens self.now.room (F.pre self.now.expr) (F.post self.now.expr) }
-        requires opens { 0 < self.now.opens }
-        ensures reads { Gives (λ x. x) (spec.arguments self.now.opens (spec.inside_of self.now.opens self.now.room) (spec.argument_of self.now.opens self.now.room) self.now.room (spec.below_of self.now.opens self.now.room) tokens.old) result tokens.new }
-        ensures low { IfOk result (λ x. x.1 < self.now.room) }
+impl<F: Fn(Global, &mut Cursor<'_>, Limits, u8) -> Result<(Expr, u8), Fault>> Grammar<F> {
+    /// One item or more, with the greatest height.
+    #[tactic(auto, unfolding(cr_tree::specs::Reading::items))]
+    pub fn items(&self, tokens: &mut Cursor<'_>) -> Result<(Items<Expr>, u8), Fault>
+        requires nests { Nests self.now.limits (F.pre self.now.expr) (F.post self.now.expr) }
+        requires opens { 0 < self.now.limits.opens }
+        ensures reads { Gives (λ x. x) (spec.items self.now.limits (spec.rules_of self.now.limits) tokens.old) result tokens.new }
+        ensures low { IfOk result (λ x. x.1 < self.now.limits.room) }
     {
         let (first, mut height) = self.argument(tokens)?;
         let mut all = Items::new(self.alloc);
@@ -107,14 +108,41 @@ impl<F: Fn(Global, &mut Cursor<'_>, u8, u8, u8) -> Result<(Expr, u8), Fault>> Gr
         Ok((all, height))
     }
 
+    /// One argument or more, as many as a call may have, with the greatest height.
+    #[tactic(auto, unfolding(cr_tree::specs::Reading::arguments))]
+    fn arguments(&self, tokens: &mut Cursor<'_>) -> Result<(Items<Expr>, u8), Fault>
+        requires nests { Nests self.now.limits (F.pre self.now.expr) (F.post self.now.expr) }
+        requires opens { 0 < self.now.limits.opens }
+        ensures reads { Gives (λ x. x) (spec.arguments self.now.limits (spec.rules_of self.now.limits) tokens.old) result tokens.new }
+        ensures low { IfOk result (λ x. x.1 < self.now.limits.room) }
+    {
+        let (first, mut height) = self.argument(tokens)?;
+        let mut all = Items::new(self.alloc);
+        all.push(first)?;
+        for _turn in 0..self.limits.commas {
+            if !tokens.sees(Mark::Comma) {
+                return Ok((all, height));
+            }
+            tokens.take();
+            let (next, more) = self.argument(tokens)?;
+            all.push(next)?;
+            height = height.max(more);
+        }
+        if tokens.sees(Mark::Comma) {
+            return Err(Fault::Limit(LimitKind::Arguments));
+        }
+        Ok((all, height))
+    }
+
     #[tactic(auto, unfolding(cr_tree::specs::Reading::called))]
     fn listed(&self, tokens: &mut Cursor<'_>, name: Text) -> Result<(Expr, u8), Fault>
-        requires nests { Nests self.now.opens self.now.room (F.pre self.now.expr) (F.post self.now.expr) }
-        requires opens { 0 < self.now.opens }
-        ensures reads { Gives (λ x. x) (spec.called self.now.opens (spec.inside_of self.now.opens self.now.room) (spec.argument_of self.now.opens self.now.room) self.now.room (spec.below_of self.now.opens self.now.room) name tokens.old) result tokens.new }
-        ensures low { IfOk result (λ x. x.1 ≤ self.now.room) }
+        requires nests { Nests self.now.limits (F.pre self.now.expr) (F.post self.now.expr) }
+        requires opens { 0 < self.now.limits.opens }
+        ensures reads { Gives (λ x. x) (spec.called self.now.limits (spec.rules_of self.now.limits) name tokens.old) result tokens.new }
+        ensures low { IfOk result (λ x. x.1 ≤ self.now.limits.room) }
     {
         let (all, height) = self.arguments(tokens)?;
+        prove!(height < self.limits.room);
         tokens.expect(Mark::Close)?;
         Ok((Expr::Call(name, all), height + 1))
     }
@@ -122,10 +150,10 @@ impl<F: Fn(Global, &mut Cursor<'_>, u8, u8, u8) -> Result<(Expr, u8), Fault>> Gr
     /// After a name and a parenthesis.
     #[tactic(auto, unfolding(cr_tree::specs::Reading::call))]
     fn call(&self, tokens: &mut Cursor<'_>, name: Text) -> Result<(Expr, u8), Fault>
-        requires nests { Nests self.now.opens self.now.room (F.pre self.now.expr) (F.post self.now.expr) }
-        requires opens { 0 < self.now.opens }
-        ensures reads { Gives (λ x. x) (spec.call self.now.opens (spec.inside_of self.now.opens self.now.room) (spec.argument_of self.now.opens self.now.room) self.now.room (spec.below_of self.now.opens self.now.room) name tokens.old) result tokens.new }
-        ensures low { IfOk result (λ x. x.1 ≤ self.now.room) }
+        requires nests { Nests self.now.limits (F.pre self.now.expr) (F.post self.now.expr) }
+        requires opens { 0 < self.now.limits.opens }
+        ensures reads { Gives (λ x. x) (spec.call self.now.limits (spec.rules_of self.now.limits) name tokens.old) result tokens.new }
+        ensures low { IfOk result (λ x. x.1 ≤ self.now.limits.room) }
     {
         match tokens.peek() {
             None => Err(Fault::Syntax),
@@ -148,9 +176,9 @@ impl<F: Fn(Global, &mut Cursor<'_>, u8, u8, u8) -> Result<(Expr, u8), Fault>> Gr
     /// After a name.
     #[tactic(auto, unfolding(cr_tree::specs::Reading::named))]
     pub fn named(&self, tokens: &mut Cursor<'_>, name: Text) -> Result<(Expr, u8), Fault>
-        requires nests { Nests self.now.opens self.now.room (F.pre self.now.expr) (F.post self.now.expr) }
-        ensures reads { Gives (λ x. x) (spec.named self.now.opens (spec.inside_of self.now.opens self.now.room) (spec.argument_of self.now.opens self.now.room) self.now.room (spec.below_of self.now.opens self.now.room) name tokens.old) result tokens.new }
-        ensures low { IfOk result (λ x. x.1 ≤ self.now.room) }
+        requires nests { Nests self.now.limits (F.pre self.now.expr) (F.post self.now.expr) }
+        ensures reads { Gives (λ x. x) (spec.named self.now.limits (spec.rules_of self.now.limits) name tokens.old) result tokens.new }
+        ensures low { IfOk result (λ x. x.1 ≤ self.now.limits.room) }
     {
         match tokens.peek() {
             Some(Symbol::Mark(Mark::Dot)) => {
@@ -158,8 +186,8 @@ impl<F: Fn(Global, &mut Cursor<'_>, u8, u8, u8) -> Result<(Expr, u8), Fault>> Gr
                 Ok((Expr::Column(Some(name), tokens.name(self.alloc)?), 0))
             }
             Some(Symbol::Mark(Mark::Open)) => {
-                if self.opens == 0 {
-                    return Err(Fault::Deep);
+                if self.limits.opens == 0 {
+                    return Err(Fault::Limit(LimitKind::Depth));
                 }
                 tokens.take();
                 self.call(tokens, name)
@@ -171,9 +199,9 @@ impl<F: Fn(Global, &mut Cursor<'_>, u8, u8, u8) -> Result<(Expr, u8), Fault>> Gr
     /// After a minus.
     #[tactic(auto, unfolding(cr_tree::specs::Reading::minus))]
     fn minus(&self, tokens: &mut Cursor<'_>) -> Result<(Expr, u8), Fault>
-        requires nests { Nests self.now.opens self.now.room (F.pre self.now.expr) (F.post self.now.expr) }
-        ensures reads { Gives (λ x. x) (spec.minus self.now.opens (spec.inside_of self.now.opens self.now.room) (spec.argument_of self.now.opens self.now.room) self.now.room (spec.below_of self.now.opens self.now.room) tokens.old) result tokens.new }
-        ensures low { IfOk result (λ x. x.1 ≤ self.now.room) }
+        requires nests { Nests self.now.limits (F.pre self.now.expr) (F.post self.now.expr) }
+        ensures reads { Gives (λ x. x) (spec.minus self.now.limits (spec.rules_of self.now.limits) tokens.old) result tokens.new }
+        ensures low { IfOk result (λ x. x.1 ≤ self.now.limits.room) }
     {
         match tokens.peek() {
             None => Err(Fault::Syntax),
@@ -193,10 +221,10 @@ impl<F: Fn(Global, &mut Cursor<'_>, u8, u8, u8) -> Result<(Expr, u8), Fault>> Gr
 
     #[tactic(auto, unfolding(cr_tree::specs::Reading::parenthesized))]
     fn parenthesized(&self, tokens: &mut Cursor<'_>) -> Result<(Expr, u8), Fault>
-        requires nests { Nests self.now.opens self.now.room (F.pre self.now.expr) (F.post self.now.expr) }
-        requires opens { 0 < self.now.opens }
-        ensures reads { Gives (λ x. x) (spec.parenthesized self.now.opens (spec.inside_of self.now.opens self.now.room) (spec.argument_of self.now.opens self.now.room) self.now.room (spec.below_of self.now.opens self.now.room) tokens.old) result tokens.new }
-        ensures low { IfOk result (λ x. x.1 ≤ self.now.room) }
+        requires nests { Nests self.now.limits (F.pre self.now.expr) (F.post self.now.expr) }
+        requires opens { 0 < self.now.limits.opens }
+        ensures reads { Gives (λ x. x) (spec.parenthesized self.now.limits (spec.rules_of self.now.limits) tokens.old) result tokens.new }
+        ensures low { IfOk result (λ x. x.1 ≤ self.now.limits.room) }
     {
         let inner = self.inside(tokens)?;
         tokens.expect(Mark::Close)?;
@@ -206,13 +234,14 @@ impl<F: Fn(Global, &mut Cursor<'_>, u8, u8, u8) -> Result<(Expr, u8), Fault>> Gr
     /// After CAST.
     #[tactic(auto, unfolding(cr_tree::specs::Reading::cast))]
     fn cast(&self, tokens: &mut Cursor<'_>) -> Result<(Expr, u8), Fault>
-        requires nests { Nests self.now.opens self.now.room (F.pre self.now.expr) (F.post self.now.expr) }
-        requires opens { 0 < self.now.opens }
-        ensures reads { Gives (λ x. x) (spec.cast self.now.opens (spec.inside_of self.now.opens self.now.room) (spec.argument_of self.now.opens self.now.room) self.now.room (spec.below_of self.now.opens self.now.room) tokens.old) result tokens.new }
-        ensures low { IfOk result (λ x. x.1 ≤ self.now.room) }
+        requires nests { Nests self.now.limits (F.pre self.now.expr) (F.post self.now.expr) }
+        requires opens { 0 < self.now.limits.opens }
+        ensures reads { Gives (λ x. x) (spec.cast self.now.limits (spec.rules_of self.now.limits) tokens.old) result tokens.new }
+        ensures low { IfOk result (λ x. x.1 ≤ self.now.limits.room) }
     {
         tokens.expect(Mark::Open)?;
         let (operand, height) = self.argument(tokens)?;
+        prove!(height < self.limits.room);
         tokens.expect(Mark::As)?;
         let words = type_words(self.alloc, tokens)?;
         tokens.expect(Mark::Close)?;
@@ -225,9 +254,9 @@ impl<F: Fn(Global, &mut Cursor<'_>, u8, u8, u8) -> Result<(Expr, u8), Fault>> Gr
     /// The operand of a CASE, if there is one.
     #[tactic(auto, unfolding(cr_tree::specs::Reading::subject))]
     fn subject(&self, tokens: &mut Cursor<'_>) -> Result<(Option<Boxed<Expr>>, u8), Fault>
-        requires nests { Nests self.now.opens self.now.room (F.pre self.now.expr) (F.post self.now.expr) }
-        ensures reads { Gives (λ x. x) (spec.subject self.now.opens (spec.inside_of self.now.opens self.now.room) (spec.argument_of self.now.opens self.now.room) self.now.room (spec.below_of self.now.opens self.now.room) tokens.old) result tokens.new }
-        ensures low { IfOk result (λ x. 0 < self.now.room → x.1 < self.now.room) }
+        requires nests { Nests self.now.limits (F.pre self.now.expr) (F.post self.now.expr) }
+        ensures reads { Gives (λ x. x) (spec.subject self.now.limits (spec.rules_of self.now.limits) tokens.old) result tokens.new }
+        ensures low { IfOk result (λ x. 0 < self.now.limits.room → x.1 < self.now.limits.room) }
     {
         if tokens.peek().is_none() {
             return Err(Fault::Syntax);
@@ -242,9 +271,9 @@ impl<F: Fn(Global, &mut Cursor<'_>, u8, u8, u8) -> Result<(Expr, u8), Fault>> Gr
     /// ELSE and what stands behind it, if it is there.
     #[tactic(auto, unfolding(cr_tree::specs::Reading::otherwise))]
     fn otherwise(&self, tokens: &mut Cursor<'_>) -> Result<(Option<Boxed<Expr>>, u8), Fault>
-        requires nests { Nests self.now.opens self.now.room (F.pre self.now.expr) (F.post self.now.expr) }
-        ensures reads { Gives (λ x. x) (spec.otherwise self.now.opens (spec.inside_of self.now.opens self.now.room) (spec.argument_of self.now.opens self.now.room) self.now.room (spec.below_of self.now.opens self.now.room) tokens.old) result tokens.new }
-        ensures low { IfOk result (λ x. 0 < self.now.room → x.1 < self.now.room) }
+        requires nests { Nests self.now.limits (F.pre self.now.expr) (F.post self.now.expr) }
+        ensures reads { Gives (λ x. x) (spec.otherwise self.now.limits (spec.rules_of self.now.limits) tokens.old) result tokens.new }
+        ensures low { IfOk result (λ x. 0 < self.now.limits.room → x.1 < self.now.limits.room) }
     {
         if !tokens.sees(Mark::Else) {
             return Ok((None, 0));
@@ -256,9 +285,9 @@ impl<F: Fn(Global, &mut Cursor<'_>, u8, u8, u8) -> Result<(Expr, u8), Fault>> Gr
 
     #[tactic(auto, unfolding(cr_tree::specs::Reading::arm))]
     fn arm(&self, tokens: &mut Cursor<'_>) -> Result<(When, u8), Fault>
-        requires nests { Nests self.now.opens self.now.room (F.pre self.now.expr) (F.post self.now.expr) }
-        ensures reads { Gives (λ x. x) (spec.arm self.now.opens (spec.inside_of self.now.opens self.now.room) (spec.argument_of self.now.opens self.now.room) self.now.room (spec.below_of self.now.opens self.now.room) tokens.old) result tokens.new }
-        ensures low { IfOk result (λ x. x.1 < self.now.room) }
+        requires nests { Nests self.now.limits (F.pre self.now.expr) (F.post self.now.expr) }
+        ensures reads { Gives (λ x. x) (spec.arm self.now.limits (spec.rules_of self.now.limits) tokens.old) result tokens.new }
+        ensures low { IfOk result (λ x. x.1 < self.now.limits.room) }
     {
         tokens.expect(Mark::When)?;
         let when = self.below(tokens, 1)?;
@@ -270,9 +299,9 @@ impl<F: Fn(Global, &mut Cursor<'_>, u8, u8, u8) -> Result<(Expr, u8), Fault>> Gr
     /// One arm or more, with the greatest height.
     #[tactic(auto, unfolding(cr_tree::specs::Reading::arms))]
     fn arms(&self, tokens: &mut Cursor<'_>) -> Result<(Items<When>, u8), Fault>
-        requires nests { Nests self.now.opens self.now.room (F.pre self.now.expr) (F.post self.now.expr) }
-        ensures reads { Gives (λ x. x) (spec.arms self.now.opens (spec.inside_of self.now.opens self.now.room) (spec.argument_of self.now.opens self.now.room) self.now.room (spec.below_of self.now.opens self.now.room) tokens.old) result tokens.new }
-        ensures low { IfOk result (λ x. x.1 < self.now.room) }
+        requires nests { Nests self.now.limits (F.pre self.now.expr) (F.post self.now.expr) }
+        ensures reads { Gives (λ x. x) (spec.arms self.now.limits (spec.rules_of self.now.limits) tokens.old) result tokens.new }
+        ensures low { IfOk result (λ x. x.1 < self.now.limits.room) }
     {
         let (first, mut height) = self.arm(tokens)?;
         let mut all = Items::new(self.alloc);
@@ -291,11 +320,12 @@ impl<F: Fn(Global, &mut Cursor<'_>, u8, u8, u8) -> Result<(Expr, u8), Fault>> Gr
     /// After CASE.
     #[tactic(auto, unfolding(cr_tree::specs::Reading::case))]
     fn case(&self, tokens: &mut Cursor<'_>) -> Result<(Expr, u8), Fault>
-        requires nests { Nests self.now.opens self.now.room (F.pre self.now.expr) (F.post self.now.expr) }
-        requires room { 0 < self.now.room }
-        ensures reads { Gives (λ x. x) (spec.case self.now.opens (spec.inside_of self.now.opens self.now.room) (spec.argument_of self.now.opens self.now.room) self.now.room (spec.below_of self.now.opens self.now.room) tokens.old) result tokens.new }
-        ensures low { IfOk result (λ x. x.1 ≤ self.now.room) }
+        requires nests { Nests self.now.limits (F.pre self.now.expr) (F.post self.now.expr) }
+        requires room { 0 < self.now.limits.room }
+        ensures reads { Gives (λ x. x) (spec.case self.now.limits (spec.rules_of self.now.limits) tokens.old) result tokens.new }
+        ensures low { IfOk result (λ x. x.1 ≤ self.now.limits.room) }
     {
+        prove!(self.limits.room > 0);
         let (subject, first) = self.subject(tokens)?;
         let (arms, second) = self.arms(tokens)?;
         let (otherwise, third) = self.otherwise(tokens)?;
@@ -308,12 +338,12 @@ impl<F: Fn(Global, &mut Cursor<'_>, u8, u8, u8) -> Result<(Expr, u8), Fault>> Gr
 
     #[tactic(auto, unfolding(cr_tree::specs::Reading::prefixed))]
     fn prefixed(&self, tokens: &mut Cursor<'_>, op: Unary, least: u8) -> Result<(Expr, u8), Fault>
-        requires nests { Nests self.now.opens self.now.room (F.pre self.now.expr) (F.post self.now.expr) }
-        ensures reads { Gives (λ x. x) (spec.prefixed self.now.opens (spec.inside_of self.now.opens self.now.room) (spec.argument_of self.now.opens self.now.room) self.now.room (spec.below_of self.now.opens self.now.room) op least tokens.old) result tokens.new }
-        ensures low { IfOk result (λ x. x.1 ≤ self.now.room) }
+        requires nests { Nests self.now.limits (F.pre self.now.expr) (F.post self.now.expr) }
+        ensures reads { Gives (λ x. x) (spec.prefixed self.now.limits (spec.rules_of self.now.limits) op least tokens.old) result tokens.new }
+        ensures low { IfOk result (λ x. x.1 ≤ self.now.limits.room) }
     {
-        if self.room == 0 {
-            return Err(Fault::Deep);
+        if self.limits.room == 0 {
+            return Err(Fault::Limit(LimitKind::Depth));
         }
         tokens.take();
         let operand = self.below(tokens, least)?;
@@ -328,9 +358,9 @@ impl<F: Fn(Global, &mut Cursor<'_>, u8, u8, u8) -> Result<(Expr, u8), Fault>> Gr
         symbol: &Symbol,
         least: u8,
     ) -> Result<(Expr, u8), Fault>
-        requires nests { Nests self.now.opens self.now.room (F.pre self.now.expr) (F.post self.now.expr) }
-        ensures reads { Gives (λ x. x) (spec.first_by self.now.opens (spec.inside_of self.now.opens self.now.room) (spec.argument_of self.now.opens self.now.room) self.now.room (spec.below_of self.now.opens self.now.room) least symbol.now tokens.old) result tokens.new }
-        ensures low { IfOk result (λ x. x.1 ≤ self.now.room) }
+        requires nests { Nests self.now.limits (F.pre self.now.expr) (F.post self.now.expr) }
+        ensures reads { Gives (λ x. x) (spec.first_by self.now.limits (spec.rules_of self.now.limits) least symbol.now tokens.old) result tokens.new }
+        ensures low { IfOk result (λ x. x.1 ≤ self.now.limits.room) }
     {
         match symbol {
             Symbol::Mark(Mark::Not) if least > 3 => Err(Fault::Syntax),
@@ -340,8 +370,12 @@ impl<F: Fn(Global, &mut Cursor<'_>, u8, u8, u8) -> Result<(Expr, u8), Fault>> Gr
                 tokens.take();
                 self.minus(tokens)
             }
-            Symbol::Mark(Mark::Open | Mark::Cast) if self.opens == 0 => Err(Fault::Deep),
-            Symbol::Mark(Mark::Case | Mark::Cast) if self.room == 0 => Err(Fault::Deep),
+            Symbol::Mark(Mark::Open | Mark::Cast) if self.limits.opens == 0 => Err(Fault::Limit(
+                LimitKind::Depth,
+            )),
+            Symbol::Mark(Mark::Case | Mark::Cast) if self.limits.room == 0 => Err(Fault::Limit(
+                LimitKind::Depth,
+            )),
             Symbol::Mark(Mark::Open) => {
                 tokens.take();
                 self.parenthesized(tokens)

@@ -8,6 +8,7 @@ use crate::cursor::Cursor;
 use crate::fault::Fault;
 use crate::grammar::{Grammar, binding};
 use cr_tree::expr::{Binary, Expr, Unary};
+use cr_tree::limits::{LimitKind, Limits};
 use cr_tree::symbol::{Mark, Symbol};
 use cr_value::text::Text;
 use sqlite_items::{Boxed, Items};
@@ -91,7 +92,7 @@ fn operator(symbol: &Symbol) -> Option<Binary>
     })
 }
 
-impl<F: Fn(Global, &mut Cursor<'_>, u8, u8, u8) -> Result<(Expr, u8), Fault>> Grammar<F> {
+impl<F: Fn(Global, &mut Cursor<'_>, Limits, u8) -> Result<(Expr, u8), Fault>> Grammar<F> {
     #[tactic(auto, unfolding(cr_tree::specs::Reading::operated))]
     fn operated(
         &self,
@@ -101,11 +102,12 @@ impl<F: Fn(Global, &mut Cursor<'_>, u8, u8, u8) -> Result<(Expr, u8), Fault>> Gr
         least: u8,
         op: Binary,
     ) -> Result<(Expr, u8), Fault>
-        requires nests { Nests self.now.opens self.now.room (F.pre self.now.expr) (F.post self.now.expr) }
-        requires left { height < self.now.room }
-        ensures reads { Gives (λ x. x) (spec.operated self.now.opens (spec.inside_of self.now.opens self.now.room) (spec.argument_of self.now.opens self.now.room) self.now.room (spec.below_of self.now.opens self.now.room) (left, height) least op tokens.old) result tokens.new }
-        ensures low { IfOk result (λ x. x.1 ≤ self.now.room) }
+        requires nests { Nests self.now.limits (F.pre self.now.expr) (F.post self.now.expr) }
+        requires left { height < self.now.limits.room }
+        ensures reads { Gives (λ x. x) (spec.operated self.now.limits (spec.rules_of self.now.limits) (left, height) least op tokens.old) result tokens.new }
+        ensures low { IfOk result (λ x. x.1 ≤ self.now.limits.room) }
     {
+        prove!(height < self.limits.room);
         let (right, more) = self.below(tokens, least)?;
         Ok((binary(self.alloc, op, left, right)?, height.max(more) + 1))
     }
@@ -113,10 +115,10 @@ impl<F: Fn(Global, &mut Cursor<'_>, u8, u8, u8) -> Result<(Expr, u8), Fault>> Gr
     /// After IS.
     #[tactic(auto, unfolding(cr_tree::specs::Reading::is))]
     fn is(&self, tokens: &mut Cursor<'_>, left: Expr, height: u8) -> Result<(Expr, u8), Fault>
-        requires nests { Nests self.now.opens self.now.room (F.pre self.now.expr) (F.post self.now.expr) }
-        requires left { height < self.now.room }
-        ensures reads { Gives (λ x. x) (spec.is self.now.opens (spec.inside_of self.now.opens self.now.room) (spec.argument_of self.now.opens self.now.room) self.now.room (spec.below_of self.now.opens self.now.room) (left, height) tokens.old) result tokens.new }
-        ensures low { IfOk result (λ x. x.1 ≤ self.now.room) }
+        requires nests { Nests self.now.limits (F.pre self.now.expr) (F.post self.now.expr) }
+        requires left { height < self.now.limits.room }
+        ensures reads { Gives (λ x. x) (spec.is self.now.limits (spec.rules_of self.now.limits) (left, height) tokens.old) result tokens.new }
+        ensures low { IfOk result (λ x. x.1 ≤ self.now.limits.room) }
     {
         let op = if tokens.eat(Mark::Not) {
             Binary::IsNot
@@ -135,11 +137,12 @@ impl<F: Fn(Global, &mut Cursor<'_>, u8, u8, u8) -> Result<(Expr, u8), Fault>> Gr
         left: Expr,
         height: u8,
     ) -> Result<(Expr, u8), Fault>
-        requires nests { Nests self.now.opens self.now.room (F.pre self.now.expr) (F.post self.now.expr) }
-        requires left { height < self.now.room }
-        ensures reads { Gives (λ x. x) (spec.between self.now.opens (spec.inside_of self.now.opens self.now.room) (spec.argument_of self.now.opens self.now.room) self.now.room (spec.below_of self.now.opens self.now.room) negated (left, height) tokens.old) result tokens.new }
-        ensures low { IfOk result (λ x. x.1 ≤ self.now.room) }
+        requires nests { Nests self.now.limits (F.pre self.now.expr) (F.post self.now.expr) }
+        requires left { height < self.now.limits.room }
+        ensures reads { Gives (λ x. x) (spec.between self.now.limits (spec.rules_of self.now.limits) negated (left, height) tokens.old) result tokens.new }
+        ensures low { IfOk result (λ x. x.1 ≤ self.now.limits.room) }
     {
+        prove!(height < self.limits.room);
         let (low, first) = self.below(tokens, 5)?;
         tokens.expect(Mark::And)?;
         let (high, second) = self.below(tokens, 5)?;
@@ -156,14 +159,15 @@ impl<F: Fn(Global, &mut Cursor<'_>, u8, u8, u8) -> Result<(Expr, u8), Fault>> Gr
         left: Expr,
         height: u8,
     ) -> Result<(Expr, u8), Fault>
-        requires nests { Nests self.now.opens self.now.room (F.pre self.now.expr) (F.post self.now.expr) }
-        requires opens { 0 < self.now.opens }
-        requires left { height < self.now.room }
-        ensures reads { Gives (λ x. x) (spec.among self.now.opens (spec.inside_of self.now.opens self.now.room) (spec.argument_of self.now.opens self.now.room) self.now.room (spec.below_of self.now.opens self.now.room) negated (left, height) tokens.old) result tokens.new }
-        ensures low { IfOk result (λ x. x.1 ≤ self.now.room) }
+        requires nests { Nests self.now.limits (F.pre self.now.expr) (F.post self.now.expr) }
+        requires opens { 0 < self.now.limits.opens }
+        requires left { height < self.now.limits.room }
+        ensures reads { Gives (λ x. x) (spec.among self.now.limits (spec.rules_of self.now.limits) negated (left, height) tokens.old) result tokens.new }
+        ensures low { IfOk result (λ x. x.1 ≤ self.now.limits.room) }
     {
         tokens.expect(Mark::Open)?;
-        let (all, more) = self.arguments(tokens)?;
+        prove!(height < self.limits.room);
+        let (all, more) = self.items(tokens)?;
         tokens.expect(Mark::Close)?;
         Ok((
             member(self.alloc, negated, left, all)?,
@@ -174,12 +178,12 @@ impl<F: Fn(Global, &mut Cursor<'_>, u8, u8, u8) -> Result<(Expr, u8), Fault>> Gr
     /// After NOT.
     #[tactic(auto, unfolding(cr_tree::specs::Reading::negated))]
     fn negated(&self, tokens: &mut Cursor<'_>, left: Expr, height: u8) -> Result<(Expr, u8), Fault>
-        requires nests { Nests self.now.opens self.now.room (F.pre self.now.expr) (F.post self.now.expr) }
-        requires left { height < self.now.room }
-        ensures reads { Gives (λ x. x) (spec.negated self.now.opens (spec.inside_of self.now.opens self.now.room) (spec.argument_of self.now.opens self.now.room) self.now.room (spec.below_of self.now.opens self.now.room) (left, height) tokens.old) result tokens.new }
-        ensures low { IfOk result (λ x. x.1 ≤ self.now.room) }
+        requires nests { Nests self.now.limits (F.pre self.now.expr) (F.post self.now.expr) }
+        requires left { height < self.now.limits.room }
+        ensures reads { Gives (λ x. x) (spec.negated self.now.limits (spec.rules_of self.now.limits) (left, height) tokens.old) result tokens.new }
+        ensures low { IfOk result (λ x. x.1 ≤ self.now.limits.room) }
     {
-        prove!(height < self.room);
+        prove!(height < self.limits.room);
         match tokens.peek() {
             Some(Symbol::Mark(Mark::Null)) => {
                 tokens.take();
@@ -194,8 +198,8 @@ impl<F: Fn(Global, &mut Cursor<'_>, u8, u8, u8) -> Result<(Expr, u8), Fault>> Gr
                 self.between(tokens, true, left, height)
             }
             Some(Symbol::Mark(Mark::In)) => {
-                if self.opens == 0 {
-                    return Err(Fault::Deep);
+                if self.limits.opens == 0 {
+                    return Err(Fault::Limit(LimitKind::Depth));
                 }
                 tokens.take();
                 self.among(tokens, true, left, height)
@@ -213,12 +217,12 @@ impl<F: Fn(Global, &mut Cursor<'_>, u8, u8, u8) -> Result<(Expr, u8), Fault>> Gr
         left: Expr,
         height: u8,
     ) -> Result<(Expr, u8), Fault>
-        requires nests { Nests self.now.opens self.now.room (F.pre self.now.expr) (F.post self.now.expr) }
-        requires left { height < self.now.room }
-        ensures reads { Gives (λ x. x) (spec.tail_by self.now.opens (spec.inside_of self.now.opens self.now.room) (spec.argument_of self.now.opens self.now.room) self.now.room (spec.below_of self.now.opens self.now.room) (left, height) symbol.now tokens.old) result tokens.new }
-        ensures low { IfOk result (λ x. x.1 ≤ self.now.room) }
+        requires nests { Nests self.now.limits (F.pre self.now.expr) (F.post self.now.expr) }
+        requires left { height < self.now.limits.room }
+        ensures reads { Gives (λ x. x) (spec.tail_by self.now.limits (spec.rules_of self.now.limits) (left, height) symbol.now tokens.old) result tokens.new }
+        ensures low { IfOk result (λ x. x.1 ≤ self.now.limits.room) }
     {
-        prove!(height < self.room);
+        prove!(height < self.limits.room);
         match symbol {
             Symbol::Mark(Mark::Not) => {
                 tokens.take();
@@ -229,8 +233,8 @@ impl<F: Fn(Global, &mut Cursor<'_>, u8, u8, u8) -> Result<(Expr, u8), Fault>> Gr
                 self.is(tokens, left, height)
             }
             Symbol::Mark(Mark::In) => {
-                if self.opens == 0 {
-                    return Err(Fault::Deep);
+                if self.limits.opens == 0 {
+                    return Err(Fault::Limit(LimitKind::Depth));
                 }
                 tokens.take();
                 self.among(tokens, false, left, height)

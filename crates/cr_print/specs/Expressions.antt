@@ -1,6 +1,6 @@
 -- Expressions as SQL text. Source: SQLite's "SQL Language Expressions"; the parentheses around each node are this
 -- project's own, so that no reader needs to know how operators bind.
-use Rattle.std.specs.Prelude.{ℕ, Bool, true, false, List, [], ◌∷◌, ◌++◌, map, Option, Some, None, codes, if◌then◌else◌}
+use Rattle.std.specs.Prelude.{ℕ, Bool, true, false, List, [], ◌++◌, map, Option, Some, None, codes, if◌then◌else◌}
 use Rattle.std.specs.Fmt.{decimal}
 use Rattle.cr_value.specs.declared.value.Value.TheVariants.{Int}
 use Rattle.cr_tree.specs.declared.expr.Unary.{Unary as Sign}

@@ -3,28 +3,29 @@
 use Rattle.std.specs.Prelude.{ℕ, ℤ, Bool, true, false, List, [], ◌++◌, map, Option, Some, None, codes}
 use Rattle.std.specs.Fmt.{signed_decimal}
 use Rattle.cr_tree.specs.declared.expr.Expr.{Expr}
-use Rattle.cr_statement.specs.declared.tree.Shown.{Shown}
-use Rattle.cr_statement.specs.declared.tree.Shown.TheVariants as shows
-use Rattle.cr_statement.specs.declared.tree.Source.{Source}
-use Rattle.cr_statement.specs.declared.tree.JoinKind.{JoinKind}
-use Rattle.cr_statement.specs.declared.tree.JoinKind.TheVariants as kind
-use Rattle.cr_statement.specs.declared.tree.Join.{Join}
-use Rattle.cr_statement.specs.declared.tree.Tables.{Tables}
-use Rattle.cr_statement.specs.declared.tree.Term.{Term}
-use Rattle.cr_statement.specs.declared.tree.Limit.{Limit}
-use Rattle.cr_statement.specs.declared.tree.Select.{Select}
-use Rattle.cr_statement.specs.declared.tree.Insert.{Insert}
-use Rattle.cr_statement.specs.declared.tree.Assignment.{Assignment}
-use Rattle.cr_statement.specs.declared.tree.Update.{Update}
-use Rattle.cr_statement.specs.declared.tree.Delete.{Delete}
-use Rattle.cr_statement.specs.declared.tree.Constraint.{Constraint}
-use Rattle.cr_statement.specs.declared.tree.Constraint.TheVariants as has
-use Rattle.cr_statement.specs.declared.tree.Column.{Column}
-use Rattle.cr_statement.specs.declared.tree.Create.{Create}
-use Rattle.cr_statement.specs.declared.tree.Mode.{Mode}
-use Rattle.cr_statement.specs.declared.tree.Mode.TheVariants as m
-use Rattle.cr_statement.specs.declared.tree.Statement.{Statement}
-use Rattle.cr_statement.specs.declared.tree.Statement.TheVariants as s
+use Rattle.cr_tree.specs.declared.statement.Shown.{Shown}
+use Rattle.cr_tree.specs.declared.statement.Shown.TheVariants as shows
+use Rattle.cr_tree.specs.declared.statement.Source.{Source}
+use Rattle.cr_tree.specs.declared.statement.JoinKind.{JoinKind}
+use Rattle.cr_tree.specs.declared.statement.JoinKind.TheVariants as kind
+use Rattle.cr_tree.specs.declared.statement.Join.{Join}
+use Rattle.cr_tree.specs.declared.statement.Tables.{Tables}
+use Rattle.cr_tree.specs.declared.statement.Term.{Term}
+use Rattle.cr_tree.specs.declared.statement.Limit.{Limit}
+use Rattle.cr_tree.specs.declared.statement.Select.{Select}
+use Rattle.cr_tree.specs.declared.statement.Insert.{Insert}
+use Rattle.cr_tree.specs.declared.statement.Assignment.{Assignment}
+use Rattle.cr_tree.specs.declared.statement.Update.{Update}
+use Rattle.cr_tree.specs.declared.statement.Delete.{Delete}
+use Rattle.cr_tree.specs.declared.statement.Constraint.{Constraint}
+use Rattle.cr_tree.specs.declared.statement.Constraint.TheVariants as has
+use Rattle.cr_tree.specs.declared.statement.Column.{Column}
+use Rattle.cr_tree.specs.declared.statement.Create.{Create}
+use Rattle.cr_tree.specs.declared.statement.Alter.{Alter}
+use Rattle.cr_tree.specs.declared.statement.Mode.{Mode}
+use Rattle.cr_tree.specs.declared.statement.Mode.TheVariants as m
+use Rattle.cr_tree.specs.declared.statement.Statement.{Statement}
+use Rattle.cr_tree.specs.declared.statement.Statement.TheVariants as s
 use Rattle.cr_print.specs.Pieces.{name, value, in_row, listed}
 use Rattle.cr_print.specs.Expressions.{expr}
 
@@ -144,6 +145,11 @@ create_word false = codes "CREATE TABLE "
 abbrev pub create : Create → List ℕ
 create c = create_word c.if_not_exists ++ name c.table ++ codes " (" ++ listed (map column c.columns) ++ key c.key ++ codes ")"
 
+-- ---- ALTER TABLE
+
+abbrev pub alter : Alter → List ℕ
+alter a = codes "ALTER TABLE " ++ name a.table ++ codes " ADD COLUMN " ++ column a.column
+
 -- ---- statements
 
 abbrev pub begin : Option Mode → List ℕ
@@ -158,6 +164,7 @@ statement (s.Insert i) = insert i
 statement (s.Update u) = update u
 statement (s.Delete d) = delete d
 statement (s.Create c) = create c
+statement (s.Alter a) = alter a
 statement (s.Begin mode) = begin mode
 statement s.Commit = codes "COMMIT"
 statement s.Rollback = codes "ROLLBACK"

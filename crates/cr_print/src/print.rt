@@ -5,8 +5,8 @@ ghost use Rattle.std.specs.String.{string_bytes};
 ghost use Rattle.cr_print.specs.Layout as layout;
 
 use crate::select::push_select;
-use crate::write::{push_create, push_delete, push_insert, push_update};
-use cr_statement::tree::{Mode, Statement};
+use crate::write::{push_alter, push_create, push_delete, push_insert, push_update};
+use cr_tree::statement::{Mode, Statement};
 use std::alloc::{AllocError, Global};
 
 fn begin(mode: Option<Mode>) -> &'static str
@@ -29,6 +29,7 @@ fn push_statement(alloc: Global, out: &mut String, statement: &Statement) -> Res
         Statement::Update(update) => push_update(alloc, out, update),
         Statement::Delete(delete) => push_delete(alloc, out, delete),
         Statement::Create(create) => push_create(alloc, out, create),
+        Statement::Alter(alter) => push_alter(alloc, out, alter),
         Statement::Begin(mode) => out.push_str(begin(*mode)),
         Statement::Commit => out.push_str("COMMIT"),
         Statement::Rollback => out.push_str("ROLLBACK"),

@@ -7,8 +7,8 @@ ghost use Rattle.cr_print.specs.Layout as layout;
 
 use crate::expr::{push_expr, push_exprs};
 use crate::pieces::{push_int, push_name};
-use cr_statement::tree::{Join, JoinKind, Limit, Select, Shown, Source, Tables, Term};
 use cr_tree::expr::Expr;
+use cr_tree::statement::{Join, JoinKind, Limit, Select, Shown, Source, Tables, Term};
 use cr_value::text::Text;
 use sqlite_items::Items;
 use std::alloc::{AllocError, Global};

@@ -1,4 +1,4 @@
-//! INSERT, UPDATE, DELETE and CREATE TABLE as SQL text.
+//! INSERT, UPDATE, DELETE, CREATE TABLE and ALTER TABLE as SQL text.
 
 ghost use Rattle.std.specs.Prelude.{◌≡◌, [], ◌++◌, map, OnOk};
 ghost use Rattle.std.specs.String.{string_bytes};
@@ -8,8 +8,8 @@ ghost use Rattle.cr_print.specs.Layout as layout;
 use crate::expr::{push_expr, push_exprs};
 use crate::pieces::{push_name, push_names, push_value};
 use crate::select::push_clause;
-use cr_statement::tree::{Assignment, Column, Constraint, Create, Delete, Insert, Update};
 use cr_tree::expr::Expr;
+use cr_tree::statement::{Alter, Assignment, Column, Constraint, Create, Delete, Insert, Update};
 use cr_value::text::Text;
 use sqlite_items::Items;
 use std::alloc::{AllocError, Global};
@@ -220,4 +220,14 @@ pub fn push_create(alloc: Global, out: &mut String, create: &Create) -> Result<(
     push_all_columns(alloc, out, ", ", create.columns.as_slice())?;
     push_key(out, &create.key)?;
     out.push_str(")")
+}
+
+/// Appends an ALTER TABLE.
+pub fn push_alter(alloc: Global, out: &mut String, alter: &Alter) -> Result<(), AllocError>
+    ensures { OnOk result (string_bytes out.new ≡ string_bytes out.old ++ layout.alter alter.now) }
+{
+    out.push_str("ALTER TABLE ")?;
+    push_name(out, &alter.table)?;
+    out.push_str(" ADD COLUMN ")?;
+    push_column(alloc, out, &alter.column)
 }

@@ -3,6 +3,7 @@ use Rattle.std.proofs.Common.{◌≡◌, ℕ, zero, suc, ◌-◌, ◌≤◌, ◌
 use Rattle.std.proofs.lemmas.Bool.{lt-ltb, ltb-true, leb-false}
 use Rattle.cr_value.specs.declared.value.Value.{Value}
 use Rattle.cr_value.specs.declared.value.Value.TheVariants as v
+use Rattle.cr_tree.specs.declared.limits.TheConstants.{LIMITS}
 use Rattle.cr_tree.specs.declared.symbol.Mark.{Mark}
 use Rattle.cr_tree.specs.declared.symbol.Mark.TheVariants as m
 use Rattle.cr_tree.specs.declared.symbol.Symbol.{Symbol}
@@ -11,18 +12,19 @@ use Rattle.cr_tree.specs.Grammar.{NoSizes}
 use Rattle.cr_tree.specs.Language.{Language}
 use Rattle.cr_tree.specs.Judging.{IsRead}
 use Rattle.cr_tree.proofs.Forms.{if_true}
-use Rattle.cr_statement.specs.declared.tree.Join.{Join}
-use Rattle.cr_statement.specs.declared.tree.JoinKind.{JoinKind}
-use Rattle.cr_statement.specs.declared.tree.JoinKind.TheVariants as j
-use Rattle.cr_statement.specs.declared.tree.Shown.TheVariants as s
-use Rattle.cr_statement.specs.declared.tree.Constraint.TheVariants as c
-use Rattle.cr_statement.specs.declared.tree.Statement.{Statement}
-use Rattle.cr_statement.specs.declared.tree.Statement.TheVariants as t
+use Rattle.cr_tree.specs.declared.statement.Join.{Join}
+use Rattle.cr_tree.specs.declared.statement.JoinKind.{JoinKind}
+use Rattle.cr_tree.specs.declared.statement.JoinKind.TheVariants as j
+use Rattle.cr_tree.specs.declared.statement.Shown.TheVariants as s
+use Rattle.cr_tree.specs.declared.statement.Constraint.TheVariants as c
+use Rattle.cr_tree.specs.declared.statement.Column.{Column}
+use Rattle.cr_tree.specs.declared.statement.Statement.{Statement}
+use Rattle.cr_tree.specs.declared.statement.Statement.TheVariants as t
 use Rattle.cr_statement.specs.Languages.{◌◁◌, ◌▷◌, ◌⊗◌, ◌⟨$⟩◌, One, Other, mark, maybe, maybe_mark, name, one_of, sizes}
 use Rattle.cr_statement.specs.Statements as grammar
 use Rattle.cr_roundtrip.specs.Printed.{All, IsSeen, InRange}
 use Rattle.cr_roundtrip.proofs.Printed.{front, back, join}
-use Rattle.cr_roundtrip.proofs.Rewriting.{Rewrites, kept, expression, mapped, behind, before, pair, option, several, listed, either}
+use Rattle.cr_roundtrip.proofs.Rewriting.{Rewrites, kept, expression, mapped, behind, before, pair, option, several, at_most, listed, either}
 
 -- ---- integers
 
@@ -74,7 +76,7 @@ count_of (negsuc n) = One (record { symbol = k.Number (suc n); value = negsuc n 
 abbrev pub count_value : grammar.count.D → ℤ
 count_value d = grammar.count.value d
 
-pub count_fits : (i : ℤ) → InRange i → grammar.count.fits 200 99 (count_of i)
+pub count_fits : (i : ℤ) → InRange i → grammar.count.fits LIMITS (count_of i)
 count_fits (pos n) h = if_true (nat_lt n (2 ^ 63)) (Some (pos n)) None (lt-ltb n (2 ^ 63) h)
 count_fits (negsuc n) h = if_true (nat_le (suc n) (2 ^ 63)) (Some (negsuc n)) None (lt-ltb n (2 ^ 63) h)
 
@@ -86,7 +88,7 @@ pub count_seen : (i : ℤ) → InRange i → All IsSeen (grammar.count.words (co
 count_seen (pos n) h = (omega (arith, h), tt)
 count_seen (negsuc n) h = (tt, (h, tt))
 
-pub count_ranged : (d : grammar.count.D) → grammar.count.fits 200 99 d → All IsSeen (grammar.count.words d) → InRange (count_value d)
+pub count_ranged : (d : grammar.count.D) → grammar.count.fits LIMITS d → All IsSeen (grammar.count.words d) → InRange (count_value d)
 count_ranged (One d) i a = negative_ranged d.symbol d.value i a.1.0
 count_ranged (Other d) i a = int_ranged d.symbol d.value i a.0
 
@@ -99,7 +101,7 @@ abbrev pub literal_int : ℤ → grammar.literal.D
 literal_int (pos n) = Other (Other (record { symbol = k.Number n; value = v.Int (pos n) }))
 literal_int (negsuc n) = One (record { symbol = k.Number (suc n); value = negsuc n })
 
-pub int_fits : (i : ℤ) → InRange i → grammar.literal.fits 200 99 (literal_int i)
+pub int_fits : (i : ℤ) → InRange i → grammar.literal.fits LIMITS (literal_int i)
 int_fits (pos n) h = if_true (nat_lt n (2 ^ 63)) (Some (v.Int (pos n))) None (lt-ltb n (2 ^ 63) h)
 int_fits (negsuc n) h = if_true (nat_le (suc n) (2 ^ 63)) (Some (negsuc n)) None (lt-ltb n (2 ^ 63) h)
 
@@ -120,7 +122,7 @@ literal_to (One d) = literal_int d.value
 literal_to (Other (One d)) = literal_int d.value
 literal_to (Other (Other d)) = plain_to d.symbol d.value
 
-pub plain_fits : (x : Symbol) (a : Value) → grammar.plain_of x ≡ Some a → IsSeen x → grammar.literal.fits 200 99 (plain_to x a)
+pub plain_fits : (x : Symbol) (a : Value) → grammar.plain_of x ≡ Some a → IsSeen x → grammar.literal.fits LIMITS (plain_to x a)
 plain_fits (k.Bits i) a e h = int_fits i h
 plain_fits (k.Mark x) a e h = e
 plain_fits (k.Name x) a e h = e
@@ -150,17 +152,17 @@ plain_seen (k.Number x) a h = (h, tt)
 plain_seen (k.Param x) a h = (h, tt)
 plain_seen k.Other a h = (h, tt)
 
-pub literal_fits : (d : grammar.literal.D) → grammar.literal.fits 200 99 d → All IsSeen (grammar.literal.words d) → grammar.literal.fits 200 99 (literal_to d)
+pub literal_fits : (d : grammar.literal.D) → grammar.literal.fits LIMITS d → All IsSeen (grammar.literal.words d) → grammar.literal.fits LIMITS (literal_to d)
 literal_fits (One d) i a = int_fits d.value (negative_ranged d.symbol d.value i a.1.0)
 literal_fits (Other (One d)) i a = int_fits d.value (int_ranged d.symbol d.value i a.1.0)
 literal_fits (Other (Other d)) i a = plain_fits d.symbol d.value i a.0
 
-pub literal_same : (d : grammar.literal.D) → grammar.literal.fits 200 99 d → grammar.literal.value (literal_to d) ≡ grammar.literal.value d
+pub literal_same : (d : grammar.literal.D) → grammar.literal.fits LIMITS d → grammar.literal.value (literal_to d) ≡ grammar.literal.value d
 literal_same (One d) i = int_same d.value
 literal_same (Other (One d)) i = int_same d.value
 literal_same (Other (Other d)) i = plain_same d.symbol d.value i
 
-pub literal_seen : (d : grammar.literal.D) → grammar.literal.fits 200 99 d → All IsSeen (grammar.literal.words d) → All IsSeen (grammar.literal.words (literal_to d))
+pub literal_seen : (d : grammar.literal.D) → grammar.literal.fits LIMITS d → All IsSeen (grammar.literal.words d) → All IsSeen (grammar.literal.words (literal_to d))
 literal_seen (One d) i a = int_seen d.value (negative_ranged d.symbol d.value i a.1.0)
 literal_seen (Other (One d)) i a = int_seen d.value (int_ranged d.symbol d.value i a.1.0)
 literal_seen (Other (Other d)) i a = plain_seen d.symbol d.value a.0
@@ -177,15 +179,15 @@ flag_to on off (Other b) = Other false
 abbrev pub flag : (on off : Mark) → Rewrites (grammar.flag on off)
 flag on off = record { to = flag_to on off; fitting = fits; means = same; seen = sees }
   where
-    fits : (d : (grammar.flag on off).D) → (grammar.flag on off).fits 200 99 d → All IsSeen ((grammar.flag on off).words d) → (grammar.flag on off).fits 200 99 (flag_to on off d)
+    fits : (d : (grammar.flag on off).D) → (grammar.flag on off).fits LIMITS d → All IsSeen ((grammar.flag on off).words d) → (grammar.flag on off).fits LIMITS (flag_to on off d)
     fits (One d) i a = i
     fits (Other b) i a = i
 
-    same : (d : (grammar.flag on off).D) → (grammar.flag on off).fits 200 99 d → (grammar.flag on off).value (flag_to on off d) ≡ (grammar.flag on off).value d
+    same : (d : (grammar.flag on off).D) → (grammar.flag on off).fits LIMITS d → (grammar.flag on off).value (flag_to on off d) ≡ (grammar.flag on off).value d
     same (One d) i = refl
     same (Other b) i = refl
 
-    sees : (d : (grammar.flag on off).D) → (grammar.flag on off).fits 200 99 d → All IsSeen ((grammar.flag on off).words d) → All IsSeen ((grammar.flag on off).words (flag_to on off d))
+    sees : (d : (grammar.flag on off).D) → (grammar.flag on off).fits LIMITS d → All IsSeen ((grammar.flag on off).words d) → All IsSeen ((grammar.flag on off).words (flag_to on off d))
     sees (One d) i a = a
     sees (Other b) i a = tt
 
@@ -221,21 +223,21 @@ join_to (Other (Other (Other (Other d)))) = Other (Other (One ((joined j.Inner).
 abbrev pub joins : Rewrites grammar.join
 joins = record { to = join_to; fitting = fits; means = same; seen = sees }
   where
-    fits : (d : grammar.join.D) → grammar.join.fits 200 99 d → All IsSeen (grammar.join.words d) → grammar.join.fits 200 99 (join_to d)
+    fits : (d : grammar.join.D) → grammar.join.fits LIMITS d → All IsSeen (grammar.join.words d) → grammar.join.fits LIMITS (join_to d)
     fits (One d) i a = comma_join.fitting d i a
     fits (Other (One d)) i a = (tt, (joined j.Left).fitting d.1 i.1 (back IsSeen ((maybe_mark m.Outer).words d.0) ((grammar.joined j.Left).words d.1) a.1))
     fits (Other (Other (One d))) i a = (joined j.Inner).fitting d i a.1
     fits (Other (Other (Other (One d)))) i a = (joined j.Cross).fitting d i a.1
     fits (Other (Other (Other (Other d)))) i a = (joined j.Inner).fitting d i a
 
-    same : (d : grammar.join.D) → grammar.join.fits 200 99 d → grammar.join.value (join_to d) ≡ grammar.join.value d
+    same : (d : grammar.join.D) → grammar.join.fits LIMITS d → grammar.join.value (join_to d) ≡ grammar.join.value d
     same (One d) i = comma_join.means d i
     same (Other (One d)) i = (joined j.Left).means d.1 i.1
     same (Other (Other (One d))) i = (joined j.Inner).means d i
     same (Other (Other (Other (One d)))) i = (joined j.Cross).means d i
     same (Other (Other (Other (Other d)))) i = (joined j.Inner).means d i
 
-    sees : (d : grammar.join.D) → grammar.join.fits 200 99 d → All IsSeen (grammar.join.words d) → All IsSeen (grammar.join.words (join_to d))
+    sees : (d : grammar.join.D) → grammar.join.fits LIMITS d → All IsSeen (grammar.join.words d) → All IsSeen (grammar.join.words (join_to d))
     sees (One d) i a = comma_join.seen d i a
     sees (Other (One d)) i a = (tt, (joined j.Left).seen d.1 i.1 (back IsSeen ((maybe_mark m.Outer).words d.0) ((grammar.joined j.Left).words d.1) a.1))
     sees (Other (Other (One d))) i a = (tt, (joined j.Inner).seen d i a.1)
@@ -243,7 +245,7 @@ joins = record { to = join_to; fitting = fits; means = same; seen = sees }
     sees (Other (Other (Other (Other d)))) i a = (tt, (joined j.Inner).seen d i a)
 
 abbrev pub tables : Rewrites grammar.tables
-tables = mapped (λ x. record { first = x.0; joins = x.1 }) (pair source (several joins))
+tables = mapped (λ x. record { first = x.0; joins = x.1 }) (pair source (at_most joins (λ lim. lim.joins)))
 
 abbrev pub filter : Rewrites grammar.filter
 filter = option (behind m.Where expression)
@@ -289,6 +291,21 @@ abbrev pub create : Rewrites grammar.create
 create = mapped (λ x. record { if_not_exists = x.0; table = x.1.0; columns = x.1.1.0; key = x.1.1.1 })
     (pair (behind m.Create (behind m.Table (kept grammar.if_not_exists))) (pair (kept name) (behind m.Open (before m.Close (pair (listed column) (option (behind m.Comma (behind m.Primary (behind m.Key (behind m.Open (before m.Close (listed (kept name)))))))))))))
 
+-- a column, before which COLUMN may be absent
+abbrev pub Added : Language Column
+Added = (λ x. x.1) ⟨$⟩ maybe_mark m.Column ⊗ grammar.column
+
+abbrev pub added : Rewrites Added
+added = record {
+  to = λ d. (true, column.to d.1);
+  fitting = λ d i a. (tt, column.fitting d.1 i.1 (back IsSeen ((maybe_mark m.Column).words d.0) (grammar.column.words d.1) a));
+  means = λ d i. column.means d.1 i.1;
+  seen = λ d i a. (tt, column.seen d.1 i.1 (back IsSeen ((maybe_mark m.Column).words d.0) (grammar.column.words d.1) a));
+}
+
+abbrev pub alter : Rewrites grammar.alter
+alter = mapped (λ x. record { table = x.0; column = x.1 }) (pair (behind m.Alter (behind m.Table (kept name))) (behind m.Add added))
+
 -- ---- transactions
 
 abbrev pub transaction_to : grammar.transaction.D → grammar.transaction.D
@@ -300,19 +317,19 @@ transaction_to (Other (Other (Other b))) = Other (Other (Other false))
 abbrev pub transaction : Rewrites grammar.transaction
 transaction = record { to = transaction_to; fitting = fits; means = same; seen = sees }
   where
-    fits : (d : grammar.transaction.D) → grammar.transaction.fits 200 99 d → All IsSeen (grammar.transaction.words d) → grammar.transaction.fits 200 99 (transaction_to d)
+    fits : (d : grammar.transaction.D) → grammar.transaction.fits LIMITS d → All IsSeen (grammar.transaction.words d) → grammar.transaction.fits LIMITS (transaction_to d)
     fits (One d) i a = (i.0, tt)
     fits (Other (One b)) i a = tt
     fits (Other (Other (One b))) i a = tt
     fits (Other (Other (Other b))) i a = tt
 
-    same : (d : grammar.transaction.D) → grammar.transaction.fits 200 99 d → grammar.transaction.value (transaction_to d) ≡ grammar.transaction.value d
+    same : (d : grammar.transaction.D) → grammar.transaction.fits LIMITS d → grammar.transaction.value (transaction_to d) ≡ grammar.transaction.value d
     same (One d) i = refl
     same (Other (One b)) i = refl
     same (Other (Other (One b))) i = refl
     same (Other (Other (Other b))) i = refl
 
-    sees : (d : grammar.transaction.D) → grammar.transaction.fits 200 99 d → All IsSeen (grammar.transaction.words d) → All IsSeen (grammar.transaction.words (transaction_to d))
+    sees : (d : grammar.transaction.D) → grammar.transaction.fits LIMITS d → All IsSeen (grammar.transaction.words d) → All IsSeen (grammar.transaction.words (transaction_to d))
     sees (One d) i a = (tt, join IsSeen ((maybe (one_of grammar.mode_of)).words d.0) [] (front IsSeen ((maybe (one_of grammar.mode_of)).words d.0) ((maybe_mark m.Transaction).words d.1) a.1) tt)
     sees (Other (One b)) i a = (tt, tt)
     sees (Other (Other (One b))) i a = (tt, tt)
@@ -321,7 +338,7 @@ transaction = record { to = transaction_to; fitting = fits; means = same; seen =
 -- ---- the whole
 
 abbrev pub statement : Rewrites grammar.statement
-statement = either (mapped t.Select select) (either (mapped t.Create create) (either (mapped t.Insert insert) (either (mapped t.Update update) (either (mapped t.Delete delete) transaction))))
+statement = either (mapped t.Select select) (either (mapped t.Create create) (either (mapped t.Alter alter) (either (mapped t.Insert insert) (either (mapped t.Update update) (either (mapped t.Delete delete) transaction)))))
 
 -- the symbols that are printed of a statement
 abbrev pub again : grammar.statement.D → List Symbol

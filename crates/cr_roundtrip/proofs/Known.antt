@@ -1,5 +1,6 @@
 -- Each symbol of a statement is a known one.
-use Rattle.std.proofs.Common.{◌≡◌, ℕ, Bool, true, false, List, [], ◌∷◌, ◌++◌, Option, Some, None}
+use Rattle.std.proofs.Common.{◌≡◌, ℕ, Bool, true, false, List, [], ◌∷◌, ◌++◌, Option, Some, None, length, ◌≤◌}
+use Rattle.cr_tree.specs.declared.limits.TheConstants.{LIMITS}
 use Rattle.cr_tree.specs.declared.symbol.Mark.{Mark}
 use Rattle.cr_tree.specs.declared.symbol.Mark.TheVariants as m
 use Rattle.cr_tree.specs.declared.symbol.Symbol.{Symbol}
@@ -7,8 +8,8 @@ use Rattle.cr_tree.specs.declared.symbol.Symbol.TheVariants as k
 use Rattle.cr_tree.specs.declared.expr.Expr.{Expr}
 use Rattle.cr_tree.specs.Grammar.{Operator, Or, And, Equal, DoubleEqual, Unequal, BangEqual, Is, IsNot, Like, NotLike, Less, AtMost, Greater, AtLeast, Plus, Minus, Star, Slash, Percent, Bars, Test, IsNull, NotNull, NotNullApart, Sizes, NoSizes, OneSize, TwoSizes, Phrase, Leaf, Negative, Name, Dotted, NotOf, PlusOf, MinusOf, With, Inside, CallNone, Call, CountAll, Cast, Case, Tail, Infix, Tested, Collated, Among, Between, Phrases, One, And_more, Arms, Arm, And_arms, Perhaps, Absent, Present, spelled, spelled_tail, spelled_all, spelled_arms, spelled_perhaps, operator_words, test_words, not_words, sizes_words, names_words, leaf, is_size, AreSizes, IsProper, IsProperTail, AreProper, AreProperArms, IsProperPerhaps}
 use Rattle.cr_tree.specs.Language.{Language, expr}
-use Rattle.cr_statement.specs.declared.tree.JoinKind.{JoinKind}
-use Rattle.cr_statement.specs.declared.tree.JoinKind.TheVariants as j
+use Rattle.cr_tree.specs.declared.statement.JoinKind.{JoinKind}
+use Rattle.cr_tree.specs.declared.statement.JoinKind.TheVariants as j
 use Rattle.cr_statement.specs.Languages.{◌◁◌, ◌▷◌, ◌⊗◌, ◌⟨$⟩◌, ◌∣◌, Either, either_fits, by_either, option_fits, option_words, all_fit, all_words, maybe, maybe_mark, many, commas, mark, nothing, name, one_of, sizes}
 use Rattle.cr_statement.specs.Languages as choice
 use Rattle.cr_statement.specs.Statements as grammar
@@ -145,7 +146,7 @@ record Knows {D : Type 0} (fits : D → Type 0) (words : D → List Symbol) : Ty
   pub known : (d : D) → fits d → Knowns (words d)
 
 abbrev Of : {A : Type 0} → Language A → Type 0
-Of L = Knows (L.fits 200 99) L.words
+Of L = Knows (L.fits LIMITS) L.words
 
 expression : Of expr
 expression = record { known = λ d i. phrase_known d i.proper }
@@ -192,6 +193,9 @@ module _ {D : Type 0} {F : D → Type 0} {w : D → List Symbol} (p : Knows F w)
 
   several : Knows (all_fit F) (all_words w)
   several = record { known = each_known [] tt }
+
+  at_most : (n : ℕ) → Knows {D = List D} (λ ds. all_fit F ds × (length ds ≤ n)) (all_words w)
+  at_most n = record { known = λ d i. each_known [] tt d i.0 }
 
   listed : Knows {D = D × List D} (λ d. F d.0 × all_fit F d.1) (λ d. w d.0 ++ all_words (λ d. k.Mark m.Comma ∷ w d) d.1)
   listed = record { known = λ d i. and_then (w d.0) (all_words (λ d. k.Mark m.Comma ∷ w d) d.1) (p.known d.0 i.0) (each_known (k.Mark m.Comma ∷ []) (tt, tt) d.1 i.1) }
@@ -252,7 +256,7 @@ filter : Of grammar.filter
 filter = option (behind expression m.Where)
 
 select : Of grammar.select
-select = pair (behind (flag m.Distinct m.All) m.Select) (pair (listed shown) (pair (option (behind (pair source (several a_join)) m.From)) (pair filter (pair (option (behind (behind (listed expression) m.By) m.Group)) (pair (option (behind expression m.Having))
+select = pair (behind (flag m.Distinct m.All) m.Select) (pair (listed shown) (pair (option (behind (pair source (at_most a_join LIMITS.joins)) m.From)) (pair filter (pair (option (behind (behind (listed expression) m.By) m.Group)) (pair (option (behind expression m.Having))
     (pair (option (behind (behind (listed (pair expression (flag m.Desc m.Asc))) m.By) m.Order)) (option (pair (behind count m.Limit) (option (behind count m.Offset))))))))))
 
 names : Of (m.Open ◁ grammar.names ▷ m.Close)
@@ -279,6 +283,9 @@ if_not_exists = either (behind (behind (a_mark m.Exists) m.Not) m.If) an_empty
 create : Of grammar.create
 create = pair (behind (behind if_not_exists m.Table) m.Create) (pair a_name (behind (before (pair (listed column) (option (behind (behind (behind names m.Key) m.Primary) m.Comma))) m.Close) m.Open))
 
+alter : Of grammar.alter
+alter = pair (behind (behind a_name m.Table) m.Alter) (behind (pair (perhaps_mark m.Column) column) m.Add)
+
 ended : (x : Mark) → Knows {D = Bool} (λ d. Unit {0}) (λ d. k.Mark x ∷ (maybe_mark m.Transaction).words d)
 ended x = behind (perhaps_mark m.Transaction) x
 
@@ -286,7 +293,7 @@ begin : Of grammar.begin
 begin = pair (behind (option (one_known grammar.mode_of (λ a h. cc))) m.Begin) (perhaps_mark m.Transaction)
 
 statement : Of grammar.statement
-statement = either select (either create (either insert (either update (either delete (either begin (either (ended m.Commit) (either (ended m.End) (ended m.Rollback))))))))
+statement = either select (either create (either alter (either insert (either update (either delete (either begin (either (ended m.Commit) (either (ended m.End) (ended m.Rollback)))))))))
 
-pub all_are_known : (d : grammar.statement.D) → grammar.statement.fits 200 99 d → All IsKnown (grammar.statement.words d)
+pub all_are_known : (d : grammar.statement.D) → grammar.statement.fits LIMITS d → All IsKnown (grammar.statement.words d)
 all_are_known d i = statement.known d i

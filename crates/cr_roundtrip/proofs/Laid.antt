@@ -1,13 +1,15 @@
 -- Parts of statements as they are written, and how they are put together.
 use Rattle.std.proofs.Common.{◌≡◌, ℕ, Bool, true, false, List, [], ◌∷◌, ◌++◌, map, Option, Some, None, refl, ◌∙◌, ap, subst, append_assoc, codes}
 use Rattle.std.proofs.lemmas.List.{append-nil}
+use Rattle.cr_tree.specs.declared.limits.Limits.{Limits}
+use Rattle.cr_tree.specs.declared.limits.TheConstants.{LIMITS}
 use Rattle.cr_tree.specs.declared.symbol.Mark.{Mark}
 use Rattle.cr_tree.specs.declared.symbol.Mark.TheVariants as m
 use Rattle.cr_tree.specs.declared.symbol.Symbol.{Symbol}
 use Rattle.cr_tree.specs.declared.symbol.Symbol.TheVariants as k
 use Rattle.cr_tree.specs.Language.{Language, expr}
 use Rattle.cr_symbols.specs.Marks.{marked, words, signs}
-use Rattle.cr_statement.specs.Languages.{◌◁◌, ◌▷◌, ◌⊗◌, ◌⟨$⟩◌, ◌∣◌, Either, One, Other, either_fits, by_either, option_fits, option_words, option_value, all_fit, all_words, maybe, many, commas, mark, name}
+use Rattle.cr_statement.specs.Languages.{◌◁◌, ◌▷◌, ◌⊗◌, ◌⟨$⟩◌, ◌∣◌, Either, One, Other, either_fits, by_either, option_fits, option_words, option_value, all_fit, all_words, maybe, many, up_to, commas, mark, name}
 use Rattle.cr_pieces.specs.Pieces.{Piece, text, symbols}
 use Rattle.cr_pieces.specs.Known.{word, sign}
 use Rattle.cr_pieces.specs.Known as piece
@@ -127,10 +129,10 @@ in_parentheses {ws} {t} b l = record {
 
 -- each derivation is laid out so
 pub record Prints {A : Type 0} (L : Language A) (p : Rewrites L) (f : A → List ℕ) : Type 0 where
-  pub laid : (b : Bool) (d : L.D) → L.fits 200 99 d → All IsSeen (L.words d) → Laid b (L.words (p.to d)) (f (L.value d))
+  pub laid : (b : Bool) (d : L.D) → L.fits LIMITS d → All IsSeen (L.words d) → Laid b (L.words (p.to d)) (f (L.value d))
 
 pub record PrintsTail {A : Type 0} (L : Language A) (p : Rewrites L) (f : A → List ℕ) : Type 0 where
-  pub tail : (d : L.D) → L.fits 200 99 d → All IsSeen (L.words d) → Tail (L.words (p.to d)) (f (L.value d))
+  pub tail : (d : L.D) → L.fits LIMITS d → All IsSeen (L.words d) → Tail (L.words (p.to d)) (f (L.value d))
 
 pub expression_printed : Prints expr expression expressions.expr
 expression_printed = record { laid = λ b d i a. record { with = pieces b (printed d); spells = have b d i.proper; reads = texts b d i.proper; chains = chain b d i.proper (seen d i.proper a) } }
@@ -169,19 +171,22 @@ module _ {A : Type 0} {L : Language A} {p : Rewrites L} {f : A → List ℕ} whe
   pub option_printed : (g : Option A → List ℕ) → [] ≡ g None → ((a : A) → f a ≡ g (Some a)) → PrintsTail L p f → PrintsTail (maybe L) (option p) g
   option_printed g e h q = record { tail = at }
     where
-      at : (d : Option L.D) → option_fits (L.fits 200 99) d → All IsSeen (option_words L.words d) → Tail (option_words L.words (rewriting.option_to p d)) (g (option_value L.value d))
+      at : (d : Option L.D) → option_fits (L.fits LIMITS) d → All IsSeen (option_words L.words d) → Tail (option_words L.words (rewriting.option_to p d)) (g (option_value L.value d))
       at None i a = tail_as e nothing_there
       at (Some d) i a = tail_as (h (L.value d)) (q.tail d i a)
 
   -- of a list of tails
-  several_printed : PrintsTail L p f → (ds : List L.D) → all_fit (L.fits 200 99) ds → All IsSeen (all_words L.words ds) → Tail (all_words L.words (rewriting.all_to p ds)) (in_row [] [] (map f (map L.value ds)))
+  several_printed : PrintsTail L p f → (ds : List L.D) → all_fit (L.fits LIMITS) ds → All IsSeen (all_words L.words ds) → Tail (all_words L.words (rewriting.all_to p ds)) (in_row [] [] (map f (map L.value ds)))
   several_printed q [] i a = nothing_there
   several_printed q (d ∷ ds) i a = tails (q.tail d i.0 (front IsSeen (L.words d) (all_words L.words ds) a)) (several_printed q ds i.1 (back IsSeen (L.words d) (all_words L.words ds) a))
 
   pub many_printed : PrintsTail L p f → PrintsTail (many L) (several p) (λ xs. in_row [] [] (map f xs))
   many_printed q = record { tail = several_printed q }
 
-  others_printed : Prints L p f → (ds : List L.D) → all_fit (L.fits 200 99) ds → All IsSeen (all_words (λ d. k.Mark m.Comma ∷ L.words d) ds) → Tail (all_words (λ d. k.Mark m.Comma ∷ L.words d) (rewriting.all_to p ds)) (in_row (codes ", ") (codes ", ") (map f (map L.value ds)))
+  pub up_printed : (most : Limits → ℕ) → PrintsTail L p f → PrintsTail (up_to most L) (rewriting.at_most p most) (λ xs. in_row [] [] (map f xs))
+  up_printed most q = record { tail = λ d i a. several_printed q d i.0 a }
+
+  others_printed : Prints L p f → (ds : List L.D) → all_fit (L.fits LIMITS) ds → All IsSeen (all_words (λ d. k.Mark m.Comma ∷ L.words d) ds) → Tail (all_words (λ d. k.Mark m.Comma ∷ L.words d) (rewriting.all_to p ds)) (in_row (codes ", ") (codes ", ") (map f (map L.value ds)))
   others_printed q [] i a = nothing_there
   others_printed q (d ∷ ds) i a = tails (behind_comma (q.laid true d i.0 (front IsSeen (L.words d) (all_words (λ d. k.Mark m.Comma ∷ L.words d) ds) a.1))) (others_printed q ds i.1 (back IsSeen (L.words d) (all_words (λ d. k.Mark m.Comma ∷ L.words d) ds) a.1))
 
@@ -200,13 +205,13 @@ module _ {A : Type 0} {L M : Language A} {p : Rewrites L} {r : Rewrites M} {f : 
   pub either_printed : Prints L p f → Prints M r f → Prints (L ∣ M) (either p r) f
   either_printed q s = record { laid = at }
     where
-      at : (b : Bool) (d : Either L.D M.D) → either_fits (L.fits 200 99) (M.fits 200 99) d → All IsSeen (by_either L.words M.words d) → Laid b (by_either L.words M.words (rewriting.either_to p r d)) (f (by_either L.value M.value d))
+      at : (b : Bool) (d : Either L.D M.D) → either_fits (L.fits LIMITS) (M.fits LIMITS) d → All IsSeen (by_either L.words M.words d) → Laid b (by_either L.words M.words (rewriting.either_to p r d)) (f (by_either L.value M.value d))
       at b (One d) i a = q.laid b d i a
       at b (Other d) i a = s.laid b d i a
 
   pub either_tail : PrintsTail L p f → PrintsTail M r f → PrintsTail (L ∣ M) (either p r) f
   either_tail q s = record { tail = at }
     where
-      at : (d : Either L.D M.D) → either_fits (L.fits 200 99) (M.fits 200 99) d → All IsSeen (by_either L.words M.words d) → Tail (by_either L.words M.words (rewriting.either_to p r d)) (f (by_either L.value M.value d))
+      at : (d : Either L.D M.D) → either_fits (L.fits LIMITS) (M.fits LIMITS) d → All IsSeen (by_either L.words M.words d) → Tail (by_either L.words M.words (rewriting.either_to p r d)) (f (by_either L.value M.value d))
       at (One d) i a = q.tail d i a
       at (Other d) i a = s.tail d i a

@@ -4,22 +4,23 @@ use Rattle.std.proofs.lemmas.List.{append-nil}
 use Rattle.std.specs.Fmt.{signed_decimal}
 use Rattle.cr_value.specs.declared.value.Value.{Value}
 use Rattle.cr_value.specs.declared.value.Value.TheVariants as v
+use Rattle.cr_tree.specs.declared.limits.TheConstants.{LIMITS}
 use Rattle.cr_tree.specs.declared.symbol.Mark.TheVariants as m
 use Rattle.cr_tree.specs.declared.symbol.Symbol.{Symbol}
 use Rattle.cr_tree.specs.declared.symbol.Symbol.TheVariants as k
 use Rattle.cr_tree.specs.Grammar.{spelled}
 use Rattle.cr_tree.specs.Language.{expr}
 use Rattle.cr_symbols.specs.Marks.{words, signs}
-use Rattle.cr_statement.specs.declared.tree.Join.{Join}
-use Rattle.cr_statement.specs.declared.tree.JoinKind.{JoinKind}
-use Rattle.cr_statement.specs.declared.tree.JoinKind.TheVariants as j
-use Rattle.cr_statement.specs.declared.tree.Shown.TheVariants as s
-use Rattle.cr_statement.specs.declared.tree.Tables.{Tables}
-use Rattle.cr_statement.specs.declared.tree.Limit.{Limit}
-use Rattle.cr_statement.specs.declared.tree.Mode.{Mode}
-use Rattle.cr_statement.specs.declared.tree.Mode.TheVariants as o
-use Rattle.cr_statement.specs.declared.tree.Constraint.TheVariants as c
-use Rattle.cr_statement.specs.declared.tree.Statement.TheVariants as t
+use Rattle.cr_tree.specs.declared.statement.Join.{Join}
+use Rattle.cr_tree.specs.declared.statement.JoinKind.{JoinKind}
+use Rattle.cr_tree.specs.declared.statement.JoinKind.TheVariants as j
+use Rattle.cr_tree.specs.declared.statement.Shown.TheVariants as s
+use Rattle.cr_tree.specs.declared.statement.Tables.{Tables}
+use Rattle.cr_tree.specs.declared.statement.Limit.{Limit}
+use Rattle.cr_tree.specs.declared.statement.Mode.{Mode}
+use Rattle.cr_tree.specs.declared.statement.Mode.TheVariants as o
+use Rattle.cr_tree.specs.declared.statement.Constraint.TheVariants as c
+use Rattle.cr_tree.specs.declared.statement.Statement.TheVariants as t
 use Rattle.cr_statement.specs.Languages.{◌◁◌, ◌▷◌, ◌⟨$⟩◌, One, Other, mark, maybe, maybe_mark, many, commas, name, sizes}
 use Rattle.cr_statement.specs.Statements as grammar
 use Rattle.cr_pieces.specs.Pieces.{text}
@@ -39,7 +40,7 @@ use Rattle.cr_roundtrip.proofs.Texts.{gap, number_text}
 use Rattle.cr_roundtrip.proofs.Chain.{calm_follows, named, number_chain}
 use Rattle.cr_roundtrip.proofs.Rewriting.{Rewrites, kept, expression, mapped, behind, before, pair, option, several, either}
 use Rattle.cr_roundtrip.proofs.Rewriting as rewriting
-use Rattle.cr_roundtrip.proofs.Laid.{Laid, Tail, laid_as, tail_as, laid_word, laid_sign, laid_name, apart, nothing_there, then_tail, behind_comma, Prints, PrintsTail, expression_printed, name_printed, mapped_printed, mapped_tail, word_before, sign_before, comma_before, apart_printed, in_parentheses_printed, option_printed, many_printed, listed_printed, pair_printed, pair_tail, either_printed, either_tail}
+use Rattle.cr_roundtrip.proofs.Laid.{Laid, Tail, laid_as, tail_as, laid_word, laid_sign, laid_name, apart, nothing_there, then_tail, behind_comma, Prints, PrintsTail, expression_printed, name_printed, mapped_printed, mapped_tail, word_before, sign_before, comma_before, apart_printed, in_parentheses_printed, option_printed, many_printed, up_printed, listed_printed, pair_printed, pair_tail, either_printed, either_tail}
 use Rattle.cr_roundtrip.proofs.Again as again
 use Rattle.cr_roundtrip.proofs.Again.{count_of, count_value, count_seen, count_ranged, literal_int, plain_to, literal_to, negative_ranged, int_ranged, int_seen}
 
@@ -104,7 +105,7 @@ join_printed : PrintsTail grammar.join again.joins layout.join
 unfolding words
 join_printed = record { tail = at }
   where
-    at : (d : grammar.join.D) → grammar.join.fits 200 99 d → All IsSeen (grammar.join.words d) → Tail (grammar.join.words (again.join_to d)) (layout.join (grammar.join.value d))
+    at : (d : grammar.join.D) → grammar.join.fits LIMITS d → All IsSeen (grammar.join.words d) → Tail (grammar.join.words (again.join_to d)) (layout.join (grammar.join.value d))
     at (One d) i a = tail_as (sym (append-nil (codes ", " ++ layout.source (grammar.source.value d)))) (behind_comma (source_printed.laid true d i a.1))
     at (Other (One d)) i a = apart (then_tail (laid_word true (codes "LEFT") m.Left refl) (apart ((joined_printed j.Left).laid true d.1 i.1 (back IsSeen ((maybe_mark m.Outer).words d.0) ((grammar.joined j.Left).words d.1) a.1))))
     at (Other (Other (One d))) i a = apart (then_tail (laid_word true (codes "INNER") m.Inner refl) (apart ((joined_printed j.Inner).laid true d i a.1)))
@@ -115,7 +116,7 @@ abbrev tables_text : Tables → List ℕ
 tables_text x = layout.source x.first ++ in_row [] [] (map layout.join x.joins)
 
 tables_printed : Prints grammar.tables again.tables tables_text
-tables_printed = mapped_printed (λ x. record { first = x.0; joins = x.1 }) tables_text (λ x. refl) (pair_printed source_printed (many_printed join_printed))
+tables_printed = mapped_printed (λ x. record { first = x.0; joins = x.1 }) tables_text (λ x. refl) (pair_printed source_printed (up_printed (λ lim. lim.joins) join_printed))
 
 from_printed : PrintsTail (maybe (m.From ◁ grammar.tables)) (option (behind m.From again.tables)) layout.from
 unfolding words
@@ -137,7 +138,7 @@ descending_printed : PrintsTail (grammar.flag m.Desc m.Asc) (again.flag m.Desc m
 unfolding words
 descending_printed = record { tail = at }
   where
-    at : (d : (grammar.flag m.Desc m.Asc).D) → (grammar.flag m.Desc m.Asc).fits 200 99 d → All IsSeen ((grammar.flag m.Desc m.Asc).words d) → Tail ((grammar.flag m.Desc m.Asc).words (again.flag_to m.Desc m.Asc d)) (layout.descending ((grammar.flag m.Desc m.Asc).value d))
+    at : (d : (grammar.flag m.Desc m.Asc).D) → (grammar.flag m.Desc m.Asc).fits LIMITS d → All IsSeen ((grammar.flag m.Desc m.Asc).words d) → Tail ((grammar.flag m.Desc m.Asc).words (again.flag_to m.Desc m.Asc d)) (layout.descending ((grammar.flag m.Desc m.Asc).value d))
     at (One d) i a = apart (laid_word true (codes "DESC") m.Desc refl)
     at (Other d) i a = nothing_there
 
@@ -167,7 +168,7 @@ distinct_printed : Prints (m.Select ◁ grammar.flag m.Distinct m.All) (behind m
 unfolding words
 distinct_printed = record { laid = at }
   where
-    at : (b : Bool) (d : (grammar.flag m.Distinct m.All).D) → (grammar.flag m.Distinct m.All).fits 200 99 d → All IsSeen (k.Mark m.Select ∷ (grammar.flag m.Distinct m.All).words d)
+    at : (b : Bool) (d : (grammar.flag m.Distinct m.All).D) → (grammar.flag m.Distinct m.All).fits LIMITS d → All IsSeen (k.Mark m.Select ∷ (grammar.flag m.Distinct m.All).words d)
         → Laid b (k.Mark m.Select ∷ (grammar.flag m.Distinct m.All).words (again.flag_to m.Distinct m.All d)) (select_word ((grammar.flag m.Distinct m.All).value d))
     at b (One d) i a = then_tail (laid_word b (codes "SELECT") m.Select refl) (apart (laid_word true (codes "DISTINCT") m.Distinct refl))
     at b (Other d) i a = laid_word b (codes "SELECT") m.Select refl
@@ -248,7 +249,7 @@ laid_plain b k.Other a e h = absurd (cc)
 literal_printed : Prints grammar.literal again.literal value
 literal_printed = record { laid = at }
   where
-    at : (b : Bool) (d : grammar.literal.D) → grammar.literal.fits 200 99 d → All IsSeen (grammar.literal.words d) → Laid b (grammar.literal.words (literal_to d)) (value (grammar.literal.value d))
+    at : (b : Bool) (d : grammar.literal.D) → grammar.literal.fits LIMITS d → All IsSeen (grammar.literal.words d) → Laid b (grammar.literal.words (literal_to d)) (value (grammar.literal.value d))
     at b (One d) i a = laid_int b d.value (negative_ranged d.symbol d.value i a.1.0)
     at b (Other (One d)) i a = laid_int b d.value (int_ranged d.symbol d.value i a.1.0)
     at b (Other (Other d)) i a = laid_plain b d.symbol d.value i a.0
@@ -288,7 +289,7 @@ exists_printed : Prints (m.Create ◁ m.Table ◁ grammar.if_not_exists) (behind
 unfolding words
 exists_printed = record { laid = at }
   where
-    at : (b : Bool) (d : grammar.if_not_exists.D) → grammar.if_not_exists.fits 200 99 d → All IsSeen (k.Mark m.Create ∷ k.Mark m.Table ∷ grammar.if_not_exists.words d) → Laid b (k.Mark m.Create ∷ k.Mark m.Table ∷ grammar.if_not_exists.words d) (create_words (grammar.if_not_exists.value d))
+    at : (b : Bool) (d : grammar.if_not_exists.D) → grammar.if_not_exists.fits LIMITS d → All IsSeen (k.Mark m.Create ∷ k.Mark m.Table ∷ grammar.if_not_exists.words d) → Laid b (k.Mark m.Create ∷ k.Mark m.Table ∷ grammar.if_not_exists.words d) (create_words (grammar.if_not_exists.value d))
     at b (One d) i a = then_tail (laid_word b (codes "CREATE") m.Create refl) (apart (then_tail (laid_word true (codes "TABLE") m.Table refl)
         (apart (then_tail (laid_word true (codes "IF") m.If refl) (apart (then_tail (laid_word true (codes "NOT") m.Not refl) (apart (laid_word true (codes "EXISTS") m.Exists refl))))))))
     at b (Other d) i a = then_tail (laid_word b (codes "CREATE") m.Create refl) (apart (laid_word true (codes "TABLE") m.Table refl))
@@ -306,6 +307,17 @@ create_printed = mapped_printed (λ x. record { if_not_exists = x.0; table = x.1
     ∙ ap (λ z. (((z ++ parts.name x.1.0) ++ 32 ∷ 40 ∷ []) ++ listed (map layout.column x.1.1.0)) ++ layout.key x.1.1.1 ++ 41 ∷ []) (create_word_is x.0))
     (pair_printed exists_printed (pair_tail (apart_printed name_printed) (apart_printed (in_parentheses_printed (pair_printed (listed_printed column_printed) key_printed)))))
 
+-- ---- ALTER TABLE
+
+added_printed : Prints again.Added again.added (λ c. codes "COLUMN" ++ 32 ∷ layout.column c)
+unfolding words
+added_printed = record { laid = λ b d i a. then_tail (laid_word b (codes "COLUMN") m.Column refl) (apart (column_printed.laid true d.1 i.1 (back IsSeen ((maybe_mark m.Column).words d.0) (grammar.column.words d.1) a))) }
+
+alter_printed : Prints grammar.alter again.alter layout.alter
+unfolding words
+alter_printed = mapped_printed (λ x. record { table = x.0; column = x.1 }) layout.alter (λ x. sym (append_assoc (codes "ALTER TABLE " ++ parts.name x.0) (codes " ADD COLUMN ") (layout.column x.1)))
+    (pair_printed (word_before m.Alter (codes "ALTER") refl (word_before m.Table (codes "TABLE") refl name_printed)) (apart_printed (word_before m.Add (codes "ADD") refl added_printed)))
+
 -- ---- transactions
 
 begin_printed : (b : Bool) (x : Symbol) (a : Mode) → grammar.mode_of x ≡ Some a → Laid b (k.Mark m.Begin ∷ x ∷ []) (layout.begin (Some a))
@@ -320,7 +332,7 @@ transaction_printed : Prints grammar.transaction again.transaction layout.statem
 unfolding words
 transaction_printed = record { laid = at }
   where
-    at : (b : Bool) (d : grammar.transaction.D) → grammar.transaction.fits 200 99 d → All IsSeen (grammar.transaction.words d) → Laid b (grammar.transaction.words (again.transaction_to d)) (layout.statement (grammar.transaction.value d))
+    at : (b : Bool) (d : grammar.transaction.D) → grammar.transaction.fits LIMITS d → All IsSeen (grammar.transaction.words d) → Laid b (grammar.transaction.words (again.transaction_to d)) (layout.statement (grammar.transaction.value d))
     at b (One (None, u)) i a = laid_word b (codes "BEGIN") m.Begin refl
     at b (One (Some d, u)) i a = begin_printed b d.symbol d.value i.0
     at b (Other (One d)) i a = laid_word b (codes "COMMIT") m.Commit refl
@@ -331,5 +343,5 @@ transaction_printed = record { laid = at }
 
 pub statement_printed : Prints grammar.statement again.statement layout.statement
 statement_printed = either_printed (mapped_printed t.Select layout.statement (λ x. refl) select_printed) (either_printed (mapped_printed t.Create layout.statement (λ x. refl) create_printed)
-    (either_printed (mapped_printed t.Insert layout.statement (λ x. refl) insert_printed) (either_printed (mapped_printed t.Update layout.statement (λ x. refl) update_printed)
-    (either_printed (mapped_printed t.Delete layout.statement (λ x. refl) delete_printed) transaction_printed))))
+    (either_printed (mapped_printed t.Alter layout.statement (λ x. refl) alter_printed) (either_printed (mapped_printed t.Insert layout.statement (λ x. refl) insert_printed) (either_printed (mapped_printed t.Update layout.statement (λ x. refl) update_printed)
+    (either_printed (mapped_printed t.Delete layout.statement (λ x. refl) delete_printed) transaction_printed)))))

@@ -9,7 +9,7 @@ use Rattle.cr_tree.specs.declared.expr.Expr.{Expr}
 use Rattle.cr_tree.specs.declared.expr.Expr.TheVariants as e
 use Rattle.cr_tree.specs.declared.expr.Unary.TheVariants as u
 use Rattle.cr_tree.specs.declared.expr.When.{roll-When}
-use Rattle.cr_tree.specs.Grammar.{Operator, Or, And, Equal, DoubleEqual, Unequal, BangEqual, Is, IsNot, Like, NotLike, Less, AtMost, Greater, AtLeast, Plus, Minus, Star, Slash, Percent, Bars, Test, IsNull, NotNull, NotNullApart, Phrase, Leaf, Negative, Name, Dotted, NotOf, PlusOf, MinusOf, With, Inside, CallNone, Call, CountAll, Cast, Case, Tail, Infix, Tested, Collated, Among, Between, Phrases, One, And_more, Arms, Arm, And_arms, Perhaps, Absent, Present, spelled, spelled_tail, spelled_all, spelled_arms, spelled_perhaps, operator_words, test_words, not_words, sizes_words, names_words, leaf, tree, with_tail, tested, trees, arms_trees, tree_perhaps, meaning, binds, tail_binds, tightness, begins_with_number, IsProper, IsProperTail, AreProper, AreProperArms, IsProperPerhaps, height, height_tail, height_all, height_arms, height_perhaps, opened, opened_tail, opened_all, opened_arms, opened_perhaps}
+use Rattle.cr_tree.specs.Grammar.{Operator, Or, And, Equal, DoubleEqual, Unequal, BangEqual, Is, IsNot, Like, NotLike, Less, AtMost, Greater, AtLeast, Plus, Minus, Star, Slash, Percent, Bars, Test, IsNull, NotNull, NotNullApart, Phrase, Leaf, Negative, Name, Dotted, NotOf, PlusOf, MinusOf, With, Inside, CallNone, Call, CountAll, Cast, Case, Tail, Infix, Tested, Collated, Among, Between, Phrases, One, And_more, Arms, Arm, And_arms, Perhaps, Absent, Present, spelled, spelled_tail, spelled_all, spelled_arms, spelled_perhaps, operator_words, test_words, not_words, sizes_words, names_words, leaf, tree, with_tail, tested, trees, arms_trees, tree_perhaps, meaning, binds, tail_binds, tightness, begins_with_number, IsProper, IsProperTail, AreProper, AreProperArms, IsProperPerhaps, height, height_tail, height_all, height_arms, height_perhaps, comma_count, most_commas, most_commas_tail, most_commas_all, most_commas_arms, most_commas_perhaps, opened, opened_tail, opened_all, opened_arms, opened_perhaps}
 use Rattle.cr_tree.proofs.Forms.{if_true}
 use Rattle.cr_roundtrip.specs.Printed.{number_phrase, one_operator, one_test, one_leaf, shielded, printed, printed_tail, printed_all, printed_arms, printed_perhaps, All, InRange, IsSeen}
 
@@ -263,6 +263,57 @@ mutual
   perhaps_high : (o : Perhaps) → height_perhaps (printed_perhaps o) ≡ height_perhaps o
   perhaps_high Absent = refl
   perhaps_high (Present p) = high p
+
+-- ---- its calls have as many commas
+
+number_short : (i : ℤ) → most_commas (number_phrase i) ≡ 0
+number_short (pos n) = refl
+number_short (negsuc n) = refl
+
+leaf_short : (t : Symbol) (x : Expr) → most_commas (one_leaf t x) ≡ 0
+leaf_short (k.Bits i) x = number_short i
+leaf_short _ x = refl
+
+shielded_short : (p : Phrase) → most_commas (shielded p) ≡ most_commas p
+shielded_short (Leaf (k.Number n) x) = refl
+shielded_short _ = refl
+
+all_count : (all : Phrases) → comma_count (printed_all all) ≡ comma_count all
+all_count (One p) = refl
+all_count (And_more p all) = ap suc (all_count all)
+
+mutual
+  pub short : (p : Phrase) → most_commas (printed p) ≡ most_commas p
+  short (Leaf t x) = leaf_short t x
+  short (Negative n) = number_short (neg_ℤ (pos n))
+  short (NotOf p) = short p
+  short (PlusOf p) = shielded_short (printed p) ∙ short p
+  short (MinusOf p) = shielded_short (printed p) ∙ short p
+  short (With p t) = omega (arith, short p, tail_short t)
+  short (Inside p) = short p
+  short (Call f all) = omega (arith, all_count all, all_short all)
+  short (Cast p n ns s) = short p
+  short (Case s arms o) = omega (arith, perhaps_short s, arms_short arms, perhaps_short o)
+  short _ = refl
+
+  tail_short : (t : Tail) → most_commas_tail (printed_tail t) ≡ most_commas_tail t
+  tail_short (Infix op p) = short p
+  tail_short (Tested t) = refl
+  tail_short (Collated c) = refl
+  tail_short (Among n all) = all_short all
+  tail_short (Between n low upper) = omega (arith, short low, short upper)
+
+  all_short : (all : Phrases) → most_commas_all (printed_all all) ≡ most_commas_all all
+  all_short (One p) = short p
+  all_short (And_more p all) = omega (arith, short p, all_short all)
+
+  arms_short : (arms : Arms) → most_commas_arms (printed_arms arms) ≡ most_commas_arms arms
+  arms_short (Arm p q) = omega (arith, short p, short q)
+  arms_short (And_arms p q arms) = omega (arith, short p, short q, arms_short arms)
+
+  perhaps_short : (o : Perhaps) → most_commas_perhaps (printed_perhaps o) ≡ most_commas_perhaps o
+  perhaps_short Absent = refl
+  perhaps_short (Present p) = short p
 
 -- ---- its parentheses
 

@@ -6,7 +6,7 @@ use Rattle.cr_lex.specs.declared.token.Token.{Token}
 use Rattle.cr_tree.specs.Judging.{IsBadPlace}
 use Rattle.cr_parse.specs.declared.error.ParseError.{ParseError}
 use Rattle.cr_parse.specs.declared.error.ParseError.TheVariants as p
-use Rattle.cr_statement.specs.declared.tree.Statement.{Statement}
+use Rattle.cr_tree.specs.declared.statement.Statement.{Statement}
 use Rattle.cr_statement.specs.Statements as language
 use Rattle.cr_sql.specs.declared.error.SqlError.{SqlError}
 use Rattle.cr_sql.specs.declared.error.SqlError.TheVariants as s
@@ -20,7 +20,7 @@ module _ (source : List ℕ) (tokens : List Token) where
   memory read (Err s.Memory) a m e = m refl
   memory read (Err (s.Syntax place)) a m e = absurd (cc)
   memory read (Err (s.OutOfProfile word)) a m e = absurd (cc)
-  memory read (Err s.Depth) a m e = absurd (cc)
+  memory read (Err (s.Limit which)) a m e = absurd (cc)
 
   pub told_only : (read : Result Statement ParseError) (r : Result (Statement × ℕ) SqlError) (x : Statement) (n : ℕ) → answers r ≡ told source tokens read → r ≢ Err s.Memory
       → (read ≢ Err p.Memory → read ≡ Ok x) → n ≡ length (statement_tokens source tokens) → r ≡ Ok (x, n)
@@ -44,7 +44,7 @@ module _ (source : List ℕ) (tokens : List Token) where
           → IsSyntaxAt source tokens place
       at (Ok tree) a h = absurd (cc)
       at (Err (p.Syntax n)) a h = syntax_at n place (word_of source tokens n) refl (cc) (h n refl)
-      at (Err p.Depth) a h = absurd (cc)
+      at (Err (p.Limit which)) a h = absurd (cc)
       at (Err p.Memory) a h = absurd (cc)
 
   named_at : (at : ℕ) (word : List ℕ) (o : Option (List ℕ)) → word_of source tokens at ≡ o → option_map_or d.OutOfProfile o (d.Syntax (place_of tokens at)) ≡ d.OutOfProfile word
@@ -60,5 +60,5 @@ module _ (source : List ℕ) (tokens : List Token) where
           → IsOutOfProfile source tokens word.now
       at (Ok tree) a h = absurd (cc)
       at (Err (p.Syntax n)) a h = named_at n word.now (word_of source tokens n) refl (cc) (h n refl)
-      at (Err p.Depth) a h = absurd (cc)
+      at (Err (p.Limit which)) a h = absurd (cc)
       at (Err p.Memory) a h = absurd (cc)

@@ -1,1 +1,2 @@
 pub mod Sql
+pub mod Scripts

@@ -7,12 +7,14 @@ use Rattle.cr_lex.specs.declared.token.Token.{Token}
 use Rattle.cr_symbols.specs.Spelling.{spelling}
 use Rattle.cr_symbols.specs.Symbols.{symbols_of}
 use Rattle.cr_symbols.specs.Outside.{is_op, outside_of}
+use Rattle.cr_tree.specs.declared.limits.LimitKind.{LimitKind}
+use Rattle.cr_tree.specs.declared.limits.TheConstants.{LIMITS}
 use Rattle.cr_tree.specs.declared.symbol.Symbol.{Symbol}
 use Rattle.cr_tree.specs.Judging.{IsRead, IsBadPlace}
 use Rattle.cr_parse.specs.declared.error.ParseError.{ParseError}
 use Rattle.cr_parse.specs.declared.error.ParseError.TheVariants as p
 use Rattle.cr_parse.specs.Judge.{judge}
-use Rattle.cr_statement.specs.declared.tree.Statement.{Statement}
+use Rattle.cr_tree.specs.declared.statement.Statement.{Statement}
 use Rattle.cr_statement.specs.Statements as language
 use Rattle.cr_statement.specs.Whole as whole
 use Rattle.cr_sql.specs.declared.error.SqlError.{SqlError}
@@ -63,14 +65,14 @@ pub record IsOutOfProfile (source : List ℕ) (tokens : List Token) (word : List
 
 -- what the parser says of the statement's symbols
 abbrev pub judged : List ℕ → List Token → Result Statement ParseError
-judged source tokens = judge (statement_symbols source tokens) (whole.statement 200 99 (statement_symbols source tokens))
+judged source tokens = judge (statement_symbols source tokens) (whole.statement LIMITS (statement_symbols source tokens))
 
 -- why a statement is refused, the word as a text
 pub data Refusal : Type 0 where
   Memory : Refusal
   Syntax : ℕ → Refusal
   OutOfProfile : List ℕ → Refusal
-  Depth : Refusal
+  Limit : LimitKind → Refusal
 
 -- how a statement is refused that goes wrong at so many tokens from its front
 abbrev pub refused : List ℕ → List Token → ℕ → Refusal
@@ -80,7 +82,7 @@ refused source tokens at = option_map_or OutOfProfile (word_of source tokens at)
 abbrev pub told : List ℕ → List Token → Result Statement ParseError → Result (Statement × ℕ) Refusal
 told source tokens (Ok tree) = Ok (tree, length (statement_tokens source tokens))
 told source tokens (Err (p.Syntax at)) = Err (refused source tokens at)
-told source tokens (Err p.Depth) = Err Depth
+told source tokens (Err (p.Limit which)) = Err (Limit which)
 told source tokens (Err p.Memory) = Err Memory
 
 -- what an error says
@@ -88,7 +90,7 @@ abbrev pub says : SqlError → Refusal
 says s.Memory = Memory
 says (s.Syntax place) = Syntax place
 says (s.OutOfProfile word) = OutOfProfile word.now
-says s.Depth = Depth
+says (s.Limit which) = Limit which
 
 -- what an answer says
 abbrev pub answers : Result (Statement × ℕ) SqlError → Result (Statement × ℕ) Refusal

@@ -1,5 +1,6 @@
 //! Why a statement is refused.
 
+use cr_tree::limits::LimitKind;
 use std::alloc::{AllocError, AllocFailed};
 
 /// Why a statement is refused.
@@ -11,8 +12,8 @@ pub enum SqlError {
     Syntax(usize),
     /// What can't stand is out of this project's SQL: its word in upper case, `REAL` or `HEX`.
     OutOfProfile(&'static str),
-    /// The depth or the open parentheses of an expression would pass their limit.
-    Depth,
+    /// A limit would be passed.
+    Limit(LimitKind),
 }
 
 impl From<AllocError> for SqlError {

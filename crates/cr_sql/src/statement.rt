@@ -4,18 +4,19 @@ ghost use Rattle.std.specs.Prelude.{◌≡◌, ◌≢◌, ◌≤◌, ℕ, List, 
 ghost use Rattle.std.specs.Borrow.{Bor};
 ghost use Rattle.std.specs.List.{prefix_len};
 ghost use Rattle.cr_symbols.specs.Spelling.{spelling};
+ghost use Rattle.cr_tree.specs.declared.limits.LimitKind.{LimitKind};
 ghost use Rattle.cr_tree.specs.Judging.{MeetsLimit};
 ghost use Rattle.cr_statement.specs.Statements as language;
-ghost use Rattle.cr_statement.specs.declared.tree.Statement.{Statement};
+ghost use Rattle.cr_tree.specs.declared.statement.Statement.{Statement};
 ghost use Rattle.cr_sql.specs.Sql.{is_semicolon, statement_tokens, statement_symbols, judged, IsStatement, IsSyntaxAt, IsOutOfProfile};
 ghost use Rattle.cr_sql.specs.Sql.{place_of, refused, says, told, answers};
 
 use crate::error::SqlError;
 use cr_lex::token::{Token, TokenKind};
 use cr_parse::error::ParseError;
-use cr_statement::tree::Statement;
 use cr_symbols::outside::outside;
 use cr_symbols::symbols::symbols;
+use cr_tree::statement::Statement;
 use std::alloc::Global;
 
 fn spelling<'a>(source: &'a [u8], token: &Token) -> &'a [u8]
@@ -26,7 +27,8 @@ fn spelling<'a>(source: &'a [u8], token: &Token) -> &'a [u8]
     &source[from..to]
 }
 
-fn is_semicolon(source: &[u8], token: &Token) -> bool
+/// Whether the token is the sign `;`.
+pub fn is_semicolon(source: &[u8], token: &Token) -> bool
     ensures { result ≡ is_semicolon source.now token.now }
 {
     token.kind == TokenKind::Op && spelling(source, token) == b";".as_slice()
@@ -82,7 +84,7 @@ fn answer(
         Ok(tree) => Ok((tree, statement_tokens(source, tokens).len())),
         Err(ParseError::Memory) => Err(SqlError::Memory),
         Err(ParseError::Syntax(at)) => Err(refusal(source, tokens, at)),
-        Err(ParseError::Depth) => Err(SqlError::Depth),
+        Err(ParseError::Limit(which)) => Err(SqlError::Limit(which)),
     }
 }
 
@@ -92,8 +94,9 @@ fn answer(
 /// # Errors
 /// `OutOfProfile` where the first of its tokens with which no statement goes on is out of this project's SQL; `Syntax`
 /// where it is not, with the byte where it begins, or, if more are wanted, with the byte where the `;` begins, else
-/// where the last token ends, or 0 without tokens; `Depth` where the depth of an expression would pass 100 or its open
-/// parentheses 200, if that is met first from the left; `Memory`. How refusals are told is this project's own.
+/// where the last token ends, or 0 without tokens; `Limit` with its kind where the depth of an expression would pass 100,
+/// its open parentheses 200, the arguments of a call 100 or the tables of a FROM 8, if that is met first from the left;
+/// `Memory`. How refusals are told is this project's own.
 pub fn statement(
     alloc: Global,
     source: &str,
@@ -105,7 +108,7 @@ pub fn statement(
     ensures only { (x : Statement) (n : ℕ) → IsStatement source.now tokens.now x n → result ≢ Err SqlError.Memory → result ≡ Ok (x, n) }
     ensures syntax { (at : ℕ) → result ≡ Err (SqlError.Syntax at) → IsSyntaxAt source.now tokens.now at }
     ensures outside { (word : Bor (List ℕ)) → result ≡ Err (SqlError.OutOfProfile word) → IsOutOfProfile source.now tokens.now word.now }
-    ensures depth { result ≡ Err SqlError.Depth → MeetsLimit language.statement (statement_symbols source.now tokens.now) }
+    ensures limit { (which : LimitKind) → result ≡ Err (SqlError.Limit which) → MeetsLimit which language.statement (statement_symbols source.now tokens.now) }
     // What is met first from the left decides.
     ensures answer { result ≢ Err SqlError.Memory → answers result ≡ told source.now tokens.now (judged source.now tokens.now) }
 {

@@ -3,8 +3,9 @@
 
 use crate::told::symbols_of;
 use cr_parse::error::ParseError;
-use cr_parse::expression::{DEPTH, PARENTHESES, expression};
+use cr_parse::expression::expression;
 use cr_tree::expr::{Binary, Expr, Unary};
+use cr_tree::limits::{DEPTH_LIMIT, PARENTHESIS_LIMIT};
 use std::alloc::{AllocError, Global};
 use std::test::Fail;
 
@@ -141,7 +142,7 @@ fn told(alloc: Global, text: &str) -> Result<String, Fail> {
     match expression(alloc, symbols.as_slice()) {
         Ok(tree) => Ok(shape(alloc, &tree)?),
         Err(ParseError::Syntax(place)) => Ok(format!(in alloc; "syntax {place}")?),
-        Err(ParseError::Depth) => Ok(String::from_str(alloc, "depth")?),
+        Err(ParseError::Limit(which)) => Ok(format!(in alloc; "{which:?}")?),
         Err(ParseError::Memory) => Err(Fail::from(AllocError)),
     }
 }
@@ -154,14 +155,9 @@ fn around(
     after: &str,
     times: u8,
 ) -> Result<String, AllocError> {
-    let mut text = String::new(alloc);
-    for _ in 0..times {
-        text.push_str(before)?;
-    }
+    let mut text = before.repeat(alloc, times as usize)?;
     text.push_str(middle)?;
-    for _ in 0..times {
-        text.push_str(after)?;
-    }
+    text.push_str(&after.repeat(alloc, times as usize)?)?;
     Ok(text)
 }
 
@@ -188,27 +184,27 @@ fn others_are_refused_at_their_first_bad_token(rt: HostRuntime) -> Result<(), Fa
 #[test]
 fn limits_are_met(rt: HostRuntime) -> Result<(), Fail> {
     let alloc = rt.alloc();
-    let open = around(alloc, "( ", "1 ", ") ", PARENTHESES)?;
+    let open = around(alloc, "( ", "1 ", ") ", PARENTHESIS_LIMIT)?;
     assert_eq!(rt; told(alloc, &open)?.as_str(), "literal");
-    let more = around(alloc, "( ", "1 ", ") ", PARENTHESES + 1)?;
-    assert_eq!(rt; told(alloc, &more)?.as_str(), "depth");
-    let high = around(alloc, "NOT ", "1 ", "", DEPTH - 1)?;
+    let more = around(alloc, "( ", "1 ", ") ", PARENTHESIS_LIMIT + 1)?;
+    assert_eq!(rt; told(alloc, &more)?.as_str(), "Depth");
+    let high = around(alloc, "NOT ", "1 ", "", DEPTH_LIMIT - 1)?;
     assert_eq!(rt; told(alloc, &high)?.as_str(), "not not");
-    let higher = around(alloc, "NOT ", "1 ", "", DEPTH)?;
-    assert_eq!(rt; told(alloc, &higher)?.as_str(), "depth");
+    let higher = around(alloc, "NOT ", "1 ", "", DEPTH_LIMIT)?;
+    assert_eq!(rt; told(alloc, &higher)?.as_str(), "Depth");
     Ok(())
 }
 
 #[test]
 fn limits_are_met_by_calls_and_sums(rt: HostRuntime) -> Result<(), Fail> {
     let alloc = rt.alloc();
-    let call = around(alloc, "( ", "f ( ) ", ") ", PARENTHESES - 1)?;
+    let call = around(alloc, "( ", "f ( ) ", ") ", PARENTHESIS_LIMIT - 1)?;
     assert_eq!(rt; told(alloc, &call)?.as_str(), "call 0");
-    let inner = around(alloc, "( ", "f ( ) ", ") ", PARENTHESES)?;
-    assert_eq!(rt; told(alloc, &inner)?.as_str(), "depth");
-    let sum = around(alloc, "1 + ", "1 ", "", DEPTH - 1)?;
+    let inner = around(alloc, "( ", "f ( ) ", ") ", PARENTHESIS_LIMIT)?;
+    assert_eq!(rt; told(alloc, &inner)?.as_str(), "Depth");
+    let sum = around(alloc, "1 + ", "1 ", "", DEPTH_LIMIT - 1)?;
     assert_eq!(rt; told(alloc, &sum)?.as_str(), "+ + literal");
-    let longer = around(alloc, "1 + ", "1 ", "", DEPTH)?;
-    assert_eq!(rt; told(alloc, &longer)?.as_str(), "depth");
+    let longer = around(alloc, "1 + ", "1 ", "", DEPTH_LIMIT)?;
+    assert_eq!(rt; told(alloc, &longer)?.as_str(), "Depth");
     Ok(())
 }

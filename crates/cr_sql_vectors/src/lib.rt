@@ -5,6 +5,8 @@
 #[cfg(test)]
 mod expressions;
 #[cfg(test)]
+mod parameters;
+#[cfg(test)]
 mod printing;
 #[cfg(test)]
 mod scripts;
@@ -16,3 +18,5 @@ mod symbols;
 mod tokens;
 #[cfg(test)]
 mod told;
+#[cfg(test)]
+mod type_names;

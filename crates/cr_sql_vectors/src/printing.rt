@@ -5,6 +5,7 @@ use cr_lex::token::Token;
 use cr_print::print::print;
 use cr_sql::error::SqlError;
 use cr_sql::statement::statement;
+use cr_tree::limits::LimitKind;
 use std::alloc::{AllocError, Global};
 use std::test::Fail;
 
@@ -82,10 +83,10 @@ const SCRIPTS: [&str; 76] = [
     "SELECT *, half(name) FROM t WHERE name='a' OR id=1 ORDER BY name;",
     "SELECT ?1000;",
     "SELECT ?0;",
-    "SELECT count(*) FROM t AS t0, t AS t1, t AS t2, t AS t3, t AS t4, t AS t5, t AS t6, t AS t7, t AS t8;",
+    "ALTER TABLE t ADD COLUMN n INT NOT NULL DEFAULT 3;",
     "SELECT count(*) FROM t AS t0, t AS t1, t AS t2, t AS t3, t AS t4, t AS t5, t AS t6, t AS t7;",
-    "SELECT count(*) FROM t AS t0, t AS t1, t AS t2, t AS t3, t AS t4, t AS t5, t AS t6, t AS t7, t AS t8, t AS t9, t AS t10, t AS t11, t AS t12, t AS t13, t AS t14, t AS t15, t AS t16;",
-    "SELECT count(*) FROM t AS t0, t AS t1, t AS t2, t AS t3, t AS t4, t AS t5, t AS t6, t AS t7, t AS t8, t AS t9, t AS t10, t AS t11, t AS t12, t AS t13, t AS t14, t AS t15;",
+    "ALTER TABLE t ADD m;",
+    "ALTER TABLE \"add\" ADD \"column\" TEXT(3) COLLATE nocase;",
 ];
 
 // Statements with how they are printed.
@@ -196,15 +197,19 @@ const CLAUSES: [&[&str]; 5] = [
 // Texts that are a part repeated between two others.
 const REPEATED: [(&str, &str, usize, &str); 6] = [
     ("SELECT ", "+", 99, "1"),
-    ("SELECT coalesce(7", ", 7", 100, ")"),
+    ("SELECT coalesce(7", ", 7", 99, ")"),
     ("INSERT INTO t VALUES(1,'x')", ",(2,'x')", 199, ";"),
     ("CREATE TABLE w(id INT PRIMARY KEY", ", c1", 200, ");"),
-    ("SELECT count(*) FROM t AS t0", ", t AS t1", 16, ";"),
+    ("SELECT count(*) FROM t AS t0", ", t AS t1", 7, ";"),
     ("SELECT 1", " COLLATE NOCASE", 99, ";"),
 ];
 
 // Scripts with the byte where one of their statements goes wrong.
-const WRONG: [(&str, SqlError); 4] = [
+const WRONG: [(&str, SqlError); 5] = [
+    (
+        "SELECT count(*) FROM t AS t0, t AS t1, t AS t2, t AS t3, t AS t4, t AS t5, t AS t6, t AS t7, t AS t8;",
+        SqlError::Limit(LimitKind::Tables),
+    ),
     (
         "INSERT INTO t VALUES(3,'x'); SELECT 'abc",
         SqlError::Syntax(36),
@@ -213,7 +218,7 @@ const WRONG: [(&str, SqlError); 4] = [
     ("SELECT 1.5;", SqlError::OutOfProfile("REAL")),
     (
         "SELECT 1; ALTER TABLE t DROP COLUMN n;",
-        SqlError::OutOfProfile("ALTER"),
+        SqlError::OutOfProfile("DROP"),
     ),
 ];
 

@@ -3,6 +3,7 @@
 use cr_lex::scan::tokens;
 use cr_sql::error::SqlError;
 use cr_sql::statement::statement;
+use cr_tree::limits::LimitKind;
 use std::alloc::Global;
 use std::test::Fail;
 
@@ -93,9 +94,9 @@ fn what_is_outside_has_a_word(rt: HostRuntime) -> Result<(), Fail> {
 // So many times a text, then one, then so many times another, behind SELECT; and what is answered.
 const LIMITS: [(usize, &str, &str, &str, Result<usize, SqlError>); 4] = [
     (200, "(", "1", ")", Ok(402)),
-    (201, "(", "1", ")", Err(SqlError::Depth)),
+    (201, "(", "1", ")", Err(SqlError::Limit(LimitKind::Depth))),
     (99, "+ ", "a", "", Ok(101)),
-    (100, "+ ", "a", "", Err(SqlError::Depth)),
+    (100, "+ ", "a", "", Err(SqlError::Limit(LimitKind::Depth))),
 ];
 
 fn around_len(

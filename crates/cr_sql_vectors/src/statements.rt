@@ -3,7 +3,7 @@
 use crate::told::symbols_of;
 use cr_parse::error::ParseError;
 use cr_statement::statement::statement;
-use cr_statement::tree::{Create, Delete, Insert, Mode, Select, Statement, Update};
+use cr_tree::statement::{Create, Delete, Insert, Mode, Select, Statement, Update};
 use cr_tree::symbol::Symbol;
 use sqlite_items::Items;
 use std::alloc::Global;

@@ -15,7 +15,7 @@ const SYMBOLS: [(&str, &str); 14] = [
         "SELECT sElEcT exists notNULL \"select\"",
         "Select,Select,Exists,NotNull,name select",
     ),
-    ("alter WINDOW windows", "other,other,name windows"),
+    ("alter WINDOW windows", "Alter,other,name windows"),
     (
         "Col \"A\"\"\"\"b\" `a``B` [A\"\"b] \"\"",
         "name col,name a\"\"b,name a`b,name a\"\"b,name ",
@@ -138,15 +138,29 @@ fn words_and_numbers_are_outside(rt: HostRuntime) -> Result<(), Fail> {
 
 // The words of the grammar.
 const WORDS: &str =
-    "ALL AND AS ASC BEGIN BETWEEN BY CASE CAST COLLATE COMMIT CREATE CROSS DEFAULT DEFERRED DELETE DESC DISTINCT ELSE END EXCLUSIVE EXISTS FROM GROUP HAVING IF IMMEDIATE IN INNER INSERT INTO IS ISNULL JOIN KEY LEFT LIKE LIMIT NOT NOTNULL NULL OFFSET ON OR ORDER OUTER PRIMARY ROLLBACK SELECT SET TABLE THEN TRANSACTION UPDATE VALUES WHEN WHERE";
+    "ADD ALL ALTER AND AS ASC BEGIN BETWEEN BY CASE CAST COLLATE COLUMN COMMIT CREATE CROSS DEFAULT DEFERRED DELETE DESC DISTINCT ELSE END EXCLUSIVE EXISTS FROM GROUP HAVING IF IMMEDIATE IN INNER INSERT INTO IS ISNULL JOIN KEY LEFT LIKE LIMIT NOT NOTNULL NULL OFFSET ON OR ORDER OUTER PRIMARY ROLLBACK SELECT SET TABLE THEN TRANSACTION UPDATE VALUES WHEN WHERE";
 
 #[test]
 fn words_are_marks_of_their_name(rt: HostRuntime) -> Result<(), Fail> {
     let symbols = symbols_of(rt.alloc(), WORDS)?;
-    assert_eq!(rt; symbols.len(), 57);
+    assert_eq!(rt; symbols.len(), 60);
     for (word, symbol) in WORDS.split(' ').zip(&symbols) {
         let shown = shown(rt.alloc(), symbol)?;
         assert!(rt; shown.as_str().eq_ignore_ascii_case(word), "{word}");
+    }
+    Ok(())
+}
+
+// Words of SQLite's "SQLite Keywords" that the grammar doesn't have, and EXISTS.
+const OUTSIDE_WORDS: &str =
+    "ATTACH AUTOINCREMENT CHECK CONSTRAINT DETACH DROP ESCAPE EXCEPT EXISTS EXPLAIN FOREIGN FULL GLOB INDEX INTERSECT NATURAL PRAGMA REFERENCES REGEXP RETURNING RIGHT SAVEPOINT TRIGGER UNION UNIQUE USING WINDOW WITH";
+
+#[test]
+fn words_of_sql_are_outside(rt: HostRuntime) -> Result<(), Fail> {
+    for (at, word) in OUTSIDE_WORDS.split(' ').enumerate() {
+        let source = OUTSIDE_WORDS.to_ascii_lowercase(rt.alloc())?;
+        let tokens = tokens(rt.alloc(), &source)?;
+        assert_eq!(rt; outside(&source, &tokens, at), Some(word));
     }
     Ok(())
 }

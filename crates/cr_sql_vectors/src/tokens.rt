@@ -1,6 +1,5 @@
 //! Texts and their tokens. The answers are the format's vectors and its rules, as an independent reading of them gives.
 
-use cr_lex::keywords::{is_keyword, is_outside_word};
 use cr_lex::scan::{SCRIPT_LIMIT, tokens};
 use cr_lex::token::{LexError, Token};
 use std::alloc::{AllocError, Global};
@@ -107,23 +106,6 @@ fn texts_have_tokens(rt: HostRuntime) -> Result<(), Fail> {
         assert_eq!(rt; found.as_str().trim_start(), wanted, "{text}");
     }
     Ok(())
-}
-
-#[test]
-fn keywords_are_known(rt: HostRuntime) {
-    for (word, keyword, outside) in [
-        ("select", true, false),
-        ("ROLLBACK", true, false),
-        ("Window", true, true),
-        ("alter", true, true),
-        ("EXISTS", true, true),
-        ("name", false, false),
-        ("selects", false, false),
-        ("", false, false),
-    ] {
-        assert_eq!(rt; is_keyword(word), keyword, "{word}");
-        assert_eq!(rt; is_outside_word(word), outside, "{word}");
-    }
 }
 
 #[test]

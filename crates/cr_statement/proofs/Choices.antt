@@ -1,5 +1,6 @@
 -- Where no mark of a choice comes next, the last is read.
-use Rattle.std.proofs.Common.{◌≡◌, ℕ, false, List, [], ◌∷◌, refl, ◌∙◌}
+use Rattle.std.proofs.Common.{◌≡◌, false, List, [], ◌∷◌, refl, ◌∙◌}
+use Rattle.cr_tree.specs.declared.limits.Limits.{Limits}
 use Rattle.cr_tree.specs.declared.symbol.Mark.{Mark}
 use Rattle.cr_tree.specs.declared.symbol.Mark.TheVariants as m
 use Rattle.cr_tree.specs.declared.symbol.Symbol.{Symbol}
@@ -7,10 +8,12 @@ use Rattle.cr_tree.specs.Marks.{is_mark}
 use Rattle.cr_tree.specs.Reading.{Parser, pure, name, behind, sees}
 use Rattle.cr_tree.proofs.Forms.{if_false}
 use Rattle.cr_value.specs.declared.value.Value.TheVariants as v
-use Rattle.cr_statement.specs.declared.tree.Constraint.TheVariants as c
-use Rattle.cr_statement.specs.declared.tree.Statement.TheVariants as t
+use Rattle.cr_tree.specs.declared.statement.Constraint.TheVariants as c
+use Rattle.cr_tree.specs.declared.statement.Statement.TheVariants as t
 use Rattle.cr_statement.specs.Statements as grammar
-use Rattle.cr_statement.specs.Creating.{literal, constraint}
+use Rattle.cr_statement.specs.Creating.{literal, constraint, create, alter}
+use Rattle.cr_statement.specs.Queries.{select}
+use Rattle.cr_statement.specs.Whole.{statement}
 use Rattle.cr_statement.specs.Reading.{made, choose, one_of, insert, update, delete, begin, ended, transaction, command}
 
 choose_other : {A : Type 0} (x : Mark) (p q : Parser A) (ts : List Symbol) → sees x ts ≡ false → choose (is_mark x) p q ts ≡ q ts
@@ -37,9 +40,16 @@ transaction_last ts a b c =
     ∙ (choose_other m.Commit (ended m.Commit t.Commit) (choose (is_mark m.End) (ended m.End t.Commit) (ended m.Rollback t.Rollback)) ts b
     ∙ choose_other m.End (ended m.End t.Commit) (ended m.Rollback t.Rollback) ts c)
 
-pub command_last : (opens room : ℕ) (ts : List Symbol) → sees m.Insert ts ≡ false → sees m.Update ts ≡ false → sees m.Delete ts ≡ false → command opens room ts ≡ transaction ts
+pub command_last : (lim : Limits) (ts : List Symbol) → sees m.Insert ts ≡ false → sees m.Update ts ≡ false → sees m.Delete ts ≡ false → command lim ts ≡ transaction ts
 unfolding command
-command_last opens room ts a b c =
-    choose_other m.Insert (made t.Insert (insert opens room)) (choose (is_mark m.Update) (made t.Update (update opens room)) (choose (is_mark m.Delete) (made t.Delete (delete opens room)) transaction)) ts a
-    ∙ (choose_other m.Update (made t.Update (update opens room)) (choose (is_mark m.Delete) (made t.Delete (delete opens room)) transaction) ts b
-    ∙ choose_other m.Delete (made t.Delete (delete opens room)) transaction ts c)
+command_last lim ts a b c =
+    choose_other m.Insert (made t.Insert (insert lim)) (choose (is_mark m.Update) (made t.Update (update lim)) (choose (is_mark m.Delete) (made t.Delete (delete lim)) transaction)) ts a
+    ∙ (choose_other m.Update (made t.Update (update lim)) (choose (is_mark m.Delete) (made t.Delete (delete lim)) transaction) ts b
+    ∙ choose_other m.Delete (made t.Delete (delete lim)) transaction ts c)
+
+pub statement_last : (lim : Limits) (ts : List Symbol) → sees m.Select ts ≡ false → sees m.Create ts ≡ false → sees m.Alter ts ≡ false → statement lim ts ≡ command lim ts
+unfolding statement
+statement_last lim ts a b c =
+    choose_other m.Select (made t.Select (select lim)) (choose (is_mark m.Create) (made t.Create create) (choose (is_mark m.Alter) (made t.Alter alter) (command lim))) ts a
+    ∙ (choose_other m.Create (made t.Create create) (choose (is_mark m.Alter) (made t.Alter alter) (command lim)) ts b
+    ∙ choose_other m.Alter (made t.Alter alter) (command lim) ts c)

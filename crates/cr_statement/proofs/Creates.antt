@@ -1,22 +1,24 @@
 -- The parser of a CREATE TABLE masters its language.
-use Rattle.std.proofs.Common.{◌≡◌, ℕ, zero, suc, ◌+◌, ◌≤◌, max, Bool, true, false, ◌&&◌, if◌then◌else◌, List, [], ◌∷◌, ◌++◌, map, Option, Some, None, length, refl, sym, ◌∙◌, ap, subst, append_assoc, arith}
+use Rattle.std.proofs.Common.{◌≡◌, ℕ, zero, suc, ◌+◌, ◌≤◌, Bool, true, false, ◌&&◌, List, [], ◌∷◌, ◌++◌, map, Option, Some, None, length, refl, sym, ◌∙◌, ap, subst, append_assoc, arith}
 use Rattle.std.proofs.lemmas.List.{append-nil}
+use Rattle.cr_tree.specs.declared.limits.Limits.{Limits}
+use Rattle.cr_tree.specs.declared.limits.TheConstants.{LIMITS}
 use Rattle.cr_tree.specs.declared.symbol.Mark.TheVariants as m
 use Rattle.cr_tree.specs.declared.symbol.Symbol.{Symbol}
 use Rattle.cr_tree.specs.declared.symbol.Symbol.TheVariants as k
 use Rattle.cr_tree.specs.Marks.{same_mark, is_mark}
-use Rattle.cr_tree.specs.Reading.{Outcome, Reads, Fails, Parser, and_then, ◌>>=◌, pure, head, expect, is_name, sees_name, behind, listed}
+use Rattle.cr_tree.specs.Reading.{Outcome, Reads, Fails, Parser, and_then, ◌>>=◌, pure, expect, is_name, sees_name, behind, listed}
 use Rattle.cr_tree.specs.Language.{Language}
-use Rattle.cr_tree.proofs.Forms.{Good, Right, good_as, if_false, is_same, mark_is}
+use Rattle.cr_tree.proofs.Forms.{Good, good_as, if_false, is_same, mark_is}
 use Rattle.cr_tree.proofs.Repeats.{begins_next}
-use Rattle.cr_tree.proofs.Tracks.{Within, Track, Regular}
-use Rattle.cr_tree.proofs.Judged.{IsOver}
-use Rattle.cr_statement.specs.declared.tree.Column.{Column}
-use Rattle.cr_statement.specs.Languages.{Either, One, Other, ◌◁◌, ◌▷◌, ◌⊗◌, ◌⟨$⟩◌, ◌∣◌, option_fits, option_words, option_value, all_fit, all_words, maybe, commas, nothing}
+use Rattle.cr_tree.proofs.Tracks.{Within, Track}
+use Rattle.cr_tree.proofs.Judged.{IsWider, IsOver}
+use Rattle.cr_tree.specs.declared.statement.Column.{Column}
+use Rattle.cr_statement.specs.Languages.{One, Other, ◌◁◌, ◌▷◌, ◌⊗◌, ◌⟨$⟩◌, ◌∣◌, option_fits, option_words, option_value, all_fit, all_words, maybe, commas, nothing}
 use Rattle.cr_statement.specs.Statements as grammar
-use Rattle.cr_statement.specs.Reading.{made, before, both, optional, choose, by_option, found_from, found, names}
-use Rattle.cr_statement.specs.Creating.{column, sees_column, next_column, columns, key, body, if_not_exists, create}
-use Rattle.cr_statement.proofs.Mastery.{MastersBefore, Anything, shrinks_of, followed_by, made_of, behind_mark, before_mark, and_then_by, either_of, nothing_of, name_of}
+use Rattle.cr_statement.specs.Reading.{made, both, choose, by_option, found_from, found, names}
+use Rattle.cr_statement.specs.Creating.{column, next_column, columns, key, body, create, alter}
+use Rattle.cr_statement.proofs.Mastery.{MastersBefore, Anything, shrinks_of, followed_by, made_of, behind_mark, before_mark, and_then_by, either_of, nothing_of, name_of, eat_of}
 use Rattle.cr_statement.proofs.Statements.{names_of}
 use Rattle.cr_statement.proofs.Columns.{Ended, column_of, key_of, if_not_exists_of}
 
@@ -58,10 +60,10 @@ tail_ended zero (Some d) rest st = (refl, (refl, refl))
 tail_ended (suc n) (One d) rest st = (refl, (refl, refl))
 tail_ended (suc n) (Other d) rest st = st.1
 
-tail_of : (n : ℕ) → MastersBefore Closed (Tail n) (λ o r. tail n)
+tail_of : (n : ℕ) → MastersBefore Closed (Tail n) (λ lim. tail n)
 tail_of zero = made_of (followed_by key_of (λ rest h. (h.0, tt))) (λ k. ([], k))
-tail_of (suc n) = either_of (is_mark m.Comma) (λ o r d i. is_same m.Comma) (λ o r d rest i st. st.0)
-    (behind_mark (either_of is_name (λ o r d i. refl) (λ o r d rest i st. refl) (made_of (and_then_by column_of (tail_of n) (λ o r d rest i st. tail_ended n d rest st)) led)
+tail_of (suc n) = either_of (is_mark m.Comma) (λ lim d i. is_same m.Comma) (λ lim d rest i st. st.0)
+    (behind_mark (either_of is_name (λ lim d i. refl) (λ lim d rest i st. refl) (made_of (and_then_by column_of (tail_of n) (λ lim d rest i st. tail_ended n d rest st)) led)
     (made_of (followed_by (behind_mark (behind_mark names_of m.Key) m.Primary) (λ rest h. tt)) (λ k. ([], Some k)))) m.Comma)
     (followed_by (nothing_of ([], None)) (λ rest h. tt))
 
@@ -146,7 +148,7 @@ enough (suc n) (suc n') (t ∷ ts) l l' = by (λ ts h h'. enough n n' ts h h') (
     comma again [] h h' = refl
     comma again (k.Name x ∷ us) h h' = ap (λ o. and_then {A = Column × Rest} {B = Rest} o (λ x. pure (led x)))
         (same_then (suc (length us)) (λ c. tail n >>= (λ r. pure (c, r))) (λ c. tail n' >>= (λ r. pure (c, r))) (λ c ws i. ap (λ o. and_then {A = Rest} {B = Column × Rest} o (λ r. pure (c, r))) (again ws (omega (arith, i, h)) (omega (arith, i, h'))))
-        (column (k.Name x ∷ us)) (shrinks_of column_of 0 0 (k.Name x ∷ us)))
+        (column (k.Name x ∷ us)) (shrinks_of column_of LIMITS (k.Name x ∷ us)))
     comma again (u ∷ us) h h' = refl
 
     by : ((us : List Symbol) → length us ≤ n → length us ≤ n' → tail n us ≡ tail n' us) → (b : Bool) → is_mark m.Comma t ≡ b → tail (suc n) (t ∷ ts) ≡ tail (suc n') (t ∷ ts)
@@ -162,12 +164,12 @@ list_by n = made led (both column (tail n))
 abbrev List_by : ℕ → Language Rest
 List_by n = led ⟨$⟩ grammar.column ⊗ Tail n
 
-list_by_of : (n : ℕ) → MastersBefore Closed (List_by n) (λ o r. list_by n)
-list_by_of n = made_of (and_then_by column_of (tail_of n) (λ o r d rest i st. tail_ended n d rest st)) led
+list_by_of : (n : ℕ) → MastersBefore Closed (List_by n) (λ lim. list_by n)
+list_by_of n = made_of (and_then_by column_of (tail_of n) (λ lim d rest i st. tail_ended n d rest st)) led
 
 listed_so : (n : ℕ) (ts : List Symbol) → length ts ≤ n → both columns key ts ≡ list_by n ts
 unfolding columns found
-listed_so n ts l = at (column ts) (shrinks_of column_of 0 0 ts)
+listed_so n ts l = at (column ts) (shrinks_of column_of LIMITS ts)
   where
     last : (c : Column) (o : Outcome Rest) → and_then o (behind_all (c ∷ [])) ≡ and_then {A = Column × Rest} {B = Rest} (and_then {A = Rest} {B = Column × Rest} o (λ r. pure (c, r))) (λ x. pure (led x))
     last c (Reads r rest) = refl
@@ -195,14 +197,14 @@ parts (suc n) (One (One d)) = (d.0 ∷ (parts n d.1).0, (parts n d.1).1)
 parts (suc n) (One (Other d)) = ([], Some d)
 parts (suc n) (Other d) = ([], None)
 
-abbrev parts_fit : ℕ → ℕ → Parts → Type 0
-parts_fit o r x = all_fit (grammar.column.fits o r) x.0 × option_fits (grammar.key.fits o r) x.1
+abbrev parts_fit : Limits → Parts → Type 0
+parts_fit lim x = all_fit (grammar.column.fits lim) x.0 × option_fits (grammar.key.fits lim) x.1
 
-fit_parts : (o r n : ℕ) (d : (Tail n).D) → (Tail n).fits o r d → parts_fit o r (parts n d)
-fit_parts o r zero d i = (tt, i)
-fit_parts o r (suc n) (One (One d)) i = let j = fit_parts o r n d.1 i.1 in ((i.0, j.0), j.1)
-fit_parts o r (suc n) (One (Other d)) i = (tt, i)
-fit_parts o r (suc n) (Other d) i = (tt, tt)
+fit_parts : (lim : Limits) (n : ℕ) (d : (Tail n).D) → (Tail n).fits lim d → parts_fit lim (parts n d)
+fit_parts lim zero d i = (tt, i)
+fit_parts lim (suc n) (One (One d)) i = let j = fit_parts lim n d.1 i.1 in ((i.0, j.0), j.1)
+fit_parts lim (suc n) (One (Other d)) i = (tt, i)
+fit_parts lim (suc n) (Other d) i = (tt, tt)
 
 parts_spelled : (n : ℕ) (d : (Tail n).D) → comma_words (parts n d).0 ++ option_words grammar.key.words (parts n d).1 ≡ (Tail n).words d
 parts_spelled zero d = refl
@@ -232,25 +234,25 @@ parts_back (suc n) [] None l = refl
 parts_back (suc n) [] (Some e) l = refl
 parts_back (suc n) (d ∷ ds) e l = ap (λ (z : Parts). (d ∷ z.0, z.1)) (parts_back n ds e (omega (arith, l)))
 
-parts_fitting : (o r n : ℕ) (ds : List grammar.column.D) (e : Option grammar.key.D) → length ds ≤ n → all_fit (grammar.column.fits o r) ds → option_fits (grammar.key.fits o r) e → (Tail n).fits o r (of_parts n ds e)
-parts_fitting o r zero ds e l i j = j
-parts_fitting o r (suc n) [] None l i j = tt
-parts_fitting o r (suc n) [] (Some e) l i j = j
-parts_fitting o r (suc n) (d ∷ ds) e l i j = (i.0, parts_fitting o r n ds e (omega (arith, l)) i.1 j)
+parts_fitting : (lim : Limits) (n : ℕ) (ds : List grammar.column.D) (e : Option grammar.key.D) → length ds ≤ n → all_fit (grammar.column.fits lim) ds → option_fits (grammar.key.fits lim) e → (Tail n).fits lim (of_parts n ds e)
+parts_fitting lim zero ds e l i j = j
+parts_fitting lim (suc n) [] None l i j = tt
+parts_fitting lim (suc n) [] (Some e) l i j = j
+parts_fitting lim (suc n) (d ∷ ds) e l i j = (i.0, parts_fitting lim n ds e (omega (arith, l)) i.1 j)
 
 abbrev whole_parts : (n : ℕ) → (List_by n).D → Listing.D
 whole_parts n d = ((d.0, (parts n d.1).0), (parts n d.1).1)
 
-listing_good : (o r : ℕ) (ts : List Symbol) → Good (Listing.fits o r) Listing.words Listing.value ts (both columns key ts)
-listing_good o r ts = subst (Good (Listing.fits o r) Listing.words Listing.value ts) (sym (listed_so (length ts) ts (omega arith)))
-    (good_as ((List_by (length ts)).fits o r) (List_by (length ts)).words (List_by (length ts)).value (Listing.fits o r) Listing.words Listing.value (whole_parts (length ts))
-    (λ d i. let j = fit_parts o r (length ts) d.1 i.1 in ((i.0, j.0), j.1))
+listing_good : (lim : Limits) (ts : List Symbol) → Good (Listing.fits lim) Listing.words Listing.value ts (both columns key ts)
+listing_good lim ts = subst (Good (Listing.fits lim) Listing.words Listing.value ts) (sym (listed_so (length ts) ts (omega arith)))
+    (good_as ((List_by (length ts)).fits lim) (List_by (length ts)).words (List_by (length ts)).value (Listing.fits lim) Listing.words Listing.value (whole_parts (length ts))
+    (λ d i. let j = fit_parts lim (length ts) d.1 i.1 in ((i.0, j.0), j.1))
     (λ d. append_assoc (grammar.column.words d.0) (comma_words (parts (length ts) d.1).0) (option_words grammar.key.words (parts (length ts) d.1).1) ∙ ap (λ z. grammar.column.words d.0 ++ z) (parts_spelled (length ts) d.1))
     (λ d. ap (λ (z : Rest). (grammar.column.value d.0 ∷ z.0, z.1)) (parts_so (length ts) d.1))
-    ts (list_by (length ts) ts) (((list_by_of (length ts)).right o r).good ts))
+    ts (list_by (length ts) ts) (((list_by_of (length ts)).right lim).good ts))
 
-listing_reads : (o r : ℕ) (d : Listing.D) (rest : List Symbol) → Listing.fits o r d → Closed rest → both columns key (Listing.words d ++ rest) ≡ Reads (Listing.value d) rest
-listing_reads o r d rest i st =
+listing_reads : (lim : Limits) (d : Listing.D) (rest : List Symbol) → Listing.fits lim d → Closed rest → both columns key (Listing.words d ++ rest) ≡ Reads (Listing.value d) rest
+listing_reads lim d rest i st =
     let n = length (Listing.words d ++ rest) + length d.0.1 in
     let e = of_parts n d.0.1 d.1 in
     let back = parts_back n d.0.1 d.1 (omega arith) in
@@ -259,32 +261,41 @@ listing_reads o r d rest i st =
     let meant : (Tail n).value e ≡ parts_mean (d.0.1, d.1) = sym (parts_so n e) ∙ ap parts_mean back in
     listed_so n (Listing.words d ++ rest) (omega arith)
     ∙ (ap (λ z. list_by n (z ++ rest)) spelled
-    ∙ (((list_by_of n).right o r).reads (d.0.0, e) rest (i.0.0, parts_fitting o r n d.0.1 d.1 (omega arith) i.0.1 i.1) st
+    ∙ (((list_by_of n).right lim).reads (d.0.0, e) rest (i.0.0, parts_fitting lim n d.0.1 d.1 (omega arith) i.0.1 i.1) st
     ∙ ap (λ (z : Rest). Reads (grammar.column.value d.0.0 ∷ z.0, z.1) rest) meant))
 
-all_grow : (o r o' r' : ℕ) (ds : List grammar.column.D) → o ≤ o' → r ≤ r' → all_fit (grammar.column.fits o r) ds → all_fit (grammar.column.fits o' r') ds
-all_grow o r o' r' [] lo lr i = tt
-all_grow o r o' r' (d ∷ ds) lo lr i = (column_of.grows o r o' r' d lo lr i.0, all_grow o r o' r' ds lo lr i.1)
+all_grow : (lim lim' : Limits) (ds : List grammar.column.D) → IsWider lim lim' → all_fit (grammar.column.fits lim) ds → all_fit (grammar.column.fits lim') ds
+all_grow lim lim' [] wide i = tt
+all_grow lim lim' (d ∷ ds) wide i = (column_of.grows lim lim' d wide i.0, all_grow lim lim' ds wide i.1)
 
-listing_of : MastersBefore Closed Listing (λ o r. both columns key)
+listing_of : MastersBefore Closed Listing (λ lim. both columns key)
 listing_of = record {
-  right = λ o r. record { good = listing_good o r; reads = listing_reads o r };
-  grows = λ o r o' r' d lo lr i. ((column_of.grows o r o' r' d.0.0 lo lr i.0.0, all_grow o r o' r' d.0.1 lo lr i.0.1), key_of.grows o r o' r' d.1 lo lr i.1);
-  regular = λ e v v' h o r o' r' lo so lr sr. record {
-    shrinks = λ ts. subst (Within (length ts)) (sym (listed_so (length ts) ts (omega arith))) (((list_by_of (length ts)).regular e v v' h o r o' r' lo so lr sr).shrinks ts);
-    shrinks_too = λ ts. subst (Within (length ts)) (sym (listed_so (length ts) ts (omega arith))) (((list_by_of (length ts)).regular e v v' h o r o' r' lo so lr sr).shrinks_too ts);
+  right = λ lim. record { good = listing_good lim; reads = listing_reads lim };
+  grows = λ lim lim' d wide i. ((column_of.grows lim lim' d.0.0 wide i.0.0, all_grow lim lim' d.0.1 wide i.0.1), key_of.grows lim lim' d.1 wide i.1);
+  regular = λ e v v' h lim lim' wide. record {
+    shrinks = λ ts. subst (Within (length ts)) (sym (listed_so (length ts) ts (omega arith))) (((list_by_of (length ts)).regular e v v' h lim lim' wide).shrinks ts);
+    shrinks_too = λ ts. subst (Within (length ts)) (sym (listed_so (length ts) ts (omega arith))) (((list_by_of (length ts)).regular e v v' h lim lim' wide).shrinks_too ts);
     tracks = λ p. let n = length (p ++ v) + length (p ++ v') in
         subst (λ z. Track e v v' h z (both columns key (p ++ v'))) (sym (listed_so n (p ++ v) (omega arith)))
-        (subst (λ z. Track e v v' h (list_by n (p ++ v)) z) (sym (listed_so n (p ++ v') (omega arith))) (((list_by_of n).regular e v v' h o r o' r' lo so lr sr).tracks p));
+        (subst (λ z. Track e v v' h (list_by n (p ++ v)) z) (sym (listed_so n (p ++ v') (omega arith))) (((list_by_of n).regular e v v' h lim lim' wide).tracks p));
   };
 }
 
 -- ---- the whole
 
-body_of : MastersBefore Anything (m.Open ◁ Listing ▷ m.Close) (λ o r. body)
+body_of : MastersBefore Anything (m.Open ◁ Listing ▷ m.Close) (λ lim. body)
 unfolding body same_mark
 body_of = behind_mark (before_mark listing_of m.Close (λ rest. (refl, (refl, (refl, refl))))) m.Open
 
-pub create_of : MastersBefore IsOver grammar.create (λ o r. create)
+pub create_of : MastersBefore IsOver grammar.create (λ lim. create)
 unfolding create
-create_of = followed_by (made_of (and_then_by (behind_mark (behind_mark if_not_exists_of m.Table) m.Create) (and_then_by name_of body_of (λ o r d rest i st. tt)) (λ o r d rest i st. refl)) (λ x. record { if_not_exists = x.0; table = x.1.0; columns = x.1.1.0; key = x.1.1.1 })) (λ rest h. tt)
+create_of = followed_by (made_of (and_then_by (behind_mark (behind_mark if_not_exists_of m.Table) m.Create) (and_then_by name_of body_of (λ lim d rest i st. tt)) (λ lim d rest i st. refl)) (λ x. record { if_not_exists = x.0; table = x.1.0; columns = x.1.1.0; key = x.1.1.1 })) (λ rest h. tt)
+
+over_ended : (rest : List Symbol) → IsOver rest → Ended rest
+over_ended [] h = (refl, (refl, refl))
+over_ended (t ∷ ts) h = absurd h
+
+pub alter_of : MastersBefore IsOver grammar.alter (λ lim. alter)
+unfolding alter
+alter_of = made_of (and_then_by (behind_mark (behind_mark name_of m.Table) m.Alter)
+    (behind_mark (made_of (and_then_by (eat_of m.Column) (followed_by column_of over_ended) (λ lim d rest i st. refl)) (λ x. x.1)) m.Add) (λ lim d rest i st. tt)) (λ x. record { table = x.0; column = x.1 })

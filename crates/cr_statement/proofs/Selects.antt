@@ -1,5 +1,6 @@
 -- The parser of a SELECT masters its language.
 use Rattle.std.proofs.Common.{◌≡◌, ℕ, ◌<◌, ◌≤◌, Bool, true, false, List, [], ◌∷◌, ◌++◌, Option, Some, None, refl, ◌∙◌, ap, append_assoc, arith}
+use Rattle.cr_tree.specs.declared.limits.Limits.{Limits}
 use Rattle.cr_tree.specs.declared.symbol.Mark.{Mark}
 use Rattle.cr_tree.specs.declared.symbol.Mark.TheVariants as m
 use Rattle.cr_tree.specs.declared.symbol.Symbol.{Symbol}
@@ -13,9 +14,9 @@ use Rattle.cr_tree.proofs.Forms.{is_same, mark_is}
 use Rattle.cr_tree.proofs.Repeats.{begins_next}
 use Rattle.cr_tree.proofs.Phrases.{Stops, stops_comma}
 use Rattle.cr_tree.proofs.Judged.{IsOver}
-use Rattle.cr_statement.specs.declared.tree.Tables.{Tables}
-use Rattle.cr_statement.specs.declared.tree.Term.{Term}
-use Rattle.cr_statement.specs.declared.tree.Limit.{Limit}
+use Rattle.cr_tree.specs.declared.statement.Tables.{Tables}
+use Rattle.cr_tree.specs.declared.statement.Term.{Term}
+use Rattle.cr_tree.specs.declared.statement.Limit.{Limit}
 use Rattle.cr_statement.specs.Languages.{◌◁◌, ◌⊗◌, option_words, all_words, maybe, commas}
 use Rattle.cr_statement.specs.Statements as grammar
 use Rattle.cr_statement.specs.Reading.{filter}
@@ -74,24 +75,24 @@ later_stops n ts l = (later_clear n ts l).1.1.1
 
 -- what stands there, and the end behind it, begins with a clause behind that one, if at all
 abbrev Comes : {A : Type 0} → ℕ → Language A → Type 0
-Comes n L = (opens room : ℕ) (d : L.D) (rest : List Symbol) → L.fits opens room d → IsOver rest → Later n (L.words d ++ rest)
+Comes n L = (lim : Limits) (d : L.D) (rest : List Symbol) → L.fits lim d → IsOver rest → Later n (L.words d ++ rest)
 
 clause_comes : {A B : Type 0} (n : ℕ) (x : Mark) (L : Language A) (M : Language B) → n < rank (k.Mark x) → Comes (rank (k.Mark x)) M → Comes n (maybe (x ◁ L) ⊗ M)
-clause_comes n x L M h c o r d rest i st = at d.0
+clause_comes n x L M h c lim d rest i st = at d.0
   where
     at : (e : Option L.D) → Later n ((option_words (λ d. k.Mark x ∷ L.words d) e ++ M.words d.1) ++ rest)
-    at None = earlier n (rank (k.Mark x)) (M.words d.1 ++ rest) h (c o r d.1 rest i.1 st)
+    at None = earlier n (rank (k.Mark x)) (M.words d.1 ++ rest) h (c lim d.1 rest i.1 st)
     at (Some e) = h
 
 -- ---- each clause
 
 from_of : MastersBefore (Later 1) (maybe (m.From ◁ grammar.tables)) from
 unfolding from
-from_of = followed_by (maybe_of (is_mark m.From) (λ o r d i. is_same m.From) (behind_mark tables_of m.From)) (λ rest l. (later_not 1 m.From rest l (omega arith), later_clear 1 rest l))
+from_of = followed_by (maybe_of (is_mark m.From) (λ lim d i. is_same m.From) (behind_mark tables_of m.From)) (λ rest l. (later_not 1 m.From rest l (omega arith), later_clear 1 rest l))
 
 where_of : MastersBefore (Later 2) grammar.filter filter
 unfolding filter
-where_of = followed_by (maybe_of (is_mark m.Where) (λ o r d i. is_same m.Where) (behind_mark expr_of m.Where)) (λ rest l. (later_not 2 m.Where rest l (omega arith), later_stops 2 rest l))
+where_of = followed_by (maybe_of (is_mark m.Where) (λ lim d i. is_same m.Where) (behind_mark expr_of m.Where)) (λ rest l. (later_not 2 m.Where rest l (omega arith), later_stops 2 rest l))
 
 grouped_of : MastersBefore (Later 3) (maybe (m.Group ◁ m.By ◁ commas phrase)) group
 grouped_of = followed_by group_of (λ rest l. (later_not 3 m.Group rest l (omega arith), (later_not 3 m.Comma rest l (omega arith), later_stops 3 rest l)))
@@ -102,9 +103,9 @@ having_next = followed_by having_of (λ rest l. (later_not 4 m.Having rest l (om
 ordered_of : MastersBefore (Later 5) (maybe (m.Order ◁ m.By ◁ commas grammar.term)) order
 ordered_of = followed_by order_of (λ rest l. (later_not 5 m.Order rest l (omega arith), (later_not 5 m.Comma rest l (omega arith), (later_stops 5 rest l, (later_not 5 m.Desc rest l (omega arith), later_not 5 m.Asc rest l (omega arith))))))
 
-limited_of : MastersBefore IsOver (maybe grammar.limit) (λ o r. limited)
+limited_of : MastersBefore IsOver (maybe grammar.limit) (λ lim. limited)
 unfolding limited
-limited_of = followed_by (maybe_of (is_mark m.Limit) (λ o r d i. is_same m.Limit) limit_of)
+limited_of = followed_by (maybe_of (is_mark m.Limit) (λ lim d i. is_same m.Limit) limit_of)
     (λ rest h. (later_not 6 m.Limit rest (over_later 6 rest h) (omega arith), (later_not 6 m.Offset rest (over_later 6 rest h) (omega arith), tt)))
 
 -- ---- all of them
@@ -128,8 +129,8 @@ abbrev clause_1 : Language (Option Tables × (Option Expr × (Option (List Expr)
 clause_1 = maybe (m.From ◁ grammar.tables) ⊗ clause_2
 
 comes_6 : Comes 5 clause_6
-comes_6 o r None rest i st = over_later 5 rest st
-comes_6 o r (Some d) rest i st = omega arith
+comes_6 lim None rest i st = over_later 5 rest st
+comes_6 lim (Some d) rest i st = omega arith
 
 comes_5 : Comes 4 clause_5
 comes_5 = clause_comes 4 m.Order (m.By ◁ commas grammar.term) clause_6 (omega arith) comes_6
@@ -148,7 +149,7 @@ comes_1 = clause_comes 0 m.From grammar.tables clause_2 (omega arith) comes_2
 
 sources_of : MastersBefore (Later 2) (maybe (m.From ◁ grammar.tables) ⊗ grammar.filter) sources
 unfolding sources
-sources_of = and_then_by from_of where_of (λ o r d rest i st. link d rest st)
+sources_of = and_then_by from_of where_of (λ lim d rest i st. link d rest st)
   where
     link : (d : grammar.filter.D) (rest : List Symbol) → Later 2 rest → Later 1 (grammar.filter.words d ++ rest)
     link None rest st = earlier 1 2 rest (omega arith) st
@@ -156,7 +157,7 @@ sources_of = and_then_by from_of where_of (λ o r d rest i st. link d rest st)
 
 grouping_of : MastersBefore (Later 4) (maybe (m.Group ◁ m.By ◁ commas phrase) ⊗ maybe (m.Having ◁ phrase)) grouping
 unfolding grouping
-grouping_of = and_then_by grouped_of having_next (λ o r d rest i st. link d rest st)
+grouping_of = and_then_by grouped_of having_next (λ lim d rest i st. link d rest st)
   where
     link : (d : (maybe (m.Having ◁ phrase)).D) (rest : List Symbol) → Later 4 rest → Later 3 ((maybe (m.Having ◁ phrase)).words d ++ rest)
     link None rest st = earlier 3 4 rest (omega arith) st
@@ -173,16 +174,16 @@ clauses_of = regrouped_of (maybe (m.From ◁ grammar.tables)) grammar.filter cla
 
 pub select_of : MastersBefore IsOver grammar.select select
 unfolding select same_mark begins
-select_of = made_of (and_then_by (behind_mark (flag_of m.Distinct m.All refl) m.Select) (and_then_by (commas_of (λ rest. ((refl, tt), stops_comma rest)) shown_of) clauses_of listed) (λ o r d rest i st. (plain m.Distinct refl refl o r d rest i, plain m.All refl refl o r d rest i)))
+select_of = made_of (and_then_by (behind_mark (flag_of m.Distinct m.All refl) m.Select) (and_then_by (commas_of (λ rest. ((refl, tt), stops_comma rest)) shown_of) clauses_of listed) (λ lim d rest i st. (plain m.Distinct refl refl lim d rest i, plain m.All refl refl lim d rest i)))
     (λ x. record { distinct = x.0; shown = x.1.0; from = x.1.1.0; filter = x.1.1.1.0; group = x.1.1.1.1.0; having = x.1.1.1.1.1.0; order = x.1.1.1.1.1.1.0; limit = x.1.1.1.1.1.1.1 })
   where
-    listed : (o r : ℕ) (d : clause_1.D) (rest : List Symbol) → clause_1.fits o r d → IsOver rest → (begins_next (is_mark m.Comma) (clause_1.words d ++ rest) ≡ false) × Shows (clause_1.words d ++ rest)
-    listed o r d rest i st = let l = comes_1 o r d rest i st in
+    listed : (lim : Limits) (d : clause_1.D) (rest : List Symbol) → clause_1.fits lim d → IsOver rest → (begins_next (is_mark m.Comma) (clause_1.words d ++ rest) ≡ false) × Shows (clause_1.words d ++ rest)
+    listed lim d rest i st = let l = comes_1 lim d rest i st in
         (later_not 0 m.Comma (clause_1.words d ++ rest) l (omega arith), ((later_clear 0 (clause_1.words d ++ rest) l).1.0, later_stops 0 (clause_1.words d ++ rest) l))
 
-    plain : (x : Mark) → same_mark x m.Star ≡ false → begins 1 (k.Mark x) ≡ false → (o r : ℕ) (d : (commas grammar.shown ⊗ clause_1).D) (rest : List Symbol) → (commas grammar.shown ⊗ clause_1).fits o r d
+    plain : (x : Mark) → same_mark x m.Star ≡ false → begins 1 (k.Mark x) ≡ false → (lim : Limits) (d : (commas grammar.shown ⊗ clause_1).D) (rest : List Symbol) → (commas grammar.shown ⊗ clause_1).fits lim d
         → begins_next (is_mark x) ((commas grammar.shown ⊗ clause_1).words d ++ rest) ≡ false
-    plain x e b o r d rest i = ap (begins_next (is_mark x))
+    plain x e b lim d rest i = ap (begins_next (is_mark x))
         (append_assoc (grammar.shown.words d.0.0 ++ all_words (λ d. k.Mark m.Comma ∷ grammar.shown.words d) d.0.1) (clause_1.words d.1) rest
         ∙ append_assoc (grammar.shown.words d.0.0) (all_words (λ d. k.Mark m.Comma ∷ grammar.shown.words d) d.0.1) (clause_1.words d.1 ++ rest))
-        ∙ shown_avoids x e b o r d.0.0 (all_words (λ d. k.Mark m.Comma ∷ grammar.shown.words d) d.0.1 ++ (clause_1.words d.1 ++ rest)) i.0.0 tt
+        ∙ shown_avoids x e b lim d.0.0 (all_words (λ d. k.Mark m.Comma ∷ grammar.shown.words d) d.0.1 ++ (clause_1.words d.1 ++ rest)) i.0.0 tt

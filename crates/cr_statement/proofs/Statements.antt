@@ -10,9 +10,9 @@ use Rattle.cr_tree.proofs.Forms.{is_same}
 use Rattle.cr_tree.proofs.Repeats.{begins_next}
 use Rattle.cr_tree.proofs.Phrases.{Stops, stops_comma, stops_close}
 use Rattle.cr_tree.proofs.Judged.{IsOver}
-use Rattle.cr_statement.specs.declared.tree.Mode.TheVariants as o
-use Rattle.cr_statement.specs.declared.tree.Statement.{Statement}
-use Rattle.cr_statement.specs.declared.tree.Statement.TheVariants as t
+use Rattle.cr_tree.specs.declared.statement.Mode.TheVariants as o
+use Rattle.cr_tree.specs.declared.statement.Statement.{Statement}
+use Rattle.cr_tree.specs.declared.statement.Statement.TheVariants as t
 use Rattle.cr_tree.specs.Reading.{eat}
 use Rattle.cr_statement.specs.Languages.{◌◁◌, ◌▷◌, ◌⟨$⟩◌, ◌∣◌, option_fits, option_words, maybe}
 use Rattle.cr_statement.specs.Languages as languages
@@ -34,15 +34,15 @@ over_stops (t ∷ ts) h = absurd h
 
 filter_of : MastersBefore IsOver grammar.filter filter
 unfolding filter
-filter_of = followed_by (maybe_of (is_mark m.Where) (λ o r d i. is_same m.Where) (behind_mark expr_of m.Where)) (λ rest h. (over_clear (is_mark m.Where) rest h, over_stops rest h))
+filter_of = followed_by (maybe_of (is_mark m.Where) (λ lim d i. is_same m.Where) (behind_mark expr_of m.Where)) (λ rest h. (over_clear (is_mark m.Where) rest h, over_stops rest h))
 
 delete_of : MastersBefore IsOver grammar.delete delete
 unfolding delete
-delete_of = made_of (and_then_by (behind_mark (behind_mark name_of m.From) m.Delete) filter_of (λ o r d rest i st. tt)) (λ x. record { table = x.0; filter = x.1 })
+delete_of = made_of (and_then_by (behind_mark (behind_mark name_of m.From) m.Delete) filter_of (λ lim d rest i st. tt)) (λ x. record { table = x.0; filter = x.1 })
 
 assignment_of : MastersBefore (Stops 1) grammar.assignment assignment
 unfolding assignment
-assignment_of = made_of (and_then_by name_of (behind_mark expr_of m.Equal) (λ o r d rest i st. tt)) (λ x. record { column = x.0; value = x.1 })
+assignment_of = made_of (and_then_by name_of (behind_mark expr_of m.Equal) (λ lim d rest i st. tt)) (λ x. record { column = x.0; value = x.1 })
 
 -- what stands behind an expression is no comma, and doesn't go on with it
 abbrev LastOf : List Symbol → Type 0
@@ -55,16 +55,16 @@ filter_last (Some d) rest h = (refl, record { operator = omega arith; plain = re
 
 update_of : MastersBefore IsOver grammar.update update
 unfolding update
-update_of = made_of (and_then_by (behind_mark name_of m.Update) (and_then_by (behind_mark (commas_of stops_comma assignment_of) m.Set) filter_of (λ o r d rest i st. filter_last d rest st)) (λ o r d rest i st. tt))
+update_of = made_of (and_then_by (behind_mark name_of m.Update) (and_then_by (behind_mark (commas_of stops_comma assignment_of) m.Set) filter_of (λ lim d rest i st. filter_last d rest st)) (λ lim d rest i st. tt))
     (λ x. record { table = x.0; assignments = x.1.0; filter = x.1.1 })
 
-pub names_of : MastersBefore Anything (m.Open ◁ grammar.names ▷ m.Close) (λ o r. names)
+pub names_of : MastersBefore Anything (m.Open ◁ grammar.names ▷ m.Close) (λ lim. names)
 unfolding names same_mark
 names_of = behind_mark (before_mark (commas_of (λ rest. tt) name_of) m.Close (λ rest. (refl, tt))) m.Open
 
-columns_of : MastersBefore (λ rest. (begins_next (is_mark m.Open) rest ≡ false) × Anything rest) (maybe (m.Open ◁ grammar.names ▷ m.Close)) (λ o r. columns)
+columns_of : MastersBefore (λ rest. (begins_next (is_mark m.Open) rest ≡ false) × Anything rest) (maybe (m.Open ◁ grammar.names ▷ m.Close)) (λ lim. columns)
 unfolding columns
-columns_of = maybe_of (is_mark m.Open) (λ o r d i. is_same m.Open) names_of
+columns_of = maybe_of (is_mark m.Open) (λ lim d i. is_same m.Open) names_of
 
 row_of : MastersBefore Anything grammar.row row
 unfolding row same_mark
@@ -72,58 +72,58 @@ row_of = behind_mark (before_mark (commas_of stops_comma expr_of) m.Close (λ re
 
 insert_of : MastersBefore IsOver grammar.insert insert
 unfolding insert same_mark
-insert_of = followed_by (made_of (and_then_by (behind_mark (behind_mark name_of m.Into) m.Insert) (and_then_by columns_of (behind_mark (commas_of (λ rest. tt) row_of) m.Values) (λ o r d rest i st. (refl, tt))) (λ o r d rest i st. tt))
+insert_of = followed_by (made_of (and_then_by (behind_mark (behind_mark name_of m.Into) m.Insert) (and_then_by columns_of (behind_mark (commas_of (λ rest. tt) row_of) m.Values) (λ lim d rest i st. (refl, tt))) (λ lim d rest i st. tt))
     (λ x. record { table = x.0; columns = x.1.0; rows = x.1.1 })) (λ rest h. (over_clear (is_mark m.Comma) rest h, tt))
 
 -- ---- transactions
 
-word_of : MastersBefore IsOver (languages.maybe_mark m.Transaction) (λ o r. eat m.Transaction)
+word_of : MastersBefore IsOver (languages.maybe_mark m.Transaction) (λ lim. eat m.Transaction)
 word_of = followed_by (eat_of m.Transaction) (over_clear (is_mark m.Transaction))
 
-mode_of : MastersBefore (λ rest. (begins_next (λ t. is_some (grammar.mode_of t)) rest ≡ false) × Anything rest) (maybe (languages.one_of grammar.mode_of)) (λ o r. mode)
+mode_of : MastersBefore (λ rest. (begins_next (λ t. is_some (grammar.mode_of t)) rest ≡ false) × Anything rest) (maybe (languages.one_of grammar.mode_of)) (λ lim. mode)
 unfolding mode
-mode_of = maybe_of (λ t. is_some (grammar.mode_of t)) (λ o r d i. ap is_some i) (symbol_of grammar.mode_of (k.Mark m.Deferred) o.Deferred refl)
+mode_of = maybe_of (λ t. is_some (grammar.mode_of t)) (λ lim d i. ap is_some i) (symbol_of grammar.mode_of (k.Mark m.Deferred) o.Deferred refl)
 
-begin_of : MastersBefore IsOver grammar.begin (λ o r. begin)
+begin_of : MastersBefore IsOver grammar.begin (λ lim. begin)
 unfolding begin
-begin_of = made_of (and_then_by (behind_mark mode_of m.Begin) word_of (λ o r d rest i st. (link d rest st, tt))) (λ x. t.Begin x.0)
+begin_of = made_of (and_then_by (behind_mark mode_of m.Begin) word_of (λ lim d rest i st. (link d rest st, tt))) (λ x. t.Begin x.0)
   where
     link : (d : Bool) (rest : List Symbol) → IsOver rest → begins_next (λ t. is_some (grammar.mode_of t)) ((languages.maybe_mark m.Transaction).words d ++ rest) ≡ false
     link true rest h = refl
     link false rest h = over_clear (λ t. is_some (grammar.mode_of t)) rest h
 
-ended_of : (x : Mark) (s : Statement) → MastersBefore IsOver (grammar.ended x s) (λ o r. ended x s)
+ended_of : (x : Mark) (s : Statement) → MastersBefore IsOver (grammar.ended x s) (λ lim. ended x s)
 unfolding ended
 ended_of x s = made_of (behind_mark word_of x) (λ b. s)
 
 -- none of them begins with another mark
 pub transaction_avoids : (x : Mark) → same_mark x m.Begin ≡ false → same_mark x m.Commit ≡ false → same_mark x m.End ≡ false → same_mark x m.Rollback ≡ false → Avoids (is_mark x) IsOver grammar.transaction
-transaction_avoids x a b c d = neither IsOver (is_mark x) grammar.begin (grammar.ended m.Commit t.Commit ∣ grammar.ended m.End t.Commit ∣ grammar.ended m.Rollback t.Rollback) (λ o r z rest i st. a)
-    (neither IsOver (is_mark x) (grammar.ended m.Commit t.Commit) (grammar.ended m.End t.Commit ∣ grammar.ended m.Rollback t.Rollback) (λ o r z rest i st. b)
-    (neither IsOver (is_mark x) (grammar.ended m.End t.Commit) (grammar.ended m.Rollback t.Rollback) (λ o r z rest i st. c) (λ o r z rest i st. d)))
+transaction_avoids x a b c d = neither IsOver (is_mark x) grammar.begin (grammar.ended m.Commit t.Commit ∣ grammar.ended m.End t.Commit ∣ grammar.ended m.Rollback t.Rollback) (λ lim z rest i st. a)
+    (neither IsOver (is_mark x) (grammar.ended m.Commit t.Commit) (grammar.ended m.End t.Commit ∣ grammar.ended m.Rollback t.Rollback) (λ lim z rest i st. b)
+    (neither IsOver (is_mark x) (grammar.ended m.End t.Commit) (grammar.ended m.Rollback t.Rollback) (λ lim z rest i st. c) (λ lim z rest i st. d)))
 
-transaction_of : MastersBefore IsOver grammar.transaction (λ o r. transaction)
+transaction_of : MastersBefore IsOver grammar.transaction (λ lim. transaction)
 unfolding transaction same_mark
 transaction_of =
-    either_of (is_mark m.Begin) (λ o r d i. is_same m.Begin)
-    (neither IsOver (is_mark m.Begin) (grammar.ended m.Commit t.Commit) (grammar.ended m.End t.Commit ∣ grammar.ended m.Rollback t.Rollback) (λ o r d rest i st. refl)
-    (neither IsOver (is_mark m.Begin) (grammar.ended m.End t.Commit) (grammar.ended m.Rollback t.Rollback) (λ o r d rest i st. refl) (λ o r d rest i st. refl)))
+    either_of (is_mark m.Begin) (λ lim d i. is_same m.Begin)
+    (neither IsOver (is_mark m.Begin) (grammar.ended m.Commit t.Commit) (grammar.ended m.End t.Commit ∣ grammar.ended m.Rollback t.Rollback) (λ lim d rest i st. refl)
+    (neither IsOver (is_mark m.Begin) (grammar.ended m.End t.Commit) (grammar.ended m.Rollback t.Rollback) (λ lim d rest i st. refl) (λ lim d rest i st. refl)))
     begin_of
-    (either_of (is_mark m.Commit) (λ o r d i. is_same m.Commit)
-    (neither IsOver (is_mark m.Commit) (grammar.ended m.End t.Commit) (grammar.ended m.Rollback t.Rollback) (λ o r d rest i st. refl) (λ o r d rest i st. refl))
+    (either_of (is_mark m.Commit) (λ lim d i. is_same m.Commit)
+    (neither IsOver (is_mark m.Commit) (grammar.ended m.End t.Commit) (grammar.ended m.Rollback t.Rollback) (λ lim d rest i st. refl) (λ lim d rest i st. refl))
     (ended_of m.Commit t.Commit)
-    (either_of (is_mark m.End) (λ o r d i. is_same m.End) (λ o r d rest i st. refl) (ended_of m.End t.Commit) (ended_of m.Rollback t.Rollback)))
+    (either_of (is_mark m.End) (λ lim d i. is_same m.End) (λ lim d rest i st. refl) (ended_of m.End t.Commit) (ended_of m.Rollback t.Rollback)))
 
 -- ---- what shows nothing
 
 pub command_of : MastersBefore IsOver grammar.command command
 unfolding command same_mark
 command_of =
-    either_of (is_mark m.Insert) (λ o r d i. is_same m.Insert)
-    (neither IsOver (is_mark m.Insert) (t.Update ⟨$⟩ grammar.update) ((t.Delete ⟨$⟩ grammar.delete) ∣ grammar.transaction) (λ o r d rest i st. refl)
-    (neither IsOver (is_mark m.Insert) (t.Delete ⟨$⟩ grammar.delete) grammar.transaction (λ o r d rest i st. refl) (transaction_avoids m.Insert refl refl refl refl)))
+    either_of (is_mark m.Insert) (λ lim d i. is_same m.Insert)
+    (neither IsOver (is_mark m.Insert) (t.Update ⟨$⟩ grammar.update) ((t.Delete ⟨$⟩ grammar.delete) ∣ grammar.transaction) (λ lim d rest i st. refl)
+    (neither IsOver (is_mark m.Insert) (t.Delete ⟨$⟩ grammar.delete) grammar.transaction (λ lim d rest i st. refl) (transaction_avoids m.Insert refl refl refl refl)))
     (made_of insert_of t.Insert)
-    (either_of (is_mark m.Update) (λ o r d i. is_same m.Update)
-    (neither IsOver (is_mark m.Update) (t.Delete ⟨$⟩ grammar.delete) grammar.transaction (λ o r d rest i st. refl) (transaction_avoids m.Update refl refl refl refl))
+    (either_of (is_mark m.Update) (λ lim d i. is_same m.Update)
+    (neither IsOver (is_mark m.Update) (t.Delete ⟨$⟩ grammar.delete) grammar.transaction (λ lim d rest i st. refl) (transaction_avoids m.Update refl refl refl refl))
     (made_of update_of t.Update)
-    (either_of (is_mark m.Delete) (λ o r d i. is_same m.Delete) (transaction_avoids m.Delete refl refl refl refl) (made_of delete_of t.Delete) transaction_of))
+    (either_of (is_mark m.Delete) (λ lim d i. is_same m.Delete) (transaction_avoids m.Delete refl refl refl refl) (made_of delete_of t.Delete) transaction_of))

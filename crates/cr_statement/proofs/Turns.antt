@@ -1,13 +1,18 @@
 -- The loops over items, turn by turn.
 use Rattle.std.proofs.Common.{◌≡◌, ℕ, zero, suc, true, false, List, [], ◌∷◌, length, Option, Result, Ok, Err, refl, sym, ap, subst, ◌∙◌}
+use Rattle.cr_tree.specs.declared.limits.LimitKind.TheVariants as limits
+use Rattle.cr_tree.specs.declared.limits.TheConstants.{LIMITS}
+use Rattle.cr_tree.specs.declared.statement.Join.{Join}
 use Rattle.cr_tree.specs.declared.symbol.Mark.TheVariants as m
 use Rattle.cr_tree.specs.declared.symbol.Symbol.{Symbol}
 use Rattle.cr_tree.specs.Marks.{is_mark}
-use Rattle.cr_tree.specs.Reading.{Outcome, Reads, Fails, Parser, and_then, pure, many, many_from, sees, behind, listed, rest_of}
+use Rattle.cr_tree.specs.Reading.{Outcome, Reads, Fails, Limit, Parser, and_then, pure, many, many_from, up_to, sees, behind, listed, rest_of}
+use Rattle.cr_tree.proofs.Repeats.{begins_next, up_turn, up_stop, up_out}
 use Rattle.cr_parse.specs.declared.fault.Fault.{Fault}
 use Rattle.cr_parse.specs.declared.fault.Fault.TheVariants as f
 use Rattle.cr_parse.specs.Given.{Gives, Tells}
 use Rattle.cr_parse.proofs.Turns.{marks_turn, marks_stop, many_ends, behind_seen}
+use Rattle.cr_statement.specs.Queries.{begins_join, sees_join, join}
 use Rattle.cr_statement.specs.Reading.{commas, by_option, found_from}
 
 abbrev pub more : {A : Type 0} → Parser A → ℕ → List A → Parser (List A)
@@ -49,7 +54,7 @@ pub told_gives : {A : Type 0} (o : Outcome A) (res : Result A Fault) (ts : List 
 told_gives o (Ok x) ts t = t
 told_gives o (Err f.Memory) ts t = tt
 told_gives o (Err f.Syntax) ts t = t
-told_gives o (Err f.Deep) ts t = t
+told_gives o (Err (f.Limit x)) ts t = t
 
 pub gives_read : {A : Type 0} (o : Outcome A) (x : A) (res : Result A Fault) (ts : List Symbol) → res ≡ Ok x → Gives (λ x. x) o res ts → o ≡ Reads x ts
 gives_read o x res ts e g = subst (λ r. Gives (λ x. x) o r ts) e g
@@ -61,4 +66,23 @@ gives_refused {A} {B} o k x res res' ts e e' g = subst (λ r. Gives {X = B} (λ 
     at : (x : Fault) → Gives {X = A} (λ x. x) o (Err x) ts → Gives {X = B} (λ x. x) (and_then o k) (Err x) ts
     at f.Memory g = tt
     at f.Syntax g = ap (λ z. and_then z k) g
-    at f.Deep g = ap (λ z. and_then z k) g
+    at (f.Limit y) g = ap (λ z. and_then z k) g
+
+-- ---- joins
+
+joins_next : (ts : List Symbol) → sees_join ts ≡ begins_next begins_join ts
+joins_next [] = refl
+joins_next (t ∷ ts) = refl
+
+-- as many as there may still be
+abbrev pub more_joins : ℕ → List Join → Parser (List Join)
+more_joins n = up_to limits.Tables begins_join (join LIMITS) listed n
+
+pub joins_turn : (n n' : ℕ) (all : List Join) (ts : List Symbol) → n ≡ suc n' → sees_join ts ≡ true → more_joins n all ts ≡ and_then (join LIMITS ts) (λ x. more_joins n' (listed all x))
+joins_turn n n' all ts i h = up_turn limits.Tables begins_join (join LIMITS) listed n n' all ts i (sym (joins_next ts) ∙ h)
+
+pub joins_stop : (n : ℕ) (all : List Join) (ts : List Symbol) → sees_join ts ≡ false → more_joins n all ts ≡ Reads all ts
+joins_stop n all ts h = up_stop limits.Tables begins_join (join LIMITS) listed n all ts (sym (joins_next ts) ∙ h)
+
+pub joins_out : (n : ℕ) (all : List Join) (ts : List Symbol) → n ≡ 0 → sees_join ts ≡ true → more_joins n all ts ≡ Fails (Limit limits.Tables) ts
+joins_out n all ts i h = up_out limits.Tables begins_join (join LIMITS) listed n all ts i (sym (joins_next ts) ∙ h)

@@ -1,4 +1,4 @@
--- Reading a CREATE TABLE, as Reading does the other statements.
+-- Reading a CREATE TABLE and an ALTER TABLE, as Reading does the other statements.
 use Rattle.std.specs.Prelude.{ℕ, Bool, true, false, ◌&&◌, List, [], ◌∷◌, Option, Some, None}
 use Rattle.cr_value.specs.declared.value.Value.{Value}
 use Rattle.cr_value.specs.declared.value.Value.TheVariants as v
@@ -6,11 +6,12 @@ use Rattle.cr_tree.specs.declared.symbol.Mark.TheVariants as m
 use Rattle.cr_tree.specs.declared.symbol.Symbol.{Symbol}
 use Rattle.cr_tree.specs.declared.symbol.Symbol.TheVariants as k
 use Rattle.cr_tree.specs.Marks.{is_mark}
-use Rattle.cr_tree.specs.Reading.{Parser, ◌>>=◌, pure, name, is_name, sees, sees_name, rest_of, behind, sizes}
-use Rattle.cr_statement.specs.declared.tree.Constraint.{Constraint}
-use Rattle.cr_statement.specs.declared.tree.Constraint.TheVariants as c
-use Rattle.cr_statement.specs.declared.tree.Column.{Column}
-use Rattle.cr_statement.specs.declared.tree.Create.{Create}
+use Rattle.cr_tree.specs.Reading.{Parser, ◌>>=◌, pure, eat, name, is_name, sees, sees_name, rest_of, behind, sizes}
+use Rattle.cr_tree.specs.declared.statement.Constraint.{Constraint}
+use Rattle.cr_tree.specs.declared.statement.Constraint.TheVariants as c
+use Rattle.cr_tree.specs.declared.statement.Column.{Column}
+use Rattle.cr_tree.specs.declared.statement.Create.{Create}
+use Rattle.cr_tree.specs.declared.statement.Alter.{Alter}
 use Rattle.cr_statement.specs.Reading.{made, before, both, optional, choose, ahead, found, one_of, names}
 use Rattle.cr_statement.specs.Statements as grammar
 
@@ -61,3 +62,6 @@ if_not_exists = choose (is_mark m.If) (behind m.If (behind m.Not (behind m.Exist
 
 unfoldable pub create : Parser Create
 create = made (λ x. record { if_not_exists = x.0; table = x.1.0; columns = x.1.1.0; key = x.1.1.1 }) (both (behind m.Create (behind m.Table if_not_exists)) (both name body))
+
+unfoldable pub alter : Parser Alter
+alter = made (λ x. record { table = x.0; column = x.1 }) (both (behind m.Alter (behind m.Table name)) (behind m.Add (made (λ x. x.1) (both (eat m.Column) column))))

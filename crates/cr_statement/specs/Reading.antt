@@ -1,19 +1,20 @@
 -- Reading a statement once, from left to right, with one symbol ahead. This is how the code goes about it; what is
 -- promised of it is in Statements.
 use Rattle.std.specs.Prelude.{ℕ, zero, suc, Bool, List, [], ◌∷◌, length, Option, Some, None, is_some, if◌then◌else◌}
+use Rattle.cr_tree.specs.declared.limits.Limits.{Limits}
 use Rattle.cr_tree.specs.declared.symbol.Mark.{Mark}
 use Rattle.cr_tree.specs.declared.symbol.Mark.TheVariants as m
 use Rattle.cr_tree.specs.declared.symbol.Symbol.{Symbol}
 use Rattle.cr_tree.specs.declared.expr.Expr.{Expr}
 use Rattle.cr_tree.specs.Marks.{is_mark}
 use Rattle.cr_tree.specs.Reading.{Parser, Syntax, ◌>>=◌, pure, refuse, look, after, when, expect, eat, name, listed, behind, others, whole}
-use Rattle.cr_statement.specs.declared.tree.Insert.{Insert}
-use Rattle.cr_statement.specs.declared.tree.Assignment.{Assignment}
-use Rattle.cr_statement.specs.declared.tree.Update.{Update}
-use Rattle.cr_statement.specs.declared.tree.Delete.{Delete}
-use Rattle.cr_statement.specs.declared.tree.Mode.{Mode}
-use Rattle.cr_statement.specs.declared.tree.Statement.{Statement}
-use Rattle.cr_statement.specs.declared.tree.Statement.TheVariants as t
+use Rattle.cr_tree.specs.declared.statement.Insert.{Insert}
+use Rattle.cr_tree.specs.declared.statement.Assignment.{Assignment}
+use Rattle.cr_tree.specs.declared.statement.Update.{Update}
+use Rattle.cr_tree.specs.declared.statement.Delete.{Delete}
+use Rattle.cr_tree.specs.declared.statement.Mode.{Mode}
+use Rattle.cr_tree.specs.declared.statement.Statement.{Statement}
+use Rattle.cr_tree.specs.declared.statement.Statement.TheVariants as t
 use Rattle.cr_statement.specs.Statements as grammar
 
 -- ---- steps
@@ -68,8 +69,8 @@ one_of means = look (refuse Syntax) (λ t. told (means t))
 
 -- ---- writes
 
-unfoldable pub filter : ℕ → ℕ → Parser (Option Expr)
-filter opens room = optional (is_mark m.Where) (behind m.Where (whole opens room))
+unfoldable pub filter : Limits → Parser (Option Expr)
+filter lim = optional (is_mark m.Where) (behind m.Where (whole lim))
 
 unfoldable pub names : Parser (List (List ℕ))
 names = behind m.Open (before m.Close (commas name))
@@ -77,20 +78,20 @@ names = behind m.Open (before m.Close (commas name))
 unfoldable pub columns : Parser (Option (List (List ℕ)))
 columns = optional (is_mark m.Open) names
 
-unfoldable pub row : ℕ → ℕ → Parser (List Expr)
-row opens room = behind m.Open (before m.Close (commas (whole opens room)))
+unfoldable pub row : Limits → Parser (List Expr)
+row lim = behind m.Open (before m.Close (commas (whole lim)))
 
-unfoldable pub insert : ℕ → ℕ → Parser Insert
-insert opens room = made (λ x. record { table = x.0; columns = x.1.0; rows = x.1.1 }) (both (behind m.Insert (behind m.Into name)) (both columns (behind m.Values (commas (row opens room)))))
+unfoldable pub insert : Limits → Parser Insert
+insert lim = made (λ x. record { table = x.0; columns = x.1.0; rows = x.1.1 }) (both (behind m.Insert (behind m.Into name)) (both columns (behind m.Values (commas (row lim)))))
 
-unfoldable pub assignment : ℕ → ℕ → Parser Assignment
-assignment opens room = made (λ x. record { column = x.0; value = x.1 }) (both name (behind m.Equal (whole opens room)))
+unfoldable pub assignment : Limits → Parser Assignment
+assignment lim = made (λ x. record { column = x.0; value = x.1 }) (both name (behind m.Equal (whole lim)))
 
-unfoldable pub update : ℕ → ℕ → Parser Update
-update opens room = made (λ x. record { table = x.0; assignments = x.1.0; filter = x.1.1 }) (both (behind m.Update name) (both (behind m.Set (commas (assignment opens room))) (filter opens room)))
+unfoldable pub update : Limits → Parser Update
+update lim = made (λ x. record { table = x.0; assignments = x.1.0; filter = x.1.1 }) (both (behind m.Update name) (both (behind m.Set (commas (assignment lim))) (filter lim)))
 
-unfoldable pub delete : ℕ → ℕ → Parser Delete
-delete opens room = made (λ x. record { table = x.0; filter = x.1 }) (both (behind m.Delete (behind m.From name)) (filter opens room))
+unfoldable pub delete : Limits → Parser Delete
+delete lim = made (λ x. record { table = x.0; filter = x.1 }) (both (behind m.Delete (behind m.From name)) (filter lim))
 
 -- ---- transactions
 
@@ -112,9 +113,9 @@ transaction =
 
 -- ---- what shows nothing
 
-unfoldable pub command : ℕ → ℕ → Parser Statement
-command opens room =
-    choose (is_mark m.Insert) (made t.Insert (insert opens room))
-    (choose (is_mark m.Update) (made t.Update (update opens room))
-    (choose (is_mark m.Delete) (made t.Delete (delete opens room))
+unfoldable pub command : Limits → Parser Statement
+command lim =
+    choose (is_mark m.Insert) (made t.Insert (insert lim))
+    (choose (is_mark m.Update) (made t.Update (update lim))
+    (choose (is_mark m.Delete) (made t.Delete (delete lim))
     transaction))

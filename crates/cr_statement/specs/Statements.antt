@@ -7,30 +7,31 @@ use Rattle.cr_tree.specs.declared.symbol.Mark.TheVariants as m
 use Rattle.cr_tree.specs.declared.symbol.Symbol.{Symbol}
 use Rattle.cr_tree.specs.declared.symbol.Symbol.TheVariants as k
 use Rattle.cr_tree.specs.declared.expr.Expr.{Expr}
-use Rattle.cr_statement.specs.declared.tree.Shown.{Shown}
-use Rattle.cr_statement.specs.declared.tree.Shown.TheVariants as s
-use Rattle.cr_statement.specs.declared.tree.Source.{Source}
-use Rattle.cr_statement.specs.declared.tree.JoinKind.{JoinKind}
-use Rattle.cr_statement.specs.declared.tree.JoinKind.TheVariants as j
-use Rattle.cr_statement.specs.declared.tree.Join.{Join}
-use Rattle.cr_statement.specs.declared.tree.Tables.{Tables}
-use Rattle.cr_statement.specs.declared.tree.Term.{Term}
-use Rattle.cr_statement.specs.declared.tree.Limit.{Limit}
-use Rattle.cr_statement.specs.declared.tree.Select.{Select}
-use Rattle.cr_statement.specs.declared.tree.Insert.{Insert}
-use Rattle.cr_statement.specs.declared.tree.Assignment.{Assignment}
-use Rattle.cr_statement.specs.declared.tree.Update.{Update}
-use Rattle.cr_statement.specs.declared.tree.Delete.{Delete}
-use Rattle.cr_statement.specs.declared.tree.Constraint.{Constraint}
-use Rattle.cr_statement.specs.declared.tree.Constraint.TheVariants as c
-use Rattle.cr_statement.specs.declared.tree.Column.{Column}
-use Rattle.cr_statement.specs.declared.tree.Create.{Create}
-use Rattle.cr_statement.specs.declared.tree.Mode.{Mode}
-use Rattle.cr_statement.specs.declared.tree.Mode.TheVariants as o
-use Rattle.cr_statement.specs.declared.tree.Statement.{Statement}
-use Rattle.cr_statement.specs.declared.tree.Statement.TheVariants as t
+use Rattle.cr_tree.specs.declared.statement.Shown.{Shown}
+use Rattle.cr_tree.specs.declared.statement.Shown.TheVariants as s
+use Rattle.cr_tree.specs.declared.statement.Source.{Source}
+use Rattle.cr_tree.specs.declared.statement.JoinKind.{JoinKind}
+use Rattle.cr_tree.specs.declared.statement.JoinKind.TheVariants as j
+use Rattle.cr_tree.specs.declared.statement.Join.{Join}
+use Rattle.cr_tree.specs.declared.statement.Tables.{Tables}
+use Rattle.cr_tree.specs.declared.statement.Term.{Term}
+use Rattle.cr_tree.specs.declared.statement.Limit.{Limit}
+use Rattle.cr_tree.specs.declared.statement.Select.{Select}
+use Rattle.cr_tree.specs.declared.statement.Insert.{Insert}
+use Rattle.cr_tree.specs.declared.statement.Assignment.{Assignment}
+use Rattle.cr_tree.specs.declared.statement.Update.{Update}
+use Rattle.cr_tree.specs.declared.statement.Delete.{Delete}
+use Rattle.cr_tree.specs.declared.statement.Constraint.{Constraint}
+use Rattle.cr_tree.specs.declared.statement.Constraint.TheVariants as c
+use Rattle.cr_tree.specs.declared.statement.Column.{Column}
+use Rattle.cr_tree.specs.declared.statement.Create.{Create}
+use Rattle.cr_tree.specs.declared.statement.Alter.{Alter}
+use Rattle.cr_tree.specs.declared.statement.Mode.{Mode}
+use Rattle.cr_tree.specs.declared.statement.Mode.TheVariants as o
+use Rattle.cr_tree.specs.declared.statement.Statement.{Statement}
+use Rattle.cr_tree.specs.declared.statement.Statement.TheVariants as t
 use Rattle.cr_tree.specs.Language.{Language, expr}
-use Rattle.cr_statement.specs.Languages.{◌◁◌, ◌▷◌, ◌⊗◌, ◌⟨$⟩◌, ◌∣◌, mark, maybe, maybe_mark, nothing, many, commas, name, one_of, sizes}
+use Rattle.cr_statement.specs.Languages.{◌◁◌, ◌▷◌, ◌⊗◌, ◌⟨$⟩◌, ◌∣◌, mark, maybe, maybe_mark, nothing, many, up_to, commas, name, one_of, sizes}
 
 -- ---- numbers and literals
 
@@ -95,7 +96,7 @@ join =
     ∣ joined j.Inner
 
 abbrev pub tables : Language Tables
-tables = (λ x. record { first = x.0; joins = x.1 }) ⟨$⟩ source ⊗ many join
+tables = (λ x. record { first = x.0; joins = x.1 }) ⟨$⟩ source ⊗ up_to (λ lim. lim.joins) join
 
 abbrev pub filter : Language (Option Expr)
 filter = maybe (m.Where ◁ expr)
@@ -150,6 +151,11 @@ abbrev pub create : Language Create
 create = (λ x. record { if_not_exists = x.0; table = x.1.0; columns = x.1.1.0; key = x.1.1.1 })
     ⟨$⟩ m.Create ◁ m.Table ◁ if_not_exists ⊗ name ⊗ m.Open ◁ (commas column ⊗ maybe key) ▷ m.Close
 
+-- ---- ALTER TABLE
+
+abbrev pub alter : Language Alter
+alter = (λ x. record { table = x.0; column = x.1 }) ⟨$⟩ m.Alter ◁ m.Table ◁ name ⊗ m.Add ◁ ((λ x. x.1) ⟨$⟩ maybe_mark m.Column ⊗ column)
+
 -- ---- transactions
 
 abbrev pub mode_of : Symbol → Option Mode
@@ -175,4 +181,4 @@ abbrev pub command : Language Statement
 command = (t.Insert ⟨$⟩ insert) ∣ (t.Update ⟨$⟩ update) ∣ (t.Delete ⟨$⟩ delete) ∣ transaction
 
 abbrev pub statement : Language Statement
-statement = (t.Select ⟨$⟩ select) ∣ (t.Create ⟨$⟩ create) ∣ command
+statement = (t.Select ⟨$⟩ select) ∣ (t.Create ⟨$⟩ create) ∣ (t.Alter ⟨$⟩ alter) ∣ command

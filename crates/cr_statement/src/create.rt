@@ -1,4 +1,4 @@
-//! CREATE TABLE.
+//! CREATE TABLE and ALTER TABLE.
 
 ghost use Rattle.std.specs.Prelude.{◌≡◌, IfOk};
 ghost use Rattle.cr_tree.specs.Reading as spec;
@@ -10,10 +10,10 @@ ghost use Rattle.cr_statement.specs.Creating as creating;
 use crate::list::many;
 use crate::number::{int, negative};
 use crate::part::names;
-use crate::tree::{Column, Constraint, Create};
 use cr_parse::cursor::Cursor;
 use cr_parse::fault::Fault;
 use cr_parse::sizes::sizes;
+use cr_tree::statement::{Alter, Column, Constraint, Create};
 use cr_tree::symbol::{Mark, Symbol};
 use cr_value::text::Text;
 use cr_value::value::Value;
@@ -256,4 +256,17 @@ pub fn create(alloc: Global, tokens: &mut Cursor<'_>) -> Result<Create, Fault>
         columns,
         key,
     })
+}
+
+#[tactic(auto, unfolding(crate::specs::Creating::alter))]
+pub fn alter(alloc: Global, tokens: &mut Cursor<'_>) -> Result<Alter, Fault>
+    ensures { Gives (λ x. x) (creating.alter tokens.old) result tokens.new }
+{
+    tokens.expect(Mark::Alter)?;
+    tokens.expect(Mark::Table)?;
+    let table = tokens.name(alloc)?;
+    tokens.expect(Mark::Add)?;
+    tokens.eat(Mark::Column);
+    let column = column(alloc, tokens)?;
+    Ok(Alter { table, column })
 }

@@ -2,10 +2,10 @@
 #![tactic(auto)]
 
 mod create;
+pub mod laws;
 mod list;
 mod number;
 mod part;
 mod query;
 pub mod statement;
-pub mod tree;
 mod write;

@@ -7,10 +7,10 @@ ghost use Rattle.cr_statement.specs.Reading as reading;
 
 use crate::list::commas;
 use cr_parse::cursor::Cursor;
-use cr_parse::expression::{DEPTH, PARENTHESES};
 use cr_parse::fault::Fault;
 use cr_parse::level;
 use cr_tree::expr::Expr;
+use cr_tree::limits::LIMITS;
 use cr_tree::symbol::Mark;
 use cr_value::text::Text;
 use sqlite_items::Items;
@@ -26,9 +26,9 @@ pub fn name(alloc: Global, tokens: &mut Cursor<'_>) -> Result<Text, Fault>
 /// An expression.
 #[tactic(auto, unfolding(cr_tree::specs::Reading::whole))]
 pub fn expr(alloc: Global, tokens: &mut Cursor<'_>) -> Result<Expr, Fault>
-    ensures { Gives (λ x. x) (spec.whole 200 99 tokens.old) result tokens.new }
+    ensures { Gives (λ x. x) (spec.whole LIMITS tokens.old) result tokens.new }
 {
-    let (tree, _) = level::expr(alloc, tokens, PARENTHESES, DEPTH - 1, 1)?;
+    let (tree, _) = level::expr(alloc, tokens, LIMITS, 1)?;
     Ok(tree)
 }
 
@@ -38,7 +38,7 @@ pub fn expr_behind(
     tokens: &mut Cursor<'_>,
     mark: Mark,
 ) -> Result<Option<Expr>, Fault>
-    ensures { Gives (λ x. x) (reading.optional (is_mark mark) (spec.behind mark (spec.whole 200 99)) tokens.old) result tokens.new }
+    ensures { Gives (λ x. x) (reading.optional (is_mark mark) (spec.behind mark (spec.whole LIMITS)) tokens.old) result tokens.new }
 {
     if !tokens.sees(mark) {
         return Ok(None);
@@ -50,14 +50,14 @@ pub fn expr_behind(
 /// WHERE and what stands behind it, if it is there.
 #[tactic(auto, unfolding(crate::specs::Reading::filter))]
 pub fn filter(alloc: Global, tokens: &mut Cursor<'_>) -> Result<Option<Expr>, Fault>
-    ensures { Gives (λ x. x) (reading.filter 200 99 tokens.old) result tokens.new }
+    ensures { Gives (λ x. x) (reading.filter LIMITS tokens.old) result tokens.new }
 {
     expr_behind(alloc, tokens, Mark::Where)
 }
 
 /// One expression or more, with commas between.
 pub fn exprs(alloc: Global, tokens: &mut Cursor<'_>) -> Result<Items<Expr>, Fault>
-    ensures { Gives (λ x. x) (reading.commas (spec.whole 200 99) tokens.old) result tokens.new }
+    ensures { Gives (λ x. x) (reading.commas (spec.whole LIMITS) tokens.old) result tokens.new }
 {
     commas(alloc, tokens, expr)
 }

@@ -7,13 +7,14 @@ ghost use Rattle.cr_parse.specs.Given.{Gives, Tells};
 ghost use Rattle.cr_statement.specs.Reading as reading;
 ghost use Rattle.cr_statement.specs.Queries as query;
 
-use crate::list::{commas, many};
+use crate::list::commas;
 use crate::number::{int, negative};
 use crate::part::{expr, expr_behind, exprs, filter};
-use crate::tree::{Join, JoinKind, Limit, Select, Shown, Source, Tables, Term};
 use cr_parse::cursor::Cursor;
 use cr_parse::fault::Fault;
 use cr_tree::expr::Expr;
+use cr_tree::limits::{LIMITS, LimitKind};
+use cr_tree::statement::{Join, JoinKind, Limit, Select, Shown, Source, Tables, Term};
 use cr_tree::symbol::{Mark, Symbol};
 use cr_value::text::Text;
 use sqlite_items::Items;
@@ -54,7 +55,7 @@ fn starred(alloc: Global, tokens: &mut Cursor<'_>) -> Result<Shown, Fault>
 
 #[tactic(auto, unfolding(crate::specs::Queries::labelled))]
 fn labelled(alloc: Global, tokens: &mut Cursor<'_>) -> Result<Shown, Fault>
-    ensures { Gives (λ x. x) (query.labelled 200 99 tokens.old) result tokens.new }
+    ensures { Gives (λ x. x) (query.labelled LIMITS tokens.old) result tokens.new }
 {
     let shown = expr(alloc, tokens)?;
     let alias = alias(alloc, tokens)?;
@@ -63,7 +64,7 @@ fn labelled(alloc: Global, tokens: &mut Cursor<'_>) -> Result<Shown, Fault>
 
 #[tactic(auto, unfolding(crate::specs::Queries::shown))]
 fn shown(alloc: Global, tokens: &mut Cursor<'_>) -> Result<Shown, Fault>
-    ensures { Gives (λ x. x) (query.shown 200 99 tokens.old) result tokens.new }
+    ensures { Gives (λ x. x) (query.shown LIMITS tokens.old) result tokens.new }
 {
     if tokens.sees(Mark::Star) {
         tokens.expect(Mark::Star)?;
@@ -76,7 +77,7 @@ fn shown(alloc: Global, tokens: &mut Cursor<'_>) -> Result<Shown, Fault>
 }
 
 fn all_shown(alloc: Global, tokens: &mut Cursor<'_>) -> Result<Items<Shown>, Fault>
-    ensures { Gives (λ x. x) (reading.commas (query.shown 200 99) tokens.old) result tokens.new }
+    ensures { Gives (λ x. x) (reading.commas (query.shown LIMITS) tokens.old) result tokens.new }
 {
     commas(alloc, tokens, shown)
 }
@@ -94,7 +95,7 @@ fn source(alloc: Global, tokens: &mut Cursor<'_>) -> Result<Source, Fault>
 
 #[tactic(auto, unfolding(crate::specs::Queries::joined))]
 fn joined(alloc: Global, tokens: &mut Cursor<'_>, kind: JoinKind) -> Result<Join, Fault>
-    ensures { Gives (λ x. x) (query.joined kind 200 99 tokens.old) result tokens.new }
+    ensures { Gives (λ x. x) (query.joined kind LIMITS tokens.old) result tokens.new }
 {
     tokens.expect(Mark::Join)?;
     let source = source(alloc, tokens)?;
@@ -117,7 +118,7 @@ fn comma_join(alloc: Global, tokens: &mut Cursor<'_>) -> Result<Join, Fault>
 
 #[tactic(auto, unfolding(crate::specs::Queries::left_join))]
 fn left_join(alloc: Global, tokens: &mut Cursor<'_>) -> Result<Join, Fault>
-    ensures { Gives (λ x. x) (query.left_join 200 99 tokens.old) result tokens.new }
+    ensures { Gives (λ x. x) (query.left_join LIMITS tokens.old) result tokens.new }
 {
     tokens.expect(Mark::Left)?;
     tokens.eat(Mark::Outer);
@@ -126,7 +127,7 @@ fn left_join(alloc: Global, tokens: &mut Cursor<'_>) -> Result<Join, Fault>
 
 #[tactic(auto, unfolding(crate::specs::Queries::plain_join))]
 fn plain_join(alloc: Global, tokens: &mut Cursor<'_>) -> Result<Join, Fault>
-    ensures { Gives (λ x. x) (query.plain_join 200 99 tokens.old) result tokens.new }
+    ensures { Gives (λ x. x) (query.plain_join LIMITS tokens.old) result tokens.new }
 {
     if tokens.sees(Mark::Inner) {
         tokens.expect(Mark::Inner)?;
@@ -141,7 +142,7 @@ fn plain_join(alloc: Global, tokens: &mut Cursor<'_>) -> Result<Join, Fault>
 
 #[tactic(auto, unfolding(crate::specs::Queries::join))]
 fn join(alloc: Global, tokens: &mut Cursor<'_>) -> Result<Join, Fault>
-    ensures { Gives (λ x. x) (query.join 200 99 tokens.old) result tokens.new }
+    ensures { Gives (λ x. x) (query.join LIMITS tokens.old) result tokens.new }
 {
     if tokens.sees(Mark::Comma) {
         return comma_join(alloc, tokens);
@@ -161,28 +162,36 @@ fn begins_join(symbol: &Symbol) -> bool
     )
 }
 
-// A further table, if there is one.
-fn next_join(alloc: Global, tokens: &mut Cursor<'_>) -> Result<Option<Join>, Fault>
-    ensures { Gives (λ x. x) (reading.optional query.begins_join (query.join 200 99) tokens.old) result tokens.new }
+fn sees_join(tokens: &Cursor<'_>) -> bool
+    ensures { result ≡ query.sees_join tokens.now }
 {
-    let Some(symbol) = tokens.peek() else {
-        return Ok(None);
-    };
-    if !begins_join(symbol) {
-        return Ok(None);
+    match tokens.peek() {
+        Some(symbol) => begins_join(symbol),
+        None => false,
     }
-    Ok(Some(join(alloc, tokens)?))
 }
 
+// The further tables, as many as there may be.
 fn joins(alloc: Global, tokens: &mut Cursor<'_>) -> Result<Items<Join>, Fault>
-    ensures { Gives (λ x. x) (reading.found (reading.optional query.begins_join (query.join 200 99)) [] tokens.old) result tokens.new }
+    ensures { Gives (λ x. x) (spec.up_to LimitKind.Tables query.begins_join (query.join LIMITS) spec.listed LIMITS.joins [] tokens.old) result tokens.new }
 {
-    many(alloc, tokens, Items::new(alloc), next_join)
+    let mut all = Items::new(alloc);
+    for _turn in 0..LIMITS.joins {
+        if !sees_join(tokens) {
+            return Ok(all);
+        }
+        let next = join(alloc, tokens)?;
+        all.push(next)?;
+    }
+    if sees_join(tokens) {
+        return Err(Fault::Limit(LimitKind::Tables));
+    }
+    Ok(all)
 }
 
 #[tactic(auto, unfolding(crate::specs::Queries::tables))]
 fn tables(alloc: Global, tokens: &mut Cursor<'_>) -> Result<Tables, Fault>
-    ensures { Gives (λ x. x) (query.tables 200 99 tokens.old) result tokens.new }
+    ensures { Gives (λ x. x) (query.tables LIMITS tokens.old) result tokens.new }
 {
     let first = source(alloc, tokens)?;
     let joins = joins(alloc, tokens)?;
@@ -191,7 +200,7 @@ fn tables(alloc: Global, tokens: &mut Cursor<'_>) -> Result<Tables, Fault>
 
 #[tactic(auto, unfolding(crate::specs::Queries::from))]
 fn from(alloc: Global, tokens: &mut Cursor<'_>) -> Result<Option<Tables>, Fault>
-    ensures { Gives (λ x. x) (query.from 200 99 tokens.old) result tokens.new }
+    ensures { Gives (λ x. x) (query.from LIMITS tokens.old) result tokens.new }
 {
     if !tokens.sees(Mark::From) {
         return Ok(None);
@@ -204,7 +213,7 @@ fn from(alloc: Global, tokens: &mut Cursor<'_>) -> Result<Option<Tables>, Fault>
 
 #[tactic(auto, unfolding(crate::specs::Queries::group))]
 fn group(alloc: Global, tokens: &mut Cursor<'_>) -> Result<Option<Items<Expr>>, Fault>
-    ensures { Gives (λ x. x) (query.group 200 99 tokens.old) result tokens.new }
+    ensures { Gives (λ x. x) (query.group LIMITS tokens.old) result tokens.new }
 {
     if !tokens.sees(Mark::Group) {
         return Ok(None);
@@ -216,7 +225,7 @@ fn group(alloc: Global, tokens: &mut Cursor<'_>) -> Result<Option<Items<Expr>>, 
 
 #[tactic(auto, unfolding(crate::specs::Queries::having))]
 fn having(alloc: Global, tokens: &mut Cursor<'_>) -> Result<Option<Expr>, Fault>
-    ensures { Gives (λ x. x) (query.having 200 99 tokens.old) result tokens.new }
+    ensures { Gives (λ x. x) (query.having LIMITS tokens.old) result tokens.new }
 {
     expr_behind(alloc, tokens, Mark::Having)
 }
@@ -236,7 +245,7 @@ fn flag(tokens: &mut Cursor<'_>, on: Mark, off: Mark) -> bool
 
 #[tactic(auto, unfolding(crate::specs::Queries::term))]
 fn term(alloc: Global, tokens: &mut Cursor<'_>) -> Result<Term, Fault>
-    ensures { Gives (λ x. x) (query.term 200 99 tokens.old) result tokens.new }
+    ensures { Gives (λ x. x) (query.term LIMITS tokens.old) result tokens.new }
 {
     let expr = expr(alloc, tokens)?;
     let descending = flag(tokens, Mark::Desc, Mark::Asc);
@@ -244,14 +253,14 @@ fn term(alloc: Global, tokens: &mut Cursor<'_>) -> Result<Term, Fault>
 }
 
 fn terms(alloc: Global, tokens: &mut Cursor<'_>) -> Result<Items<Term>, Fault>
-    ensures { Gives (λ x. x) (reading.commas (query.term 200 99) tokens.old) result tokens.new }
+    ensures { Gives (λ x. x) (reading.commas (query.term LIMITS) tokens.old) result tokens.new }
 {
     commas(alloc, tokens, term)
 }
 
 #[tactic(auto, unfolding(crate::specs::Queries::order))]
 fn order(alloc: Global, tokens: &mut Cursor<'_>) -> Result<Option<Items<Term>>, Fault>
-    ensures { Gives (λ x. x) (query.order 200 99 tokens.old) result tokens.new }
+    ensures { Gives (λ x. x) (query.order LIMITS tokens.old) result tokens.new }
 {
     if !tokens.sees(Mark::Order) {
         return Ok(None);
@@ -309,7 +318,7 @@ fn limited(tokens: &mut Cursor<'_>) -> Result<Option<Limit>, Fault>
 // FROM and WHERE.
 #[tactic(auto, unfolding(crate::specs::Queries::sources))]
 fn sources(alloc: Global, tokens: &mut Cursor<'_>) -> Result<(Option<Tables>, Option<Expr>), Fault>
-    ensures { Gives (λ x. x) (query.sources 200 99 tokens.old) result tokens.new }
+    ensures { Gives (λ x. x) (query.sources LIMITS tokens.old) result tokens.new }
 {
     let from = from(alloc, tokens)?;
     let filter = filter(alloc, tokens)?;
@@ -322,7 +331,7 @@ fn grouping(
     alloc: Global,
     tokens: &mut Cursor<'_>,
 ) -> Result<(Option<Items<Expr>>, Option<Expr>), Fault>
-    ensures { Gives (λ x. x) (query.grouping 200 99 tokens.old) result tokens.new }
+    ensures { Gives (λ x. x) (query.grouping LIMITS tokens.old) result tokens.new }
 {
     let group = group(alloc, tokens)?;
     let having = having(alloc, tokens)?;
@@ -335,7 +344,7 @@ fn ending(
     alloc: Global,
     tokens: &mut Cursor<'_>,
 ) -> Result<(Option<Items<Term>>, Option<Limit>), Fault>
-    ensures { Gives (λ x. x) (query.ending 200 99 tokens.old) result tokens.new }
+    ensures { Gives (λ x. x) (query.ending LIMITS tokens.old) result tokens.new }
 {
     let order = order(alloc, tokens)?;
     let limit = limited(tokens)?;
@@ -344,7 +353,7 @@ fn ending(
 
 #[tactic(auto, unfolding(crate::specs::Queries::select, crate::specs::Queries::clauses))]
 pub fn select(alloc: Global, tokens: &mut Cursor<'_>) -> Result<Select, Fault>
-    ensures { Gives (λ x. x) (query.select 200 99 tokens.old) result tokens.new }
+    ensures { Gives (λ x. x) (query.select LIMITS tokens.old) result tokens.new }
 {
     tokens.expect(Mark::Select)?;
     let distinct = flag(tokens, Mark::Distinct, Mark::All);

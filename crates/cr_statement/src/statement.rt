@@ -1,6 +1,8 @@
 //! Whole statements.
 
 ghost use Rattle.std.specs.Prelude.{◌≡◌, ◌≢◌, ℕ, IfOk};
+ghost use Rattle.cr_tree.specs.declared.limits.LimitKind.{LimitKind};
+ghost use Rattle.cr_tree.specs.declared.limits.TheConstants.{LIMITS};
 ghost use Rattle.cr_tree.specs.Reading as spec;
 ghost use Rattle.cr_tree.specs.Judging.{IsRead, IsBadPlace, MeetsLimit};
 ghost use Rattle.cr_parse.specs.Given.{Gives, Tells};
@@ -8,15 +10,15 @@ ghost use Rattle.cr_parse.specs.Judge.{judge};
 ghost use Rattle.cr_statement.specs.Statements as language;
 ghost use Rattle.cr_statement.specs.Reading as reading;
 ghost use Rattle.cr_statement.specs.Whole as whole;
-ghost use Rattle.cr_statement.specs.declared.tree.Statement as trees;
+ghost use Rattle.cr_tree.specs.declared.statement.Statement as trees;
 
-use crate::create::create;
+use crate::create::{alter, create};
 use crate::query::select;
-use crate::tree::{Mode, Statement};
 use crate::write::{delete, insert, update};
 use cr_parse::cursor::Cursor;
 use cr_parse::error::{ParseError, refusal};
 use cr_parse::fault::Fault;
+use cr_tree::statement::{Mode, Statement};
 use cr_tree::symbol::{Mark, Symbol};
 use std::alloc::Global;
 
@@ -83,7 +85,7 @@ fn transaction(tokens: &mut Cursor<'_>) -> Result<Statement, Fault>
 // A statement that shows nothing.
 #[tactic(auto, unfolding(crate::specs::Reading::command))]
 fn command(alloc: Global, tokens: &mut Cursor<'_>) -> Result<Statement, Fault>
-    ensures { Gives (λ x. x) (reading.command 200 99 tokens.old) result tokens.new }
+    ensures { Gives (λ x. x) (reading.command LIMITS tokens.old) result tokens.new }
 {
     if tokens.sees(Mark::Insert) {
         return Ok(Statement::Insert(insert(alloc, tokens)?));
@@ -99,7 +101,7 @@ fn command(alloc: Global, tokens: &mut Cursor<'_>) -> Result<Statement, Fault>
 
 #[tactic(auto, unfolding(crate::specs::Whole::statement))]
 fn any(alloc: Global, tokens: &mut Cursor<'_>) -> Result<Statement, Fault>
-    ensures { Gives (λ x. x) (whole.statement 200 99 tokens.old) result tokens.new }
+    ensures { Gives (λ x. x) (whole.statement LIMITS tokens.old) result tokens.new }
 {
     if tokens.sees(Mark::Select) {
         return Ok(Statement::Select(select(alloc, tokens)?));
@@ -107,12 +109,15 @@ fn any(alloc: Global, tokens: &mut Cursor<'_>) -> Result<Statement, Fault>
     if tokens.sees(Mark::Create) {
         return Ok(Statement::Create(create(alloc, tokens)?));
     }
+    if tokens.sees(Mark::Alter) {
+        return Ok(Statement::Alter(alter(alloc, tokens)?));
+    }
     command(alloc, tokens)
 }
 
 #[tactic(auto, using(cr_parse::proofs::Refusals::told))]
 fn read(alloc: Global, symbols: &[Symbol]) -> Result<Statement, ParseError>
-    ensures { result ≢ Err ParseError.Memory → result ≡ judge symbols.now (whole.statement 200 99 symbols.now) }
+    ensures { result ≢ Err ParseError.Memory → result ≡ judge symbols.now (whole.statement LIMITS symbols.now) }
 {
     let mut cursor = Cursor::new(symbols);
     let outcome = any(alloc, &mut cursor);
@@ -129,23 +134,23 @@ fn read(alloc: Global, symbols: &[Symbol]) -> Result<Statement, ParseError>
     }
 }
 
-/// The tree of the statement that the symbols are, all of them, with no semicolon: SELECT, CREATE TABLE, INSERT,
-/// UPDATE, DELETE, BEGIN, COMMIT, END or ROLLBACK. The grammar is a part of SQLite's "SQL As Understood By SQLite". Takes time in proportion
-/// to the number of symbols.
+/// The tree of the statement that the symbols are, all of them, with no semicolon: SELECT, CREATE TABLE, ALTER
+/// TABLE, INSERT, UPDATE, DELETE, BEGIN, COMMIT, END or ROLLBACK. The grammar is a part of SQLite's "SQL As Understood By
+/// SQLite". Takes time in proportion to the number of symbols.
 ///
 /// # Errors
 /// `Syntax` with the number of symbols before the first with which no statement goes on, or with their number where
-/// more are wanted; `Depth` where the depth of an expression would pass 100 or its open parentheses 200, if that is met
-/// first from the left; `Memory`.
+/// more are wanted; `Limit` with its kind where the depth of an expression would pass 100, its open parentheses 200, the
+/// arguments of a call 100 or the tables of a FROM 8, if that is met first from the left; `Memory`.
 pub fn statement(alloc: Global, symbols: &[Symbol]) -> Result<Statement, ParseError>
     // What is read is a statement with this tree.
     ensures read { IfOk result (λ x. IsRead language.statement symbols.now x) }
     // Each statement within the limits is read, unless memory runs out.
     ensures only { (x : trees.Statement) → IsRead language.statement symbols.now x → result ≢ Err ParseError.Memory → result ≡ Ok x }
     ensures syntax { (n : ℕ) → result ≡ Err (ParseError.Syntax n) → IsBadPlace language.statement symbols.now n }
-    ensures depth { result ≡ Err ParseError.Depth → MeetsLimit language.statement symbols.now }
+    ensures limit { (which : LimitKind) → result ≡ Err (ParseError.Limit which) → MeetsLimit which language.statement symbols.now }
     // What is met first from the left decides.
-    ensures reading { result ≢ Err ParseError.Memory → result ≡ judge symbols.now (whole.statement 200 99 symbols.now) }
+    ensures reading { result ≢ Err ParseError.Memory → result ≡ judge symbols.now (whole.statement LIMITS symbols.now) }
 {
     read(alloc, symbols)
 }

@@ -1,14 +1,15 @@
 //! INSERT, UPDATE and DELETE.
 
+ghost use Rattle.cr_tree.specs.declared.limits.TheConstants.{LIMITS};
 ghost use Rattle.cr_parse.specs.Given.{Gives};
 ghost use Rattle.cr_statement.specs.Reading as reading;
 
 use crate::list::commas;
 use crate::part::{expr, exprs, filter, names};
-use crate::tree::{Assignment, Delete, Insert, Update};
 use cr_parse::cursor::Cursor;
 use cr_parse::fault::Fault;
 use cr_tree::expr::Expr;
+use cr_tree::statement::{Assignment, Delete, Insert, Update};
 use cr_tree::symbol::Mark;
 use cr_value::text::Text;
 use sqlite_items::Items;
@@ -27,7 +28,7 @@ fn columns(alloc: Global, tokens: &mut Cursor<'_>) -> Result<Option<Items<Text>>
 
 #[tactic(auto, unfolding(crate::specs::Reading::row))]
 fn row(alloc: Global, tokens: &mut Cursor<'_>) -> Result<Items<Expr>, Fault>
-    ensures { Gives (λ x. x) (reading.row 200 99 tokens.old) result tokens.new }
+    ensures { Gives (λ x. x) (reading.row LIMITS tokens.old) result tokens.new }
 {
     tokens.expect(Mark::Open)?;
     let all = exprs(alloc, tokens)?;
@@ -36,14 +37,14 @@ fn row(alloc: Global, tokens: &mut Cursor<'_>) -> Result<Items<Expr>, Fault>
 }
 
 fn rows(alloc: Global, tokens: &mut Cursor<'_>) -> Result<Items<Items<Expr>>, Fault>
-    ensures { Gives (λ x. x) (reading.commas (reading.row 200 99) tokens.old) result tokens.new }
+    ensures { Gives (λ x. x) (reading.commas (reading.row LIMITS) tokens.old) result tokens.new }
 {
     commas(alloc, tokens, row)
 }
 
 #[tactic(auto, unfolding(crate::specs::Reading::insert))]
 pub fn insert(alloc: Global, tokens: &mut Cursor<'_>) -> Result<Insert, Fault>
-    ensures { Gives (λ x. x) (reading.insert 200 99 tokens.old) result tokens.new }
+    ensures { Gives (λ x. x) (reading.insert LIMITS tokens.old) result tokens.new }
 {
     tokens.expect(Mark::Insert)?;
     tokens.expect(Mark::Into)?;
@@ -60,7 +61,7 @@ pub fn insert(alloc: Global, tokens: &mut Cursor<'_>) -> Result<Insert, Fault>
 
 #[tactic(auto, unfolding(crate::specs::Reading::assignment))]
 fn assignment(alloc: Global, tokens: &mut Cursor<'_>) -> Result<Assignment, Fault>
-    ensures { Gives (λ x. x) (reading.assignment 200 99 tokens.old) result tokens.new }
+    ensures { Gives (λ x. x) (reading.assignment LIMITS tokens.old) result tokens.new }
 {
     let column = tokens.name(alloc)?;
     tokens.expect(Mark::Equal)?;
@@ -69,14 +70,14 @@ fn assignment(alloc: Global, tokens: &mut Cursor<'_>) -> Result<Assignment, Faul
 }
 
 fn assignments(alloc: Global, tokens: &mut Cursor<'_>) -> Result<Items<Assignment>, Fault>
-    ensures { Gives (λ x. x) (reading.commas (reading.assignment 200 99) tokens.old) result tokens.new }
+    ensures { Gives (λ x. x) (reading.commas (reading.assignment LIMITS) tokens.old) result tokens.new }
 {
     commas(alloc, tokens, assignment)
 }
 
 #[tactic(auto, unfolding(crate::specs::Reading::update))]
 pub fn update(alloc: Global, tokens: &mut Cursor<'_>) -> Result<Update, Fault>
-    ensures { Gives (λ x. x) (reading.update 200 99 tokens.old) result tokens.new }
+    ensures { Gives (λ x. x) (reading.update LIMITS tokens.old) result tokens.new }
 {
     tokens.expect(Mark::Update)?;
     let table = tokens.name(alloc)?;
@@ -92,7 +93,7 @@ pub fn update(alloc: Global, tokens: &mut Cursor<'_>) -> Result<Update, Fault>
 
 #[tactic(auto, unfolding(crate::specs::Reading::delete))]
 pub fn delete(alloc: Global, tokens: &mut Cursor<'_>) -> Result<Delete, Fault>
-    ensures { Gives (λ x. x) (reading.delete 200 99 tokens.old) result tokens.new }
+    ensures { Gives (λ x. x) (reading.delete LIMITS tokens.old) result tokens.new }
 {
     tokens.expect(Mark::Delete)?;
     tokens.expect(Mark::From)?;

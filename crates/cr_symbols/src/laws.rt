@@ -7,7 +7,7 @@ pub fn quotes_come_off()
     ensures { QuotesComeOff }
 {}
 
-/// A word that is a keyword is a mark or `Other`, and each other word in UTF-8 is a name.
+/// A word in UTF-8 is a name exactly where it is no keyword: no word of the grammar, and none of SQL outside of it.
 pub fn keywords_are_no_names()
     ensures { KeywordsAreNoNames }
 {}

@@ -7,12 +7,13 @@ ghost use Rattle.std.specs.Str.{str_eq_ignore_ascii_case};
 ghost use Rattle.std.specs.Map.{lookup};
 ghost use Rattle.cr_symbols.specs.Marks.{marked, words, signs, outside_word};
 
-use cr_lex::keywords::OUTSIDE_WORDS;
 use cr_tree::symbol::Mark;
 
-/// The words of the grammar.
-pub const WORDS: [(&str, Mark); 57] = [
+// The words of the grammar.
+const WORDS: [(&str, Mark); 60] = [
+    ("ADD", Mark::Add),
     ("ALL", Mark::All),
+    ("ALTER", Mark::Alter),
     ("AND", Mark::And),
     ("AS", Mark::As),
     ("ASC", Mark::Asc),
@@ -22,6 +23,7 @@ pub const WORDS: [(&str, Mark); 57] = [
     ("CASE", Mark::Case),
     ("CAST", Mark::Cast),
     ("COLLATE", Mark::Collate),
+    ("COLUMN", Mark::Column),
     ("COMMIT", Mark::Commit),
     ("CREATE", Mark::Create),
     ("CROSS", Mark::Cross),
@@ -71,7 +73,39 @@ pub const WORDS: [(&str, Mark); 57] = [
     ("WHERE", Mark::Where),
 ];
 
-// Its signs.
+// The words of SQL that stand outside of the grammar, and EXISTS, which stands in it at one place alone.
+const OUTSIDE_WORDS: [&str; 28] = [
+    "ATTACH",
+    "AUTOINCREMENT",
+    "CHECK",
+    "CONSTRAINT",
+    "DETACH",
+    "DROP",
+    "ESCAPE",
+    "EXCEPT",
+    "EXISTS",
+    "EXPLAIN",
+    "FOREIGN",
+    "FULL",
+    "GLOB",
+    "INDEX",
+    "INTERSECT",
+    "NATURAL",
+    "PRAGMA",
+    "REFERENCES",
+    "REGEXP",
+    "RETURNING",
+    "RIGHT",
+    "SAVEPOINT",
+    "TRIGGER",
+    "UNION",
+    "UNIQUE",
+    "USING",
+    "WINDOW",
+    "WITH",
+];
+
+// The signs of the grammar.
 const SIGNS: [(&str, Mark); 18] = [
     ("(", Mark::Open),
     (")", Mark::Close),

@@ -1,50 +1,76 @@
 -- How the parsers call each other.
 use Rattle.std.proofs.Common.{◌≡◌, ℕ, zero, suc, ◌-◌, ◌<◌, List, refl, arith, sub-one}
+use Rattle.cr_tree.specs.declared.limits.Limits.{Limits}
 use Rattle.cr_tree.specs.declared.symbol.Symbol.{Symbol}
-use Rattle.cr_tree.specs.Reading.{Sized, too_high, level, expr_at, expr, inside_of, argument_of, below_of}
+use Rattle.cr_tree.specs.Reading.{Sized, too_high, level, expr_at, expr_by, inside_by, argument_by, below_by, expr, rules_of, inside_limits, argument_limits, below_limits}
 
-pub expr_level : (opens room least : ℕ) (ts : List Symbol) → expr opens room least ts ≡ level opens (inside_of opens room) (argument_of opens room) room (below_of opens room) least ts
-unfolding expr expr_at inside_of argument_of below_of
-expr_level zero zero least ts = refl
-expr_level zero (suc room) least ts = refl
-expr_level (suc opens) zero least ts = refl
-expr_level (suc opens) (suc room) least ts = refl
+pub expr_level : (lim : Limits) (least : ℕ) (ts : List Symbol) → expr lim least ts ≡ level lim (rules_of lim) least ts
+unfolding expr rules_of expr_by expr_at inside_by argument_by below_by
+expr_level lim least ts = at lim.opens lim.room
+  where
+    at : (opens room : ℕ) → expr_by lim.commas lim.joins opens room least ts
+        ≡ level (record lim { opens = opens; room = room }) (record { inside = inside_by lim.commas lim.joins opens room; argument = argument_by lim.commas lim.joins opens room; below = below_by lim.commas lim.joins opens room }) least ts
+    at zero zero = refl
+    at zero (suc room) = refl
+    at (suc opens) zero = refl
+    at (suc opens) (suc room) = refl
 
-pub inside_expr : (opens room : ℕ) (ts : List Symbol) → 0 < opens → inside_of opens room ts ≡ expr (opens - 1) room 1 ts
-unfolding inside_of
-inside_expr zero room ts h = absurd (omega arith)
-inside_expr (suc opens) room ts h = rw sub-one refl
+pub inside_expr : (lim : Limits) (ts : List Symbol) → 0 < lim.opens → (rules_of lim).inside ts ≡ expr (inside_limits lim) 1 ts
+unfolding rules_of inside_by expr
+inside_expr lim ts h = at lim.opens h
+  where
+    at : (opens : ℕ) → 0 < opens → inside_by lim.commas lim.joins opens lim.room ts ≡ expr_by lim.commas lim.joins (opens - 1) lim.room 1 ts
+    at zero h = absurd (omega arith)
+    at (suc opens) h = rw sub-one refl
 
-pub argument_expr : (opens room : ℕ) (ts : List Symbol) → 0 < opens → 0 < room → argument_of opens room ts ≡ expr (opens - 1) (room - 1) 1 ts
-unfolding argument_of
-argument_expr opens zero ts h g = absurd (omega arith)
-argument_expr zero (suc room) ts h g = absurd (omega arith)
-argument_expr (suc opens) (suc room) ts h g = rw sub-one rw sub-one refl
+pub argument_expr : (lim : Limits) (ts : List Symbol) → 0 < lim.opens → 0 < lim.room → (rules_of lim).argument ts ≡ expr (argument_limits lim) 1 ts
+unfolding rules_of argument_by expr
+argument_expr lim ts h g = at lim.opens lim.room h g
+  where
+    at : (opens room : ℕ) → 0 < opens → 0 < room → argument_by lim.commas lim.joins opens room ts ≡ expr_by lim.commas lim.joins (opens - 1) (room - 1) 1 ts
+    at opens zero h g = absurd (omega arith)
+    at zero (suc room) h g = absurd (omega arith)
+    at (suc opens) (suc room) h g = rw sub-one rw sub-one refl
 
 -- with no room
-pub argument_high : (opens room : ℕ) (ts : List Symbol) → room ≡ 0 → argument_of opens room ts ≡ too_high {A = Sized} 1 ts
-unfolding argument_of
-argument_high opens zero ts h = refl
-argument_high opens (suc room) ts h = absurd (omega arith)
+pub argument_high : (lim : Limits) (ts : List Symbol) → lim.room ≡ 0 → (rules_of lim).argument ts ≡ too_high {A = Sized} 1 ts
+unfolding rules_of argument_by
+argument_high lim ts h = at lim.room h
+  where
+    at : (room : ℕ) → room ≡ 0 → argument_by lim.commas lim.joins lim.opens room ts ≡ too_high {A = Sized} 1 ts
+    at zero h = refl
+    at (suc room) h = absurd (omega arith)
 
 -- with no parentheses left
-pub argument_shut : (opens room : ℕ) (ts : List Symbol) → opens ≡ 0 → argument_of opens room ts ≡ too_high {A = Sized} 1 ts
-unfolding argument_of
-argument_shut zero zero ts h = refl
-argument_shut zero (suc room) ts h = refl
-argument_shut (suc opens) room ts h = absurd (omega arith)
+pub argument_shut : (lim : Limits) (ts : List Symbol) → lim.opens ≡ 0 → (rules_of lim).argument ts ≡ too_high {A = Sized} 1 ts
+unfolding rules_of argument_by
+argument_shut lim ts h = at lim.opens lim.room h
+  where
+    at : (opens room : ℕ) → opens ≡ 0 → argument_by lim.commas lim.joins opens room ts ≡ too_high {A = Sized} 1 ts
+    at zero zero h = refl
+    at zero (suc room) h = refl
+    at (suc opens) room h = absurd (omega arith)
 
-pub inside_shut : (opens room : ℕ) (ts : List Symbol) → opens ≡ 0 → inside_of opens room ts ≡ too_high {A = Sized} 1 ts
-unfolding inside_of
-inside_shut zero room ts h = refl
-inside_shut (suc opens) room ts h = absurd (omega arith)
+pub inside_shut : (lim : Limits) (ts : List Symbol) → lim.opens ≡ 0 → (rules_of lim).inside ts ≡ too_high {A = Sized} 1 ts
+unfolding rules_of inside_by
+inside_shut lim ts h = at lim.opens h
+  where
+    at : (opens : ℕ) → opens ≡ 0 → inside_by lim.commas lim.joins opens lim.room ts ≡ too_high {A = Sized} 1 ts
+    at zero h = refl
+    at (suc opens) h = absurd (omega arith)
 
-pub below_expr : (opens room least : ℕ) (ts : List Symbol) → 0 < room → below_of opens room least ts ≡ expr opens (room - 1) least ts
-unfolding below_of
-below_expr opens zero least ts h = absurd (omega arith)
-below_expr opens (suc room) least ts h = rw sub-one refl
+pub below_expr : (lim : Limits) (least : ℕ) (ts : List Symbol) → 0 < lim.room → (rules_of lim).below least ts ≡ expr (below_limits lim) least ts
+unfolding rules_of below_by expr
+below_expr lim least ts h = at lim.room h
+  where
+    at : (room : ℕ) → 0 < room → below_by lim.commas lim.joins lim.opens room least ts ≡ expr_by lim.commas lim.joins lim.opens (room - 1) least ts
+    at zero h = absurd (omega arith)
+    at (suc room) h = rw sub-one refl
 
-pub below_high : (opens room least : ℕ) (ts : List Symbol) → room ≡ 0 → below_of opens room least ts ≡ too_high {A = Sized} least ts
-unfolding below_of
-below_high opens zero least ts h = refl
-below_high opens (suc room) least ts h = absurd (omega arith)
+pub below_high : (lim : Limits) (least : ℕ) (ts : List Symbol) → lim.room ≡ 0 → (rules_of lim).below least ts ≡ too_high {A = Sized} least ts
+unfolding rules_of below_by
+below_high lim least ts h = at lim.room h
+  where
+    at : (room : ℕ) → room ≡ 0 → below_by lim.commas lim.joins lim.opens room least ts ≡ too_high {A = Sized} least ts
+    at zero h = refl
+    at (suc room) h = absurd (omega arith)

@@ -10,3 +10,7 @@ pub mod Climb
 pub mod Levels
 pub mod Judged
 pub mod Answers
+pub mod Single
+pub mod Loops
+pub mod Greatest
+pub mod Joined

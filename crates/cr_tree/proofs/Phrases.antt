@@ -5,18 +5,20 @@ use Rattle.cr_tree.specs.declared.symbol.Mark.{Mark}
 use Rattle.cr_tree.specs.declared.symbol.Mark.TheVariants as m
 use Rattle.cr_tree.specs.declared.symbol.Symbol.{Symbol}
 use Rattle.cr_tree.specs.declared.symbol.Symbol.TheVariants as k
+use Rattle.cr_tree.specs.declared.limits.Limits.{Limits}
 use Rattle.cr_tree.specs.Marks.{is_mark}
-use Rattle.cr_tree.specs.Grammar.{Operator, Or, IsNull, NotNull, NotNullApart, Phrase, Leaf, Negative, Name, Dotted, NotOf, PlusOf, MinusOf, With, Inside, CallNone, Call, CountAll, Cast, Case, Tail, Infix, Tested, Collated, Among, Between, operator_words, spelled, spelled_tail, tree, binds, tail_binds, tightness, IsProper, height, opened, begins_with_number}
+use Rattle.cr_tree.specs.Grammar.{Operator, Or, IsNull, NotNull, NotNullApart, Phrase, Leaf, Negative, Name, Dotted, NotOf, PlusOf, MinusOf, With, Inside, CallNone, Call, CountAll, Cast, Case, Tail, Infix, Tested, Collated, Among, Between, operator_words, spelled, spelled_tail, tree, binds, tail_binds, tightness, IsProper, height, opened, most_commas, begins_with_number}
 use Rattle.cr_tree.specs.Reading.{Fails, Cause, Parser, Sized, binding, begins, begins_by, ceiling}
 use Rattle.cr_tree.proofs.Forms.{mark_is}
 use Rattle.cr_tree.proofs.Repeats.{begins_next}
 
 -- a phrase within limits, which binds at least so tightly
-pub record Written (opens room least : ℕ) (p : Phrase) : Type 0 where
+pub record Written (lim : Limits) (least : ℕ) (p : Phrase) : Type 0 where
   pub proper : IsProper p
   pub tight : least ≤ tightness p
-  pub low : height p ≤ room
-  pub few : opened p ≤ opens
+  pub low : height p ≤ lim.room
+  pub few : opened p ≤ lim.opens
+  pub short : most_commas p ≤ lim.commas
 
 abbrev pub sized : Phrase → Sized
 sized p = (tree p, height p)

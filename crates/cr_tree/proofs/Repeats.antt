@@ -4,9 +4,10 @@ use Rattle.std.proofs.lemmas.List.{append-nil}
 use Rattle.cr_tree.specs.declared.symbol.Mark.TheVariants as m
 use Rattle.cr_tree.specs.declared.symbol.Symbol.{Symbol}
 use Rattle.cr_tree.specs.declared.symbol.Symbol.TheVariants as k
+use Rattle.cr_tree.specs.declared.limits.LimitKind.{LimitKind}
 use Rattle.cr_tree.specs.Marks.{same_mark, is_mark}
 use Rattle.cr_tree.specs.Grammar.{Sizes, NoSizes, OneSize, TwoSizes, sizes_words, names_words, is_size, AreSizes}
-use Rattle.cr_tree.specs.Reading.{Outcome, Reads, Fails, Syntax, Parser, and_then, ◌>>=◌, pure, refuse, head, look, look_by, after, when, expect, name, name_by, is_name, many_from, many, listed, behind, size, second_size, sizes, type_words}
+use Rattle.cr_tree.specs.Reading.{Outcome, Reads, Fails, Syntax, Limit, Parser, and_then, ◌>>=◌, pure, refuse, head, look, look_by, after, when, expect, name, name_by, is_name, many_from, many, up_to, listed, behind, size, second_size, sizes, type_words}
 use Rattle.cr_tree.proofs.Forms.{Good, Right, by_test, by_outcome, if_true, if_false, is_same, nothing_read, as_right, stop_right, map_right, mark_right, then_right, closed_right}
 
 abbrev pub begins_next : (Symbol → Bool) → List Symbol → Bool
@@ -144,6 +145,69 @@ module _ {D A S : Type 0} {F : D → Type 0} {w : D → List Symbol} {v : D → 
   pub many_right : (a : S) → Right (all_fit F) (all_words w) (gather add v a) (λ rest. (begins_next b rest ≡ false) × s rest) (many b item add a)
   unfolding many
   many_right a = record { good = λ ts. many_good (length ts) a ts; reads = λ ds rest i st. many_reads (length (all_words w ds ++ rest)) a ds rest (omega arith) i st.0 st.1 }
+
+-- ---- at most so many
+
+module _ {A S : Type 0} (k : LimitKind) (b : Symbol → Bool) (item : Parser A) (add : S → A → S) where
+  pub up_turn : (n n' : ℕ) (a : S) (ts : List Symbol) → n ≡ suc n' → begins_next b ts ≡ true → up_to k b item add n a ts ≡ and_then (item ts) (λ y. up_to k b item add n' (add a y))
+  unfolding up_to
+  up_turn n n' a [] i h = absurd (cc)
+  up_turn n n' a (t ∷ ts) i h = ap (λ n. up_to k b item add n a (t ∷ ts)) i ∙ if_true (b t) (and_then (item (t ∷ ts)) (λ y. up_to k b item add n' (add a y))) (Reads a (t ∷ ts)) h
+
+  pub up_stop : (n : ℕ) (a : S) (ts : List Symbol) → begins_next b ts ≡ false → up_to k b item add n a ts ≡ Reads a ts
+  unfolding up_to
+  up_stop zero a [] h = refl
+  up_stop (suc n) a [] h = refl
+  up_stop zero a (t ∷ ts) h = if_false (b t) (Fails (Limit k) (t ∷ ts)) (Reads a (t ∷ ts)) h
+  up_stop (suc n) a (t ∷ ts) h = if_false (b t) (and_then (item (t ∷ ts)) (λ y. up_to k b item add n (add a y))) (Reads a (t ∷ ts)) h
+
+  pub up_out : (n : ℕ) (a : S) (ts : List Symbol) → n ≡ 0 → begins_next b ts ≡ true → up_to k b item add n a ts ≡ Fails (Limit k) ts
+  unfolding up_to
+  up_out n a [] i h = absurd (cc)
+  up_out n a (t ∷ ts) i h = ap (λ n. up_to k b item add n a (t ∷ ts)) i ∙ if_true (b t) (Fails (Limit k) (t ∷ ts)) (Reads a (t ∷ ts)) h
+
+module _ {D A S : Type 0} {F : D → Type 0} {w : D → List Symbol} {v : D → A} {s : List Symbol → Type 0} {item : Parser A} (x : LimitKind) (b : Symbol → Bool) (add : S → A → S)
+    (r : Right F w v s item) (starts : (d : D) → F d → begins_next b (w d) ≡ true) (links : (ts : List Symbol) → begins_next b ts ≡ true → s ts) where
+  abbrev UpTo : ℕ → List D → Type 0
+  UpTo n ds = all_fit F ds × (length ds ≤ n)
+
+  none_more : (n : ℕ) (a : S) (ts : List Symbol) → Good (UpTo n) (all_words w) (gather add v a) ts (Reads a ts)
+  none_more n a ts = record { what = []; fitting = (tt, omega arith); spells = refl; means = refl }
+
+  one_more : (n : ℕ) (a : S) (d : D) → F d → (ts rest : List Symbol) → w d ++ rest ≡ ts → (o : Outcome S) → Good (UpTo n) (all_words w) (gather add v (add a (v d))) rest o → Good (UpTo (suc n)) (all_words w) (gather add v a) ts o
+  one_more n a d i ts rest e (Reads y rest') g = record { what = d ∷ g.what; fitting = ((i, g.fitting.0), omega (arith, g.fitting.1)); spells = append_assoc (w d) (all_words w g.what) rest' ∙ (ap (λ z. w d ++ z) g.spells ∙ e); means = g.means }
+  one_more n a d i ts rest e (Fails c rest') g = record { what = d ∷ g.what; fitting = ((i, g.fitting.0), omega (arith, g.fitting.1)); front = w d ++ g.front; more = g.more; reads = append_assoc (w d) g.front rest' ∙ (ap (λ z. w d ++ z) g.reads ∙ e); spells = ap (λ z. w d ++ z) g.spells ∙ sym (append_assoc (w d) g.front g.more) }
+
+  up_good : (n : ℕ) (a : S) (ts : List Symbol) → Good (UpTo n) (all_words w) (gather add v a) ts (up_to x b item add n a ts)
+  unfolding up_to
+  up_good zero a [] = none_more zero a []
+  up_good zero a (t ∷ ts) = by_test (Good (UpTo zero) (all_words w) (gather add v a) (t ∷ ts)) (b t) (Fails (Limit x) (t ∷ ts)) (Reads a (t ∷ ts)) (λ e. nothing_read [] (tt, omega arith) (t ∷ ts)) (λ e. none_more zero a (t ∷ ts))
+  up_good (suc n) a [] = none_more (suc n) a []
+  up_good (suc n) a (t ∷ ts) = turn (λ a ts. up_good n a ts)
+    where
+      turn : ((a : S) (ts : List Symbol) → Good (UpTo n) (all_words w) (gather add v a) ts (up_to x b item add n a ts)) → Good (UpTo (suc n)) (all_words w) (gather add v a) (t ∷ ts) (if b t then and_then (item (t ∷ ts)) (λ y. up_to x b item add n (add a y)) else Reads a (t ∷ ts))
+      turn again = by_test (Good (UpTo (suc n)) (all_words w) (gather add v a) (t ∷ ts)) (b t) (and_then (item (t ∷ ts)) (λ y. up_to x b item add n (add a y))) (Reads a (t ∷ ts))
+          (λ e. by_outcome (Good F w v (t ∷ ts)) (Good (UpTo (suc n)) (all_words w) (gather add v a) (t ∷ ts)) (item (t ∷ ts)) (λ y. up_to x b item add n (add a y)) (r.good (t ∷ ts))
+          (λ y rest g. subst (λ z. Good (UpTo (suc n)) (all_words w) (gather add v a) (t ∷ ts) (up_to x b item add n (add a z) rest)) g.means
+          (one_more n a g.what g.fitting (t ∷ ts) rest g.spells (up_to x b item add n (add a (v g.what)) rest) (again (add a (v g.what)) rest)))
+          (λ c rest g. record { what = g.what ∷ []; fitting = ((g.fitting, tt), omega arith); front = g.front; more = g.more; reads = g.reads; spells = append-nil (w g.what) ∙ g.spells }))
+          (λ e. none_more (suc n) a (t ∷ ts))
+
+  up_followed : (ds : List D) (rest : List Symbol) → all_fit F ds → s rest → s (all_words w ds ++ rest)
+  up_followed [] rest i st = st
+  up_followed (d ∷ ds) rest i st = links ((w d ++ all_words w ds) ++ rest) (begins_front b (w d ++ all_words w ds) rest (begins_front b (w d) (all_words w ds) (starts d i.0)))
+
+  up_reads : (n : ℕ) (a : S) (ds : List D) (rest : List Symbol) → all_fit F ds → length ds ≤ n → begins_next b rest ≡ false → s rest → up_to x b item add n a (all_words w ds ++ rest) ≡ Reads (gather add v a ds) rest
+  up_reads n a [] rest i l h st = up_stop x b item add n a rest h
+  up_reads zero a (d ∷ ds) rest i l h st = absurd (omega (arith, l))
+  up_reads (suc n) a (d ∷ ds) rest i l h st =
+      ap (up_to x b item add (suc n) a) (append_assoc (w d) (all_words w ds) rest)
+      ∙ (up_turn x b item add (suc n) n a (w d ++ (all_words w ds ++ rest)) refl (begins_front b (w d) (all_words w ds ++ rest) (starts d i.0))
+      ∙ (ap (λ o. and_then o (λ y. up_to x b item add n (add a y))) (r.reads d (all_words w ds ++ rest) i.0 (up_followed ds rest i.1 st))
+      ∙ up_reads n (add a (v d)) ds rest i.1 (omega (arith, l)) h st))
+
+  pub up_right : (n : ℕ) (a : S) → Right (λ ds. all_fit F ds × (length ds ≤ n)) (all_words w) (gather add v a) (λ rest. (begins_next b rest ≡ false) × s rest) (up_to x b item add n a)
+  up_right n a = record { good = up_good n a; reads = λ ds rest i st. up_reads n a ds rest i.0 i.1 st.0 st.1 }
 
 -- ---- types
 

@@ -398,3 +398,40 @@ abbrev mutual
   pub opened_perhaps : Perhaps → ℕ
   opened_perhaps Absent = 0
   opened_perhaps (Present p) = opened p
+
+-- how many commas stand between them
+abbrev pub comma_count : Phrases → ℕ
+comma_count (One p) = 0
+comma_count (And_more p all) = suc (comma_count all)
+
+-- the most commas between the arguments of one call
+abbrev mutual
+  pub most_commas : Phrase → ℕ
+  most_commas (NotOf p) = most_commas p
+  most_commas (PlusOf p) = most_commas p
+  most_commas (MinusOf p) = most_commas p
+  most_commas (With p t) = max (most_commas p) (most_commas_tail t)
+  most_commas (Inside p) = most_commas p
+  most_commas (Call f all) = max (comma_count all) (most_commas_all all)
+  most_commas (Cast p n ns s) = most_commas p
+  most_commas (Case s arms o) = max (most_commas_perhaps s) (max (most_commas_arms arms) (most_commas_perhaps o))
+  most_commas _ = 0
+
+  pub most_commas_tail : Tail → ℕ
+  most_commas_tail (Infix op p) = most_commas p
+  most_commas_tail (Tested t) = 0
+  most_commas_tail (Collated c) = 0
+  most_commas_tail (Among n all) = most_commas_all all
+  most_commas_tail (Between n low high) = max (most_commas low) (most_commas high)
+
+  pub most_commas_all : Phrases → ℕ
+  most_commas_all (One p) = most_commas p
+  most_commas_all (And_more p all) = max (most_commas p) (most_commas_all all)
+
+  pub most_commas_arms : Arms → ℕ
+  most_commas_arms (Arm p q) = max (most_commas p) (most_commas q)
+  most_commas_arms (And_arms p q arms) = max (max (most_commas p) (most_commas q)) (most_commas_arms arms)
+
+  pub most_commas_perhaps : Perhaps → ℕ
+  most_commas_perhaps Absent = 0
+  most_commas_perhaps (Present p) = most_commas p

@@ -3,3 +3,5 @@ pub mod Grammar
 pub mod Reading
 pub mod Language
 pub mod Judging
+pub mod Laws
+pub mod Parameters

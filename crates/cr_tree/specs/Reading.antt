@@ -1,6 +1,6 @@
 -- Reading once, from left to right, with one symbol ahead. This is how the code goes about it; what is promised of it
 -- is in Grammar.
-use Rattle.std.specs.Prelude.{ℕ, zero, suc, ◌^◌, max, Bool, true, false, if◌then◌else◌, nat_lt, nat_le, List, [], ◌∷◌, ◌++◌, Option, Some, None, length, pos, neg_ℤ}
+use Rattle.std.specs.Prelude.{ℕ, zero, suc, ◌-◌, ◌^◌, max, Bool, true, false, if◌then◌else◌, nat_lt, nat_le, List, [], ◌∷◌, ◌++◌, Option, Some, None, length, pos, neg_ℤ}
 use Rattle.std.specs.Str.{bytes_eq}
 use Rattle.cr_value.specs.declared.value.Value.TheVariants as v
 use Rattle.cr_tree.specs.declared.symbol.Mark.{Mark}
@@ -14,12 +14,18 @@ use Rattle.cr_tree.specs.declared.expr.Binary.TheVariants as b
 use Rattle.cr_tree.specs.declared.expr.Expr.{Expr}
 use Rattle.cr_tree.specs.declared.expr.Expr.TheVariants as e
 use Rattle.cr_tree.specs.declared.expr.When.{When, roll-When}
+use Rattle.cr_tree.specs.declared.limits.LimitKind.{LimitKind}
+use Rattle.cr_tree.specs.declared.limits.LimitKind.TheVariants as limits
+use Rattle.cr_tree.specs.declared.limits.Limits.{Limits}
 use Rattle.cr_tree.specs.Marks.{is_mark}
 use Rattle.cr_tree.specs.Grammar.{leaf, is_size, count_name}
 
 pub data Cause : Type 0 where
   Syntax : Cause
-  Deep : Cause
+  Limit : LimitKind → Cause
+
+abbrev pub Deep : Cause
+Deep = Limit limits.Depth
 
 -- what was read and the symbols after it, or why not and the symbols from the refused one on
 pub data Outcome (A : Type 0) : Type 0 where
@@ -101,6 +107,11 @@ many_from begins item add (suc n) s = look (pure s) (λ t. when (begins t) (item
 
 unfoldable pub many : {A S : Type 0} → (Symbol → Bool) → Parser A → (S → A → S) → S → Parser S
 many begins item add s = λ ts. many_from begins item add (length ts) s ts
+
+-- at most so many items more, each added to what there is; where one more begins, the limit is met
+unfoldable pub up_to : {A S : Type 0} → LimitKind → (Symbol → Bool) → Parser A → (S → A → S) → ℕ → S → Parser S
+up_to x begins item add zero s = look (pure s) (λ t. when (begins t) (refuse (Limit x)) (pure s))
+up_to x begins item add (suc n) s = look (pure s) (λ t. when (begins t) (item >>= (λ a. up_to x begins item add n (add s a))) (pure s))
 
 abbrev pub listed : {A : Type 0} → List A → A → List A
 listed all x = all ++ x ∷ []
@@ -231,12 +242,20 @@ add_item all x = (all.0 ++ x.0 ∷ [], max all.1 x.1)
 abbrev pub add_arm : Armed → When × ℕ → Armed
 add_arm all x = (all.0 ++ x.0 ∷ [], max all.1 x.1)
 
--- `opens` parentheses may still be opened, and the tree may be `room` high. `inside` reads in parentheses, `argument`
--- in parentheses and lower, and `below` lower.
-module _ (opens : ℕ) (inside : Parser Sized) (argument : Parser Sized) (room : ℕ) (below : ℕ → Parser Sized) where
+-- The readers of parts: in parentheses; in parentheses and below a node; and below a node, where it binds at least so tightly.
+pub record Rules : Type 0 where
+  pub inside : Parser Sized
+  pub argument : Parser Sized
+  pub below : ℕ → Parser Sized
+
+module _ (lim : Limits) (rules : Rules) where
   -- one or more
+  unfoldable pub items : Parser Listed
+  items = rules.argument >>= (λ x. others rules.argument add_item (x.0 ∷ [], x.1))
+
+  -- one or more, as many as a call may have
   unfoldable pub arguments : Parser Listed
-  arguments = argument >>= (λ x. others argument add_item (x.0 ∷ [], x.1))
+  arguments = rules.argument >>= (λ x. up_to limits.Arguments (is_mark m.Comma) (behind m.Comma rules.argument) add_item lim.commas (x.0 ∷ [], x.1))
 
   unfoldable pub called : List ℕ → Parser Sized
   called f = arguments >>= (λ all. expect m.Close >>= (λ _. pure (e.Call f all.0, suc all.1)))
@@ -252,7 +271,7 @@ module _ (opens : ℕ) (inside : Parser Sized) (argument : Parser Sized) (room :
 
   abbrev pub named_by : List ℕ → Symbol → Parser Sized
   named_by f (k.Mark m.Dot) = after (name >>= (λ n. pure (e.Column (Some f) n, 0)))
-  named_by f (k.Mark m.Open) = when (nat_lt 0 opens) (after (call f)) (refuse Deep)
+  named_by f (k.Mark m.Open) = when (nat_lt 0 lim.opens) (after (call f)) (refuse Deep)
   named_by f t = pure (e.Column None f, 0)
 
   -- after a name
@@ -261,26 +280,26 @@ module _ (opens : ℕ) (inside : Parser Sized) (argument : Parser Sized) (room :
 
   abbrev pub minus_by : Symbol → Parser Sized
   minus_by (k.Number n) = when (nat_le n (2 ^ 63)) (after (pure (e.Literal (v.Int (neg_ℤ (pos n))), 0))) (refuse Syntax)
-  minus_by t = below 10 >>= (λ x. pure (above (e.Unary u.Minus) x))
+  minus_by t = rules.below 10 >>= (λ x. pure (above (e.Unary u.Minus) x))
 
   -- after a minus
   unfoldable pub minus : Parser Sized
   minus = look (refuse Syntax) minus_by
 
   unfoldable pub parenthesized : Parser Sized
-  parenthesized = inside >>= (λ x. expect m.Close >>= (λ _. pure x))
+  parenthesized = rules.inside >>= (λ x. expect m.Close >>= (λ _. pure x))
 
   unfoldable pub cast : Parser Sized
-  cast = expect m.Open >>= (λ _. argument >>= (λ x. expect m.As >>= (λ _. type_words >>= (λ ns. expect m.Close >>= (λ _. pure (e.Cast x.0 ns, suc x.1))))))
+  cast = expect m.Open >>= (λ _. rules.argument >>= (λ x. expect m.As >>= (λ _. type_words >>= (λ ns. expect m.Close >>= (λ _. pure (e.Cast x.0 ns, suc x.1))))))
 
   unfoldable pub subject : Parser Maybe
-  subject = look (refuse Syntax) (λ t. when (is_mark m.When t) (pure (None, 0)) (below 1 >>= (λ x. pure (Some x.0, x.1))))
+  subject = look (refuse Syntax) (λ t. when (is_mark m.When t) (pure (None, 0)) (rules.below 1 >>= (λ x. pure (Some x.0, x.1))))
 
   unfoldable pub otherwise : Parser Maybe
-  otherwise = look (pure (None, 0)) (λ t. when (is_mark m.Else t) (behind m.Else (below 1) >>= (λ x. pure (Some x.0, x.1))) (pure (None, 0)))
+  otherwise = look (pure (None, 0)) (λ t. when (is_mark m.Else t) (behind m.Else (rules.below 1) >>= (λ x. pure (Some x.0, x.1))) (pure (None, 0)))
 
   unfoldable pub arm : Parser (When × ℕ)
-  arm = expect m.When >>= (λ _. below 1 >>= (λ x. expect m.Then >>= (λ _. below 1 >>= (λ y. pure (roll-When (record { when = x.0; then = y.0 }), max x.1 y.1)))))
+  arm = expect m.When >>= (λ _. rules.below 1 >>= (λ x. expect m.Then >>= (λ _. rules.below 1 >>= (λ y. pure (roll-When (record { when = x.0; then = y.0 }), max x.1 y.1)))))
 
   unfoldable pub arms : Parser Armed
   arms = arm >>= (λ x. many (is_mark m.When) arm add_arm (x.0 ∷ [], x.1))
@@ -295,22 +314,22 @@ module _ (opens : ℕ) (inside : Parser Sized) (argument : Parser Sized) (room :
 
   -- what stands before an operand, and the operand
   unfoldable pub prefixed : Unary → ℕ → Parser Sized
-  prefixed op least = when (nat_lt 0 room) (after (below least >>= (λ x. pure (above (e.Unary op) x)))) (refuse Deep)
+  prefixed op least = when (nat_lt 0 lim.room) (after (rules.below least >>= (λ x. pure (above (e.Unary op) x)))) (refuse Deep)
 
   abbrev pub first_by : ℕ → Symbol → Parser Sized
   first_by least (k.Mark m.Not) = when (nat_le least 3) (prefixed u.Not 3) (refuse Syntax)
   first_by least (k.Mark m.Plus) = prefixed u.Plus 10
   first_by least (k.Mark m.Minus) = after minus
-  first_by least (k.Mark m.Open) = when (nat_lt 0 opens) (after parenthesized) (refuse Deep)
-  first_by least (k.Mark m.Case) = when (nat_lt 0 room) (after case) (refuse Deep)
-  first_by least (k.Mark m.Cast) = when (nat_lt 0 opens) (when (nat_lt 0 room) (after cast) (refuse Deep)) (refuse Deep)
+  first_by least (k.Mark m.Open) = when (nat_lt 0 lim.opens) (after parenthesized) (refuse Deep)
+  first_by least (k.Mark m.Case) = when (nat_lt 0 lim.room) (after case) (refuse Deep)
+  first_by least (k.Mark m.Cast) = when (nat_lt 0 lim.opens) (when (nat_lt 0 lim.room) (after cast) (refuse Deep)) (refuse Deep)
   first_by least (k.Name n) = after (named n)
   first_by least t = leaf_by (leaf t)
 
   -- ---- what stands behind an operand
 
   unfoldable pub operated : Sized → ℕ → Binary → Parser Sized
-  operated left least op = below least >>= (λ x. pure (joined op left x))
+  operated left least op = rules.below least >>= (λ x. pure (joined op left x))
 
   -- after IS
   unfoldable pub is : Sized → Parser Sized
@@ -318,17 +337,17 @@ module _ (opens : ℕ) (inside : Parser Sized) (argument : Parser Sized) (room :
 
   -- after BETWEEN
   unfoldable pub between : Bool → Sized → Parser Sized
-  between n left = below 5 >>= (λ low. expect m.And >>= (λ _. below 5 >>= (λ high. pure (e.Between n left.0 low.0 high.0, suc (max left.1 (max low.1 high.1))))))
+  between n left = rules.below 5 >>= (λ low. expect m.And >>= (λ _. rules.below 5 >>= (λ high. pure (e.Between n left.0 low.0 high.0, suc (max left.1 (max low.1 high.1))))))
 
   -- after IN
   unfoldable pub among : Bool → Sized → Parser Sized
-  among n left = expect m.Open >>= (λ _. arguments >>= (λ all. expect m.Close >>= (λ _. pure (e.In n left.0 all.0, suc (max left.1 all.1)))))
+  among n left = expect m.Open >>= (λ _. items >>= (λ all. expect m.Close >>= (λ _. pure (e.In n left.0 all.0, suc (max left.1 all.1)))))
 
   abbrev pub negated_by : Sized → Symbol → Parser Sized
   negated_by left (k.Mark m.Null) = after (pure (above (e.Unary u.NotNull) left))
   negated_by left (k.Mark m.Like) = after (operated left 5 b.NotLike)
   negated_by left (k.Mark m.Between) = after (between true left)
-  negated_by left (k.Mark m.In) = when (nat_lt 0 opens) (after (among true left)) (refuse Deep)
+  negated_by left (k.Mark m.In) = when (nat_lt 0 lim.opens) (after (among true left)) (refuse Deep)
   negated_by left t = refuse Syntax
 
   -- after NOT
@@ -342,7 +361,7 @@ module _ (opens : ℕ) (inside : Parser Sized) (argument : Parser Sized) (room :
   abbrev pub tail_by : Sized → Symbol → Parser Sized
   tail_by left (k.Mark m.Not) = after (negated left)
   tail_by left (k.Mark m.Is) = after (is left)
-  tail_by left (k.Mark m.In) = when (nat_lt 0 opens) (after (among false left)) (refuse Deep)
+  tail_by left (k.Mark m.In) = when (nat_lt 0 lim.opens) (after (among false left)) (refuse Deep)
   tail_by left (k.Mark m.Between) = after (between false left)
   tail_by left (k.Mark m.IsNull) = after (pure (above (e.Unary u.IsNull) left))
   tail_by left (k.Mark m.NotNull) = after (pure (above (e.Unary u.NotNull) left))
@@ -357,37 +376,60 @@ module _ (opens : ℕ) (inside : Parser Sized) (argument : Parser Sized) (room :
   climb zero least most left = look (pure left) (λ t. when (nat_le least (binding t)) (when (nat_le (binding t) most) (refuse Deep) (pure left)) (pure left))
   climb (suc n) least most left =
       look (pure left) (λ t. when (nat_le least (binding t)) (when (nat_le (binding t) most)
-      (when (nat_lt left.1 room) (tail left >>= climb n least (binding t)) (refuse Deep))
+      (when (nat_lt left.1 lim.room) (tail left >>= climb n least (binding t)) (refuse Deep))
       (pure left)) (pure left))
 
   unfoldable pub level : ℕ → Parser Sized
-  level least = look (refuse Syntax) (λ t. first_by least t >>= climb room least (ceiling t))
+  level least = look (refuse Syntax) (λ t. first_by least t >>= climb lim.room least (ceiling t))
 
 -- ---- with what may still be opened, and how high the tree may be
 
-unfoldable pub expr_at : ℕ → (ℕ → ℕ → Parser Sized) → ℕ → ℕ → Parser Sized
-expr_at opens inside zero = level opens (inside zero 1) (too_high 1) zero too_high
-expr_at opens inside (suc room) = level opens (inside (suc room) 1) (inside room 1) (suc room) (expr_at opens inside room)
+abbrev pub inside_limits : Limits → Limits
+inside_limits lim = record lim { opens = lim.opens - 1 }
 
--- `opens` parentheses may be opened, the tree may be `room` high, and it binds at least so tightly
-unfoldable pub expr : ℕ → ℕ → ℕ → Parser Sized
-expr zero = expr_at zero (λ room least. too_high least)
-expr (suc opens) = expr_at (suc opens) (expr opens)
+abbrev pub below_limits : Limits → Limits
+below_limits lim = record lim { room = lim.room - 1 }
 
--- what reads in parentheses, an argument, and an operand
-unfoldable pub inside_of : ℕ → ℕ → Parser Sized
-inside_of zero room = too_high 1
-inside_of (suc opens) room = expr opens room 1
+abbrev pub argument_limits : Limits → Limits
+argument_limits lim = record lim { opens = lim.opens - 1; room = lim.room - 1 }
 
-unfoldable pub argument_of : ℕ → ℕ → Parser Sized
-argument_of opens zero = too_high 1
-argument_of zero (suc room) = too_high 1
-argument_of (suc opens) (suc room) = expr opens room 1
+-- with these numbers of commas and joins
+module _ (commas joins : ℕ) where
+  unfoldable pub expr_at : ℕ → (ℕ → ℕ → Parser Sized) → ℕ → ℕ → Parser Sized
+  expr_at opens inside zero = level (record { opens = opens; room = zero; commas = commas; joins = joins }) (record { inside = inside zero 1; argument = too_high 1; below = too_high })
+  expr_at opens inside (suc room) =
+      level (record { opens = opens; room = suc room; commas = commas; joins = joins }) (record { inside = inside (suc room) 1; argument = inside room 1; below = expr_at opens inside room })
 
-unfoldable pub below_of : ℕ → ℕ → ℕ → Parser Sized
-below_of opens zero = too_high
-below_of opens (suc room) = expr opens room
+  -- `opens` parentheses may be opened, the tree may be `room` high, and it binds at least so tightly
+  unfoldable pub expr_by : ℕ → ℕ → ℕ → Parser Sized
+  expr_by zero = expr_at zero (λ room least. too_high least)
+  expr_by (suc opens) = expr_at (suc opens) (expr_by opens)
+
+  unfoldable pub inside_by : ℕ → ℕ → Parser Sized
+  inside_by zero room = too_high 1
+  inside_by (suc opens) room = expr_by opens room 1
+
+  unfoldable pub argument_by : ℕ → ℕ → Parser Sized
+  argument_by opens zero = too_high 1
+  argument_by zero (suc room) = too_high 1
+  argument_by (suc opens) (suc room) = expr_by opens room 1
+
+  unfoldable pub below_by : ℕ → ℕ → ℕ → Parser Sized
+  below_by opens zero = too_high
+  below_by opens (suc room) = expr_by opens room
+
+-- an expression that binds at least so tightly
+unfoldable pub expr : Limits → ℕ → Parser Sized
+expr lim = expr_by lim.commas lim.joins lim.opens lim.room
+
+-- the readers of its parts
+unfoldable pub rules_of : Limits → Rules
+rules_of lim = record {
+  inside = inside_by lim.commas lim.joins lim.opens lim.room;
+  argument = argument_by lim.commas lim.joins lim.opens lim.room;
+  below = below_by lim.commas lim.joins lim.opens lim.room;
+}
 
 -- a whole expression
-unfoldable pub whole : ℕ → ℕ → Parser Expr
-whole opens room = expr opens room 1 >>= (λ x. pure x.0)
+unfoldable pub whole : Limits → Parser Expr
+whole lim = expr lim 1 >>= (λ x. pure x.0)

@@ -2,4 +2,9 @@
 #![tactic(auto)]
 
 pub mod expr;
+pub mod laws;
+pub mod limits;
+pub mod parameters;
+pub mod statement;
 pub mod symbol;
+pub mod type_name;

@@ -8,7 +8,9 @@ use cr_value::text::{Bytes, Text};
 /// A word or a sign of the grammar. A sign is told by how it is written.
 #[derive(Clone, Copy, Debug, PartialEq, Eq)]
 pub enum Mark {
+    Add,
     All,
+    Alter,
     And,
     As,
     Asc,
@@ -18,6 +20,7 @@ pub enum Mark {
     Case,
     Cast,
     Collate,
+    Column,
     Commit,
     Create,
     Cross,

@@ -1,10 +1,11 @@
 use Rattle.std.proofs.Common.{◌≡◌, ◌≢◌, Result, Ok, Err, IfOk, sym, ◌∙◌, subst}
+use Rattle.cr_tree.specs.declared.limits.TheConstants.{LIMITS}
 use Rattle.cr_tree.specs.Judging.{IsRead}
 use Rattle.cr_parse.specs.declared.error.ParseError.{ParseError}
 use Rattle.cr_parse.specs.declared.error.ParseError.TheVariants as p
 use Rattle.cr_parse.specs.Judge.{judge}
-use Rattle.cr_parse.proofs.Judged.{judged_read, judged_only, judged_syntax, judged_depth}
-use Rattle.cr_statement.specs.declared.tree.Statement.{Statement}
+use Rattle.cr_parse.proofs.Judged.{judged_read, judged_only, judged_syntax, judged_limit}
+use Rattle.cr_tree.specs.declared.statement.Statement.{Statement}
 use Rattle.cr_statement.specs.Statements as language
 use Rattle.cr_statement.specs.Whole as reading
 use Rattle.cr_statement.proofs.Whole.{statement_of}
@@ -13,7 +14,7 @@ use Rattle.cr_statement.proofs.statement.statement.Goals as goal
 pub returns-clause-read : goal.returns-clause-read
 returns-clause-read c = at c.read.result c.read.ensures
   where
-    at : (res : Result Statement ParseError) → (res ≢ Err p.Memory → res ≡ judge c.args.symbols.now (reading.statement 200 99 c.args.symbols.now)) → IfOk res (λ x. IsRead language.statement c.args.symbols.now x)
+    at : (res : Result Statement ParseError) → (res ≢ Err p.Memory → res ≡ judge c.args.symbols.now (reading.statement LIMITS c.args.symbols.now)) → IfOk res (λ x. IsRead language.statement c.args.symbols.now x)
     at (Err e) h = tt
     at (Ok x) h = subst (λ y. IfOk y (λ x. IsRead language.statement c.args.symbols.now x)) (sym (h (λ e. cc))) (judged_read language.statement reading.statement statement_of c.args.symbols.now)
 
@@ -23,5 +24,5 @@ returns-clause-only c x r m = c.read.ensures m ∙ judged_only language.statemen
 pub returns-clause-syntax : goal.returns-clause-syntax
 returns-clause-syntax c n e = judged_syntax language.statement reading.statement statement_of c.args.symbols.now n (sym (c.read.ensures (λ m. cc)) ∙ e)
 
-pub returns-clause-depth : goal.returns-clause-depth
-returns-clause-depth c e = judged_depth language.statement reading.statement statement_of c.args.symbols.now (sym (c.read.ensures (λ m. cc)) ∙ e)
+pub returns-clause-limit : goal.returns-clause-limit
+returns-clause-limit c which e = judged_limit language.statement reading.statement statement_of c.args.symbols.now which (sym (c.read.ensures (λ m. cc)) ∙ e)

@@ -1,5 +1,4 @@
-use Rattle.cr_lex.specs.Keywords.{outside_words}
-use Rattle.cr_symbols.specs.Marks.{outside_word}
+use Rattle.cr_symbols.specs.Marks.{outside_words, outside_word}
 use Rattle.cr_symbols.proofs.marks.outside_word.Goals as goal
 
 pub returns : goal.returns

@@ -6,7 +6,7 @@ use Rattle.cr_parse.proofs.grammar.Grammar.arms.Given as goal
 
 abbrev pub invariant-loop-turn : goal.invariant-loop-turn
 invariant-loop-turn g l = record {
-  low : l.height < l.self.room;
-  same : spec.many_from (is_mark m.When) (spec.arm l.self.opens (spec.inside_of l.self.opens l.self.room) (spec.argument_of l.self.opens l.self.room) l.self.room (spec.below_of l.self.opens l.self.room)) spec.add_arm (l._turn-end - l._turn) (l.all, l.height) l.tokens
-      ≡ spec.arms l.self.opens (spec.inside_of l.self.opens l.self.room) (spec.argument_of l.self.opens l.self.room) l.self.room (spec.below_of l.self.opens l.self.room) l.fn.tokens;
+  low : l.height < l.self.limits.room;
+  same : spec.many_from (is_mark m.When) (spec.arm l.self.limits (spec.rules_of l.self.limits)) spec.add_arm (l._turn-end - l._turn) (l.all, l.height) l.tokens
+      ≡ spec.arms l.self.limits (spec.rules_of l.self.limits) l.fn.tokens;
 }

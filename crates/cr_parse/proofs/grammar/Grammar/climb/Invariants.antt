@@ -4,7 +4,7 @@ use Rattle.cr_parse.proofs.grammar.Grammar.climb.Given as goal
 
 abbrev pub invariant-loop-turn : goal.invariant-loop-turn
 invariant-loop-turn g l = record {
-  low : l.height ≤ l.self.room;
-  same : spec.climb l.self.opens (spec.inside_of l.self.opens l.self.room) (spec.argument_of l.self.opens l.self.room) l.self.room (spec.below_of l.self.opens l.self.room) (l.self.room - l._turn) l.least l.bound (l.tree, l.height) l.tokens
-      ≡ spec.climb l.self.opens (spec.inside_of l.self.opens l.self.room) (spec.argument_of l.self.opens l.self.room) l.self.room (spec.below_of l.self.opens l.self.room) l.self.room l.least l.fn.most (l.fn.left, l.fn.start) l.fn.tokens;
+  low : l.height ≤ l.self.limits.room;
+  same : spec.climb l.self.limits (spec.rules_of l.self.limits) (l.self.limits.room - l._turn) l.least l.bound (l.tree, l.height) l.tokens
+      ≡ spec.climb l.self.limits (spec.rules_of l.self.limits) l.self.limits.room l.least l.fn.most (l.fn.left, l.fn.start) l.fn.tokens;
 }
