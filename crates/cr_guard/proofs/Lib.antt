@@ -2,3 +2,4 @@ pub mod Finding
 pub mod HeardLaws
 pub mod PolicyLaws
 pub mod Rising
+pub mod Hearing

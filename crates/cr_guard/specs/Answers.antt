@@ -2,7 +2,7 @@
 -- Source: "Authorizer Action Codes" and "Authorizer Return Codes" of SQLite's C interface; the stricter one is this project's own.
 use Rattle.std.specs.Prelude.{ℕ}
 use Rattle.cr_host.specs.declared.meaning.Action.{Action}
-use Rattle.cr_host.specs.declared.meaning.Action.TheVariants.{CreateTable, Delete, Insert, Read, Select, Transaction, Update, Function}
+use Rattle.cr_host.specs.declared.meaning.Action.TheVariants.{CreateTable, Delete, Insert, Read, Select, Transaction, Update, AlterTable, Function}
 use Rattle.cr_host.specs.declared.meaning.Auth.{Auth}
 use Rattle.cr_host.specs.declared.meaning.Auth.TheVariants.{Ok, Deny, Ignore}
 
@@ -14,6 +14,7 @@ action_code Read = 20
 action_code Select = 21
 action_code Transaction = 22
 action_code Update = 23
+action_code AlterTable = 26
 action_code Function = 31
 
 abbrev pub auth_code : Auth → ℕ

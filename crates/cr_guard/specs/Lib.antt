@@ -6,3 +6,4 @@ pub mod Heard
 pub mod Laws
 pub mod Policy
 pub mod Samples
+pub mod Run

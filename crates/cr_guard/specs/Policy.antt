@@ -44,7 +44,7 @@ is_kept Ignore = true
 
 abbrev pub wants_memory : PolicyRule → Bool
 wants_memory (rules.Read rule) = is_kept rule.answer
-wants_memory (rules.MostChanges most) = false
+wants_memory (rules.MaxChanges most) = false
 
 -- the rules of other columns, and this one last
 abbrev pub with_read : ReadRule → List ReadRule → List ReadRule
@@ -52,7 +52,7 @@ with_read rule rules = without rule.table rule.column rules ++ kept_rule rule ru
 
 abbrev pub with_rule : PolicyRule → Rules → Rules
 with_rule (rules.Read rule) p = record p { reads = with_read rule p.reads }
-with_rule (rules.MostChanges most) p = record p { most_changes = most }
+with_rule (rules.MaxChanges most) p = record p { most_changes = most }
 
 -- READ of a column is answered as its rule says, and OK where there is none
 abbrev pub read_answer : List ReadRule → List ℕ → List ℕ → Auth

@@ -17,6 +17,7 @@ pub fn action_code(action: Action) -> u8
         Action::Select => 21,
         Action::Transaction => 22,
         Action::Update => 23,
+        Action::AlterTable => 26,
         Action::Function => 31,
     }
 }

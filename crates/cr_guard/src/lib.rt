@@ -11,3 +11,4 @@ pub mod laws;
 pub mod listener;
 pub mod policy;
 pub mod samples;
+pub mod telling;

@@ -29,7 +29,7 @@ pub enum PolicyRule {
     /// What READ of a column answers, in place of an earlier rule of that column.
     Read(ReadRule),
     /// How many changes a commit may have, in place of an earlier number; `None` is as many as there are.
-    MostChanges(Option<u64>),
+    MaxChanges(Option<u64>),
 }
 
 /// Plain rules, of which a later one takes the place of an earlier one of the same column.
@@ -118,7 +118,7 @@ impl Policy {
     {
         match rule {
             PolicyRule::Read(rule) => set_read(alloc, &mut self.reads, rule),
-            PolicyRule::MostChanges(most) => {
+            PolicyRule::MaxChanges(most) => {
                 self.most_changes = *most;
                 Ok(())
             }

@@ -67,7 +67,7 @@ CallsAt (Some (Aggregate n)) meaning None = Unit {0}
 CallsAt None meaning (Some r) = ⊥
 CallsAt None meaning None = Unit {0}
 
--- a fold answers just where there is an aggregate
+-- a step, an end or a fold answers just where there is an aggregate, as its definition says
 abbrev pub FoldsAt : Option Definition → (ℕ → Result Value (List ℕ)) → Option (Result Value FnFault) → Type 0
 FoldsAt (Some (Aggregate n)) meaning (Some r) = Meets (meaning n) r
 FoldsAt (Some (Aggregate n)) meaning None = ⊥

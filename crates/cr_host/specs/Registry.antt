@@ -1,15 +1,16 @@
 -- What a registry lists, and how its entries are found. Source: this project's own rules.
-use Rattle.std.specs.Prelude.{◌≡◌, ℕ, ◌&&◌, ◌==◌, not, List, [], ◌∷◌, Bool, true, false, if◌then◌else◌, Option, Some, None, Result, Ok, Err, map, filter, string_bytes}
-use Rattle.std.specs.declared.string.String.{String}
+use Rattle.std.specs.Prelude.{◌≡◌, ℕ, ◌&&◌, ◌==◌, not, List, [], ◌∷◌, Bool, true, false, if◌then◌else◌, Option, Some, None, Result, Ok, Err, map, filter, slice_get}
 use Rattle.std.specs.Option.{option_map}
 use Rattle.std.specs.Str.{bytes_eq}
 use Rattle.std.specs.declared.cmp.Ordering.{Ordering}
+use Rattle.cr_value.specs.Bytes.{bytes_cmp}
 use Rattle.cr_value.specs.Collation.{text_cmp}
 use Rattle.cr_host.specs.declared.arity.Arity.{Arity}
 use Rattle.cr_host.specs.declared.arity.Arity.TheVariants.{Any, Exactly}
 use Rattle.cr_host.specs.declared.fault.AddFault.{AddFault}
 use Rattle.cr_host.specs.declared.fault.AddFault.TheVariants.{BadName, Memory}
 use Rattle.cr_host.specs.declared.function.Definition.{Definition}
+use Rattle.cr_host.specs.declared.folded.FoldedName.{FoldedName}
 use Rattle.cr_host.specs.declared.function.FoundCollation.{FoundCollation}
 use Rattle.cr_host.specs.declared.function.FoundCollation.TheVariants.{BuiltIn, Host}
 use Rattle.cr_host.specs.declared.function.Definition.TheVariants as numbered
@@ -70,13 +71,18 @@ abbrev pub with_collation : List ℕ → ℕ → List Named → List Named
 with_collation name number [] = record { name = folded name; number = number } ∷ []
 with_collation name number (c ∷ cs) = if is_named name c then record c { number = number } ∷ cs else c ∷ with_collation name number cs
 
--- the collation under a name: a built-in one, else the host's under that name
-abbrev pub collation_for : List ℕ → List Named → Option FoundCollation
-collation_for name cs = elim (built_in_collation name) as (λ _. Option FoundCollation) [ Some c ↦ Some (BuiltIn c) | None ↦ option_map Host (number_at name cs) ]
-
 -- the order of texts under a name: a built-in collation's, else that of the host's definition under that name
 abbrev pub order_for : (ℕ → List ℕ → List ℕ → Ordering) → List ℕ → List Named → Option (List ℕ → List ℕ → Ordering)
 order_for order name cs = elim (built_in_collation name) as (λ _. Option (List ℕ → List ℕ → Ordering)) [ Some c ↦ Some (text_cmp c) | None ↦ option_map order (number_at name cs) ]
+
+-- the order of texts under the host's collation at a place: that of its definition, or BINARY's where there is none
+abbrev pub order_at : (ℕ → List ℕ → List ℕ → Ordering) → List Named → ℕ → List ℕ → List ℕ → Ordering
+order_at order cs place = elim (slice_get cs place) as (λ _. List ℕ → List ℕ → Ordering) [ Some c ↦ order c.number | None ↦ bytes_cmp ]
+
+-- the order of texts under a collation that was found, where at orders by the host's at a place
+abbrev pub found_order : (ℕ → List ℕ → List ℕ → Ordering) → FoundCollation → List ℕ → List ℕ → Ordering
+found_order at (BuiltIn c) = text_cmp c
+found_order at (Host place) = at place
 
 abbrev pub AnswersBy : {H V W X : Type 0} {F : V → Type 0} {G : W → Type 0} {E : X → Type 0} → (the_scalar.Scalar H V F → Type 0) → (the_aggregate.Aggregate H W X G E → Type 0) → Function H V W X F G E → Type 0
 AnswersBy scalar aggregate (Scalar s) = scalar s
@@ -88,7 +94,7 @@ module _ {H V W X : Type 0} {F : V → Type 0} {G : W → Type 0} {E : X → Typ
   definition (Aggregate a) = numbered.Aggregate a.number
 
   abbrev pub listing : FnKey × Function H V W X F G E → Listed
-  listing e = record { name = string_bytes e.0.name; arity = e.0.arity; definition = definition e.1 }
+  listing e = record { name = e.0.name.bytes.items; arity = e.0.arity; definition = definition e.1 }
 
 module _ {H V W X Y : Type 0} {F : V → Type 0} {G : W → Type 0} {E : X → Type 0} {C : Y → Type 0} where
   -- the functions, oldest first
@@ -101,7 +107,7 @@ module _ {H V W X Y : Type 0} {F : V → Type 0} {G : W → Type 0} {E : X → T
 
   -- the collations, oldest first
   abbrev pub collations : Registry H V W X Y F G E C → List Named
-  collations r = map (λ e. record { name = string_bytes e.0; number = e.1.number }) r.collations.entries
+  collations r = map (λ e. record { name = e.0.bytes.items; number = e.1.number }) r.collations.entries
 
   -- each collation, with its closure
   abbrev pub orders : Registry H V W X Y F G E C → List (Collating H Y C)
@@ -109,10 +115,10 @@ module _ {H V W X Y : Type 0} {F : V → Type 0} {G : W → Type 0} {E : X → T
 
 -- the key has that name and count
 abbrev pub is_key : List ℕ → Arity → FnKey → Bool
-is_key name arity key = bytes_eq (folded name) (string_bytes key.name) && same_arity arity key.arity
+is_key name arity key = bytes_eq (folded name) key.name.bytes.items && same_arity arity key.arity
 
-abbrev pub is_collation_key : {Z : Type 0} → List ℕ → String Z → Bool
-is_collation_key name key = bytes_eq (folded name) (string_bytes key)
+abbrev pub is_collation_key : List ℕ → FoldedName → Bool
+is_collation_key name key = bytes_eq (folded name) key.bytes.items
 
 -- a name is refused just where it may not be registered
 abbrev pub RefusesBadNames : {T : Type 0} → Bool → Result T AddFault → Type 0

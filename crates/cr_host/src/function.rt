@@ -1,14 +1,12 @@
 //! Closures beside the number of their definition.
 
 ghost use Rattle.std.specs.Prelude.{◌≡◌, Some, IfSome};
-ghost use Rattle.cr_value.specs.declared.value.Value.TheVariants.{Null};
-ghost use Rattle.cr_host.specs.Meets.{Meets, AnswersAs, StepsAs, FinishesAs, ComparesAs, CallsAt, FoldsAt, HasMemory, NeverLacks, NeverLacksAt, aggregated};
+ghost use Rattle.cr_host.specs.Meets.{Meets, AnswersAs, StepsAs, FinishesAs, ComparesAs, CallsAt, FoldsAt, HasMemory};
 ghost use Rattle.cr_host.specs.Registry.{definition};
 
 use crate::fault::FnFault;
 use crate::functions::Answering;
 use crate::meaning::HostMeaning;
-use cr_lattice::table::Row;
 use cr_value::collation::Collation;
 use cr_value::value::Value;
 use std::cmp::Ordering;
@@ -72,24 +70,6 @@ impl<H: HostMeaning> Aggregate<H> {
     {
         (self.finish)(held)
     }
-
-    /// The value of the aggregate over rows, in their order: it holds NULL before the first. Want of memory is answered
-    /// only where a closure answers it.
-    pub fn value_of(&self, rows: &[Row]) -> Result<Value, FnFault>
-        requires steps { StepsAs (StepFn.pre self.now.step) (StepFn.post self.now.step) (H.step self.now.number) }
-        requires finishes { FinishesAs (FinishFn.pre self.now.finish) (FinishFn.post self.now.finish) (H.finish self.now.number) }
-        ensures value { Meets (aggregated (H.step self.now.number) (H.finish self.now.number) rows.now) result }
-        ensures memory { NeverLacksAt (StepFn.post self.now.step) → NeverLacks (FinishFn.post self.now.finish) → HasMemory result }
-    {
-        let mut held = Value::Null;
-        for row in rows {
-            match self.step(&held, row.as_slice()) {
-                Ok(next) => held = next,
-                Err(fault) => return Err(fault),
-            }
-        }
-        self.finish(&held)
-    }
 }
 
 /// A collation of a host.
@@ -141,16 +121,29 @@ impl<H: HostMeaning> Function<H> {
         }
     }
 
-    /// The value of an aggregate over rows; `None` of a scalar function. Want of memory is answered only where a closure
-    /// answers it.
-    pub fn fold(&self, rows: &[Row]) -> Option<Result<Value, FnFault>>
+    /// What an aggregate holds after one more row; `None` of a scalar function. Want of memory is answered only where the
+    /// closure answers it.
+    pub fn step(&self, held: &Value, row: &[Value]) -> Option<Result<Value, FnFault>>
         requires { ⟦<Function<H> as Answering>⟧.answers self.now }
-        ensures value { FoldsAt (Some (definition self.now)) (λ n. aggregated (H.step n) (H.finish n) rows.now) result }
+        ensures value { FoldsAt (Some (definition self.now)) (λ n. H.step n held.now row.now) result }
         ensures memory { ⟦<Function<H> as Answering>⟧.never_lacks self.now → IfSome result HasMemory }
     {
         match self {
             Function::Scalar(_) => None,
-            Function::Aggregate(aggregate) => Some(aggregate.value_of(rows)),
+            Function::Aggregate(aggregate) => Some(aggregate.step(held, row)),
+        }
+    }
+
+    /// The value of an aggregate, of what it holds after the last row; `None` of a scalar function. Want of memory is
+    /// answered only where the closure answers it.
+    pub fn finish(&self, held: &Value) -> Option<Result<Value, FnFault>>
+        requires { ⟦<Function<H> as Answering>⟧.answers self.now }
+        ensures value { FoldsAt (Some (definition self.now)) (λ n. H.finish n held.now) result }
+        ensures memory { ⟦<Function<H> as Answering>⟧.never_lacks self.now → IfSome result HasMemory }
+    {
+        match self {
+            Function::Scalar(_) => None,
+            Function::Aggregate(aggregate) => Some(aggregate.finish(held)),
         }
     }
 }
@@ -162,9 +155,10 @@ pub enum Definition {
     Aggregate(u32),
 }
 
-/// Which collation a name stands for: one of the engine's own, or a host's, by the number of its definition.
+/// A collation that was found by its name, to be held and compared by: one of the engine's own, or a host's, by its place
+/// among those that it was found in, where it stays as others are added.
 #[derive(Clone, Copy, Debug, PartialEq, Eq)]
 pub enum FoundCollation {
     BuiltIn(Collation),
-    Host(u32),
+    Host(usize),
 }

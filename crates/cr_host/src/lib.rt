@@ -4,6 +4,7 @@
 pub mod arity;
 pub mod built_in;
 pub mod fault;
+mod folded;
 pub mod function;
 pub mod functions;
 pub mod meaning;

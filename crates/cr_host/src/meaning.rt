@@ -12,6 +12,7 @@ pub enum Action {
     Select,
     Transaction,
     Update,
+    AlterTable,
     Function,
 }
 

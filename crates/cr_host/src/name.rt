@@ -13,7 +13,14 @@ pub const NAME_LIMIT: usize = 255;
 pub fn folds_to(name: &str, folded: &str) -> bool
     ensures { result ≡ bytes_eq (str_to_ascii_lowercase name.now) folded.now }
 {
-    let (mut rest, mut wanted) = (name.as_bytes(), folded.as_bytes());
+    folds_to_bytes(name.as_bytes(), folded.as_bytes())
+}
+
+/// `folds_to` of the names' bytes.
+pub(crate) fn folds_to_bytes(name: &[u8], folded: &[u8]) -> bool
+    ensures { result ≡ bytes_eq (str_to_ascii_lowercase name.now) folded.now }
+{
+    let (mut rest, mut wanted) = (name, folded);
     while let ([letter, after @ ..], [first, others @ ..]) = (rest, wanted) {
         if letter.to_ascii_lowercase() != *first {
             return false;

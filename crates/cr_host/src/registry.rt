@@ -1,29 +1,35 @@
 //! A host's functions and collations, by name.
 
-ghost use Rattle.std.specs.Prelude.{◌≡◌, [], false, not, ◌&&◌, None, Some, IfOk, OnOk, OnErr, IfSome, string_bytes, position};
+ghost use Rattle.std.specs.Prelude.{◌≡◌, ◌↔◌, ℕ, [], false, not, ◌&&◌, None, Some, IsTrue, IsSome, OnOk, OnErr, IfSome, position};
+ghost use Rattle.std.specs.List.{list_any};
 ghost use Rattle.std.specs.Option.{option_map, option_map_or, is_some};
+ghost use Rattle.std.specs.Str.{bytes_eq};
 ghost use Rattle.indexmap.specs.IndexMap.{keys};
 ghost use Rattle.cr_host.specs.Names.{folded, arity_of, is_function_name, is_collation_name};
 ghost use Rattle.cr_host.specs.Meets.{AnswersAs, StepsAs, FinishesAs, ComparesAs, NeverLacks, NeverLacksAt};
-ghost use Rattle.cr_host.specs.Registry.{listed, collations, definition, is_key, is_collation_key, entry_at, number_at, with_entry, without_entry, function_for, with_collation, collation_for, RefusesBadNames};
+ghost use Rattle.cr_host.specs.Registry.{listed, collations, definition, is_key, is_collation_key, entry_at, number_at, with_entry, without_entry, function_for, with_collation, order_at, RefusesBadNames};
+ghost use Rattle.cr_host.specs.declared.function.Definition.{Definition};
 ghost use Rattle.cr_host.specs.declared.function.Definition.TheVariants.{Scalar as ScalarOf, Aggregate as AggregateOf};
 
 use crate::arity::Arity;
 use crate::fault::AddFault;
+use crate::folded::FoldedName;
 use crate::function::{
-    Aggregate, Collating, FinishFn, FoundCollation, Function, OrderFn, Scalar, ScalarFn, StepFn,
+    Aggregate, Collating, FinishFn, Function, OrderFn, Scalar, ScalarFn, StepFn,
 };
 use crate::functions::{Answering, Functions};
 use crate::meaning::HostMeaning;
-use crate::name::{built_in_collation, folds_to, is_collation_name, is_function_name};
+use crate::name::{is_collation_name, is_function_name};
+use cr_value::collation::Collation;
 use indexmap::IndexMap;
-use std::alloc::{AllocError, Global};
+use std::alloc::Global;
+use std::cmp::Ordering;
 use std::marker::PhantomData;
 
 /// A name, its ASCII letters in lower case, and a count of arguments.
 #[derive(Drop, PartialEq, Eq, Hash)]
 pub struct FnKey {
-    name: String,
+    name: FoldedName,
     arity: Arity,
 }
 
@@ -31,40 +37,44 @@ pub struct FnKey {
 #[derive(Drop)]
 pub struct Registry<H> {
     functions: IndexMap<FnKey, Function<H>>,
-    collations: IndexMap<String, Collating<H>>,
+    collations: IndexMap<FoldedName, Collating<H>>,
 }
 
-fn key_of(alloc: Global, name: &str, arity: i32) -> Result<FnKey, AddFault>
-    ensures refused { RefusesBadNames (is_function_name name.now && is_some (arity_of arity)) result }
-    ensures name { IfOk result (λ key. string_bytes key.name ≡ folded name.now) }
-    ensures arity { IfOk result (λ key. arity_of arity ≡ Some key.arity) }
+// The key under which a function is registered; `None` where the name or the count may not be.
+fn key_of(name: &str, arity: i32) -> Option<FnKey>
+    ensures accepted { is_some result ≡ (is_function_name name.now && is_some (arity_of arity)) }
+    ensures name { IfSome result (λ key. key.name.bytes.items ≡ folded name.now) }
+    ensures arity { IfSome result (λ key. arity_of arity ≡ Some key.arity) }
 {
-    let Some(arity) = Arity::of(arity) else {
-        return Err(AddFault::BadName);
-    };
+    let arity = Arity::of(arity)?;
     if !is_function_name(name) {
-        return Err(AddFault::BadName);
+        return None;
     }
-    match name.to_ascii_lowercase(alloc) {
-        Ok(name) => Ok(FnKey { name, arity }),
-        Err(AllocError) => Err(AddFault::Memory),
-    }
+    let name = FoldedName::of(name)?;
+    Some(FnKey { name, arity })
 }
 
-/// Where the function of that name and count stands.
+// Where the function of that name and count stands.
 fn place_of<V>(functions: &IndexMap<FnKey, V>, name: &str, arity: Arity) -> Option<usize>
     ensures { result ≡ position (is_key name.now arity) (keys functions.now) }
 {
-    functions.keys().position(|key| folds_to(name, key.name.as_str()) && arity == key.arity)
+    let name = FoldedName::of(name)?;
+    functions.get_index_of(&FnKey { name, arity })
 }
 
-/// Where the collation of that name stands.
-fn place_of_collation<V>(collations: &IndexMap<String, V>, name: &str) -> Option<usize>
+// Whether a function has that name.
+fn has_name<V>(functions: &IndexMap<FnKey, V>, name: &str) -> bool
+    ensures { result ≡ list_any (λ key. bytes_eq (folded name.now) key.name.bytes.items) (keys functions.now) }
+{
+    functions.keys().any(|key| key.name.is_of(name))
+}
+
+// Where the collation of that name stands.
+fn place_of_collation<V>(collations: &IndexMap<FoldedName, V>, name: &str) -> Option<usize>
     ensures { result ≡ position (is_collation_key name.now) (keys collations.now) }
 {
-    collations
-        .keys()
-        .position(|key| folds_to(name, key.as_str()))
+    let name = FoldedName::of(name)?;
+    collations.get_index_of(&name)
 }
 
 impl<H: HostMeaning> Registry<H> {
@@ -73,7 +83,7 @@ impl<H: HostMeaning> Registry<H> {
         ensures functions { listed result ≡ [] }
         ensures collations { collations result ≡ [] }
         ensures faithful { ⟦<Registry<H> as Functions>⟧.is_faithful result }
-        ensures memory { ⟦<Registry<H> as Functions>⟧.never_lacks result }
+        ensures memory { (d : Definition) → ⟦<Registry<H> as Functions>⟧.never_lacks result d }
     {
         Registry {
             functions: IndexMap::new(alloc),
@@ -86,7 +96,7 @@ impl<H: HostMeaning> Registry<H> {
     pub fn find_function(&self, name: &str, count: usize) -> Option<&Function<H>>
         ensures definition { option_map (λ f. definition f.now) result ≡ function_for name.now count (listed self.now) }
         ensures faithful { ⟦<Registry<H> as Functions>⟧.is_faithful self.now → IfSome result (λ f. ⟦<Function<H> as Answering>⟧.answers f.now) }
-        ensures memory { ⟦<Registry<H> as Functions>⟧.never_lacks self.now → IfSome result (λ f. ⟦<Function<H> as Answering>⟧.never_lacks f.now) }
+        ensures memory { IfSome result (λ f. ⟦<Registry<H> as Functions>⟧.never_lacks self.now (definition f.now) → ⟦<Function<H> as Answering>⟧.never_lacks f.now) }
     {
         if let Some(function) = self.entry(name, Arity::Exactly(count)) {
             return Some(function);
@@ -98,20 +108,14 @@ impl<H: HostMeaning> Registry<H> {
     fn entry(&self, name: &str, arity: Arity) -> Option<&Function<H>>
         ensures definition { option_map (λ f. definition f.now) result ≡ entry_at name.now arity (listed self.now) }
         ensures faithful { ⟦<Registry<H> as Functions>⟧.is_faithful self.now → IfSome result (λ f. ⟦<Function<H> as Answering>⟧.answers f.now) }
-        ensures memory { ⟦<Registry<H> as Functions>⟧.never_lacks self.now → IfSome result (λ f. ⟦<Function<H> as Answering>⟧.never_lacks f.now) }
+        ensures memory { IfSome result (λ f. ⟦<Registry<H> as Functions>⟧.never_lacks self.now (definition f.now) → ⟦<Function<H> as Answering>⟧.never_lacks f.now) }
     {
         let place = place_of(&self.functions, name, arity)?;
         let (_, function) = self.functions.get_index(place)?;
         Some(function)
     }
 
-    fn add(
-        &mut self,
-        alloc: Global,
-        name: &str,
-        arity: i32,
-        function: Function<H>,
-    ) -> Result<(), AddFault>
+    fn add(&mut self, name: &str, arity: i32, function: Function<H>) -> Result<(), AddFault>
         requires answers { ⟦<Function<H> as Answering>⟧.answers function }
         requires faithful { ⟦<Registry<H> as Functions>⟧.is_faithful self.old }
         ensures refused { RefusesBadNames (is_function_name name.now && is_some (arity_of arity)) result }
@@ -119,9 +123,11 @@ impl<H: HostMeaning> Registry<H> {
         ensures err { OnErr result (listed self.new ≡ listed self.old) }
         ensures collations { collations self.new ≡ collations self.old }
         ensures faithful { ⟦<Registry<H> as Functions>⟧.is_faithful self.new }
-        ensures memory { ⟦<Registry<H> as Functions>⟧.never_lacks self.old → ⟦<Function<H> as Answering>⟧.never_lacks function → ⟦<Registry<H> as Functions>⟧.never_lacks self.new }
+        ensures memory { (d : Definition) → ⟦<Registry<H> as Functions>⟧.never_lacks self.old d → (definition function ≡ d → ⟦<Function<H> as Answering>⟧.never_lacks function) → ⟦<Registry<H> as Functions>⟧.never_lacks self.new d }
     {
-        let key = key_of(alloc, name, arity)?;
+        let Some(key) = key_of(name, arity) else {
+            return Err(AddFault::BadName);
+        };
         match self.functions.insert(key, function) {
             Ok(_) => Ok(()),
             Err(_) => Err(AddFault::Memory),
@@ -133,7 +139,6 @@ impl<H: HostMeaning> Registry<H> {
     /// the count is not -1 to 100, and `Memory` where there was none. This project's own rule.
     pub fn add_scalar(
         &mut self,
-        alloc: Global,
         name: &str,
         arity: i32,
         number: u32,
@@ -146,20 +151,19 @@ impl<H: HostMeaning> Registry<H> {
         ensures err { OnErr result (listed self.new ≡ listed self.old) }
         ensures collations { collations self.new ≡ collations self.old }
         ensures faithful { ⟦<Registry<H> as Functions>⟧.is_faithful self.new }
-        ensures memory { ⟦<Registry<H> as Functions>⟧.never_lacks self.old → NeverLacks (ScalarFn.post call) → ⟦<Registry<H> as Functions>⟧.never_lacks self.new }
+        ensures memory { (d : Definition) → ⟦<Registry<H> as Functions>⟧.never_lacks self.old d → (ScalarOf number ≡ d → NeverLacks (ScalarFn.post call)) → ⟦<Registry<H> as Functions>⟧.never_lacks self.new d }
     {
         let scalar = Scalar {
             number,
             call,
             host: PhantomData,
         };
-        self.add(alloc, name, arity, Function::Scalar(scalar))
+        self.add(name, arity, Function::Scalar(scalar))
     }
 
     /// Adds an aggregate, as `add_scalar` adds a scalar function.
     pub fn add_aggregate(
         &mut self,
-        alloc: Global,
         name: &str,
         arity: i32,
         number: u32,
@@ -174,7 +178,7 @@ impl<H: HostMeaning> Registry<H> {
         ensures err { OnErr result (listed self.new ≡ listed self.old) }
         ensures collations { collations self.new ≡ collations self.old }
         ensures faithful { ⟦<Registry<H> as Functions>⟧.is_faithful self.new }
-        ensures memory { ⟦<Registry<H> as Functions>⟧.never_lacks self.old → NeverLacksAt (StepFn.post step) → NeverLacks (FinishFn.post finish) → ⟦<Registry<H> as Functions>⟧.never_lacks self.new }
+        ensures memory { (d : Definition) → ⟦<Registry<H> as Functions>⟧.never_lacks self.old d → (AggregateOf number ≡ d → NeverLacksAt (StepFn.post step) × NeverLacks (FinishFn.post finish)) → ⟦<Registry<H> as Functions>⟧.never_lacks self.new d }
     {
         let aggregate = Aggregate {
             number,
@@ -182,7 +186,7 @@ impl<H: HostMeaning> Registry<H> {
             finish,
             host: PhantomData,
         };
-        self.add(alloc, name, arity, Function::Aggregate(aggregate))
+        self.add(name, arity, Function::Aggregate(aggregate))
     }
 
     /// Takes out the function of that name and count, and no other; false where there is none.
@@ -192,7 +196,7 @@ impl<H: HostMeaning> Registry<H> {
         ensures functions { listed self.new ≡ option_map_or (λ a. without_entry name.now a (listed self.old)) (arity_of arity) (listed self.old) }
         ensures collations { collations self.new ≡ collations self.old }
         ensures faithful { ⟦<Registry<H> as Functions>⟧.is_faithful self.new }
-        ensures memory { ⟦<Registry<H> as Functions>⟧.never_lacks self.old → ⟦<Registry<H> as Functions>⟧.never_lacks self.new }
+        ensures memory { (d : Definition) → ⟦<Registry<H> as Functions>⟧.never_lacks self.old d → ⟦<Registry<H> as Functions>⟧.never_lacks self.new d }
     {
         let Some(arity) = Arity::of(arity) else {
             return false;
@@ -202,7 +206,7 @@ impl<H: HostMeaning> Registry<H> {
             |key: &FnKey, function: &mut Function<H>| -> bool
                 ensures kept { result ≡ not (is_key name.entry.now arity key.now) }
                 ensures same { function.new ≡ function.old }
-            { !(folds_to(name, key.name.as_str()) && arity == key.arity) },
+            { !(key.name.is_of(name) && arity == key.arity) },
         );
         found
     }
@@ -212,7 +216,6 @@ impl<H: HostMeaning> Registry<H> {
     /// none. This project's own rule.
     pub fn add_collation(
         &mut self,
-        alloc: Global,
         name: &str,
         number: u32,
         compare: OrderFn,
@@ -224,13 +227,13 @@ impl<H: HostMeaning> Registry<H> {
         ensures err { OnErr result (collations self.new ≡ collations self.old) }
         ensures functions { listed self.new ≡ listed self.old }
         ensures faithful { ⟦<Registry<H> as Functions>⟧.is_faithful self.new }
-        ensures memory { ⟦<Registry<H> as Functions>⟧.never_lacks self.old → ⟦<Registry<H> as Functions>⟧.never_lacks self.new }
+        ensures memory { (d : Definition) → ⟦<Registry<H> as Functions>⟧.never_lacks self.old d → ⟦<Registry<H> as Functions>⟧.never_lacks self.new d }
     {
         if !is_collation_name(name) {
             return Err(AddFault::BadName);
         }
-        let Ok(key) = name.to_ascii_lowercase(alloc) else {
-            return Err(AddFault::Memory);
+        let Some(key) = FoldedName::of(name) else {
+            return Err(AddFault::BadName);
         };
         let collating = Collating {
             number,
@@ -243,24 +246,30 @@ impl<H: HostMeaning> Registry<H> {
         }
     }
 
-    /// The collation under that name, its ASCII letters in either case: a built-in one, else a host's, else none.
-    pub fn find_collation(&self, name: &str) -> Option<FoundCollation>
-        ensures { result ≡ collation_for name.now (collations self.now) }
+    /// Whether there is a function under that name, its ASCII letters in either case, whatever its count.
+    pub(crate) fn names_function(&self, name: &str) -> bool
+        ensures { IsTrue result ↔ ((count : ℕ) × IsSome (function_for name.now count (listed self.now))) }
     {
-        if let Some(collation) = built_in_collation(name) {
-            return Some(FoundCollation::BuiltIn(collation));
-        }
-        let collating = self.find_host_collation(name)?;
-        Some(FoundCollation::Host(collating.number))
+        has_name(&self.functions, name)
     }
 
-    /// A host's collation under that name, its ASCII letters in either case.
-    pub fn find_host_collation(&self, name: &str) -> Option<&Collating<H>>
-        ensures number { option_map (λ c. c.now.number) result ≡ number_at name.now (collations self.now) }
-        ensures faithful { ⟦<Registry<H> as Functions>⟧.is_faithful self.now → IfSome result (λ c. ⟦<Collating<H> as Answering>⟧.answers c.now) }
+    /// The place of the host's collation under that name, its ASCII letters in either case. It stays as collations are
+    /// added.
+    pub(crate) fn find_host_collation(&self, name: &str) -> Option<usize>
+        ensures { option_map (order_at H.order (collations self.now)) result ≡ option_map H.order (number_at name.now (collations self.now)) }
     {
-        let place = place_of_collation(&self.collations, name)?;
-        let (_, collating) = self.collations.get_index(place)?;
-        Some(collating)
+        place_of_collation(&self.collations, name)
+    }
+
+    /// How the first text stands to the second under the host's collation at a place, or under BINARY where none is
+    /// there.
+    pub(crate) fn compare_at(&self, place: usize, a: &str, b: &str) -> Ordering
+        requires { ⟦<Registry<H> as Functions>⟧.is_faithful self.now }
+        ensures { result ≡ order_at H.order (collations self.now) place a.now b.now }
+    {
+        let Some((_, collating)) = self.collations.get_index(place) else {
+            return Collation::Binary.compare(a, b);
+        };
+        collating.compare(a, b)
     }
 }

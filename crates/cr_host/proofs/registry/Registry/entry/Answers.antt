@@ -16,4 +16,4 @@ pub returns-clause-faithful : goal.returns-clause-faithful
 returns-clause-faithful g c h = holds_at _ (functions c.args.self.now) c.in_ok-place.place c.in_ok-function.function.now h.0 (value_at c.args.self.now.functions.entries c.in_ok-place.place _ (sym c.in_ok-function.ensures.entry))
 
 pub returns-clause-memory : goal.returns-clause-memory
-returns-clause-memory g c h = holds_at _ (functions c.args.self.now) c.in_ok-place.place c.in_ok-function.function.now h (value_at c.args.self.now.functions.entries c.in_ok-place.place _ (sym c.in_ok-function.ensures.entry))
+returns-clause-memory g c h = holds_at _ (functions c.args.self.now) c.in_ok-place.place c.in_ok-function.function.now h (value_at c.args.self.now.functions.entries c.in_ok-place.place _ (sym c.in_ok-function.ensures.entry)) refl

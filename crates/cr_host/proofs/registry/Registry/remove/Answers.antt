@@ -24,4 +24,4 @@ pub returns-clause-faithful : goal.returns-clause-faithful
 returns-clause-faithful g c = (rw (filter-RetainsPairs _ (λ p. not (is_key c.args.name.now c.in-Some.arity p.0)) _ (λ k v b w f t. search rules) c.args.self.now.functions.entries _ c.retain.ensures.filtered) (each-filter _ _ c.args.self.now.functions.entries c.requires.faithful.0), c.requires.faithful.1)
 
 pub returns-clause-memory : goal.returns-clause-memory
-returns-clause-memory g c h = rw (filter-RetainsPairs _ (λ p. not (is_key c.args.name.now c.in-Some.arity p.0)) _ (λ k v b w f t. search rules) c.args.self.now.functions.entries _ c.retain.ensures.filtered) (each-filter _ _ c.args.self.now.functions.entries h)
+returns-clause-memory g c d h = rw (filter-RetainsPairs _ (λ p. not (is_key c.args.name.now c.in-Some.arity p.0)) _ (λ k v b w f t. search rules) c.args.self.now.functions.entries _ c.retain.ensures.filtered) (each-filter _ _ c.args.self.now.functions.entries h)
