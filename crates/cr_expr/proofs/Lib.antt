@@ -1,0 +1,5 @@
+pub mod Loops
+pub mod Nodes
+pub mod QuietLaw
+pub mod LimitLaw
+pub mod ReadsLaw

@@ -1,0 +1,3 @@
+pub mod Setting
+pub mod Eval
+pub mod Laws

@@ -1,0 +1,3 @@
+mod LikeLemmas
+mod Folds
+pub mod Checked

@@ -1,0 +1,9 @@
+pub mod Held
+pub mod Meaning
+pub mod Numbers
+pub mod Compare
+pub mod Host
+pub mod Texts
+pub mod Like
+pub mod Functions
+pub mod Aggregates
