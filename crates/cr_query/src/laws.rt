@@ -1,0 +1,27 @@
+//! Laws of answers.
+
+ghost use Rattle.std.specs.Prelude.{◌≡◌, List, Bool, Some, false};
+ghost use Rattle.cr_bags.specs.Bags.{single};
+ghost use Rattle.cr_query.specs.Query.{Meaning, Row, Lawful, SameTables, Refines, answer, holds};
+ghost use Rattle.cr_query.specs.Queries.{Query, Joining};
+ghost use Rattle.cr_query.specs.Plans.{Gives, QuietIsSafe, seen, answer_seen};
+
+/// An answer depends on which rows each table has and how often, not on their order.
+pub fn order_of_rows_changes_no_answer<E>()
+    ensures { (m : Meaning E) (q : Query E) (tables more : List (List Row)) → Lawful m → SameTables tables more → answer m q tables ≡ answer m q more }
+{}
+
+/// Hidden columns change no answer.
+pub fn hidden_columns_change_no_answer<E>()
+    ensures { (m : Meaning E) (q : Query E) (columns : List (List Bool)) (tables more : List (List Row)) → Lawful m → SameTables (seen columns tables) (seen columns more) → answer_seen m q columns tables ≡ answer_seen m q columns more }
+{}
+
+/// A lawful source in place of the one table of a query changes no answer.
+pub fn lawful_source_changes_no_answer<E>()
+    ensures { (m : Meaning E) (q : Query E) (j : Joining E) (meets : Row → Bool) (rows got : List Row) → Lawful m → QuietIsSafe m → q.sources ≡ single j → j.left ≡ false → ((r : Row) → meets r ≡ false → holds m q.terms r ≡ Some false) → Gives meets rows got → answer m q (single got) ≡ answer m q (single rows) }
+{}
+
+/// What is answered with a limit on values is answered without it.
+pub fn limits_take_answers_away_alone<E>()
+    ensures { (sized exact : Meaning E) (q : Query E) (tables : List (List Row)) (rows : List Row) → Refines sized exact → answer sized q tables ≡ Some rows → answer exact q tables ≡ Some rows }
+{}

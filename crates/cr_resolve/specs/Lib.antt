@@ -1,0 +1,11 @@
+pub mod Reading
+pub mod Known
+pub mod Scope
+pub mod Trees
+pub mod Expressions
+pub mod Queries
+pub mod Writes
+pub mod Creates
+pub mod Questions
+pub mod Resolve
+pub mod Parameters

@@ -1,0 +1,5 @@
+//! What the names of a statement stand for, what stands against it, and what the authorizer is asked about it and makes of
+//! it: definitions, and the refusals.
+#![tactic(auto)]
+
+pub mod refusal;
