@@ -1,12 +1,12 @@
 //! The calls of a store in turn, at any store, and at the plain one.
 
-use crate::told::{A, B, T, changes, definition, key};
 use cr_cells::plain::PlainCells;
 use cr_cells::store::Cells;
 use cr_cells::tables::{check_all, has_defaults, is_markable, is_new_table};
 use cr_lattice::change::{Change, Site};
 use cr_lattice::stamped::Stamped;
 use cr_lattice::table::TableDef;
+use cr_told::reading::{A, B, T, changes, definition, key};
 use std::alloc::Global;
 use std::process::Abort;
 use std::test::Fail;

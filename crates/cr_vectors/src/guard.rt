@@ -1,6 +1,5 @@
 //! The calls of a guard in turn, and what a listener hears.
 
-use crate::told::{T, changes, definition, rows_of};
 use cr_guard::action::{Action, Auth, action_code, auth_code};
 use cr_guard::closures::{AuthorizerFn, CommitHookFn};
 use cr_guard::event::Event;
@@ -13,6 +12,7 @@ use cr_guard::samples::{Notes, denies_names, refuses_over_two};
 use cr_host::meaning::HostMeaning;
 use cr_lattice::change::Change;
 use cr_lattice::table::Items;
+use cr_told::reading::{T, changes, definition, rows_of};
 use cr_value::text::Text;
 use std::alloc::{AllocError, Global};
 use std::cell::RefCell;
@@ -97,11 +97,11 @@ fn commits_of_more_changes_are_vetoed(rt: HostRuntime) -> Result<(), Fail> {
     let alloc = rt.alloc();
     let (two, four) = (changes(alloc, TWO)?, changes(alloc, FOUR)?);
     let mut guard: Guard<Host> = Guard::new(alloc);
-    guard.policy(alloc, &PolicyRule::MostChanges(Some(2)))?;
+    guard.policy(alloc, &PolicyRule::MaxChanges(Some(2)))?;
     assert!(rt; !guard.vetoes(&two) && guard.vetoes(&four));
-    guard.policy(alloc, &PolicyRule::MostChanges(None))?;
+    guard.policy(alloc, &PolicyRule::MaxChanges(None))?;
     assert!(rt; !guard.vetoes(&four));
-    guard.policy(alloc, &PolicyRule::MostChanges(Some(0)))?;
+    guard.policy(alloc, &PolicyRule::MaxChanges(Some(0)))?;
     assert!(rt; guard.vetoes(&two) && !guard.vetoes(&[]));
     Ok(())
 }
@@ -124,7 +124,7 @@ fn a_policy_guards_alone(rt: HostRuntime) -> Result<(), Fail> {
     let alloc = rt.alloc();
     let mut policy = Policy::new(alloc);
     policy.policy(alloc, &read_rule(alloc, "t", Auth::Deny)?)?;
-    policy.policy(alloc, &PolicyRule::MostChanges(Some(2)))?;
+    policy.policy(alloc, &PolicyRule::MaxChanges(Some(2)))?;
     assert_eq!(rt; policy.ask(Action::Read, "t", "name"), Auth::Deny);
     assert!(rt; policy.vetoes(&changes(alloc, FOUR)?));
     policy.tell(&[])?;
@@ -213,6 +213,7 @@ const CODES: &[(Action, u8)] = &[
     (Action::Select, 21),
     (Action::Transaction, 22),
     (Action::Update, 23),
+    (Action::AlterTable, 26),
     (Action::Function, 31),
 ];
 

@@ -59,10 +59,10 @@ fn functions_are_found_by_name_and_count(rt: HostRuntime) -> Result<(), Fail> {
     let alloc = rt.alloc();
     let mut registry: Registry<Demo> = Registry::new(alloc);
     let call: ScalarFn = Box::new(alloc, move |args: &[Value]| half(alloc, args))?;
-    let added = was_added(registry.add_scalar(alloc, "f", -1, 7, call))?;
+    let added = was_added(registry.add_scalar("f", -1, 7, call))?;
     assert!(rt; added);
     let call: ScalarFn = Box::new(alloc, move |args: &[Value]| half(alloc, args))?;
-    let added = was_added(registry.add_scalar(alloc, "f", 1, 8, call))?;
+    let added = was_added(registry.add_scalar("f", 1, 8, call))?;
     assert!(rt; added);
     assert_eq!(rt; number_of(&registry, "F", 1), Some(8));
     assert_eq!(rt; number_of(&registry, "f", 2), Some(7));
@@ -77,36 +77,28 @@ fn bad_names_of_functions_are_refused(rt: HostRuntime) -> Result<(), Fail> {
     let alloc = rt.alloc();
     let mut registry: Registry<Demo> = Registry::new(alloc);
     let call: ScalarFn = Box::new(alloc, move |args: &[Value]| half(alloc, args))?;
-    let added = was_added(registry.add_scalar(alloc, "crsql_site_id", 0, 0, call))?;
+    let added = was_added(registry.add_scalar("crsql_site_id", 0, 0, call))?;
     assert!(rt; !added);
     let step: StepFn = Box::new(
         alloc,
         move |held: &Value, row: &[Value]| xorall_step(alloc, held, row),
     )?;
     let finish: FinishFn = Box::new(alloc, move |held: &Value| xorall_finish(alloc, held))?;
-    let added = was_added(registry.add_aggregate(alloc, "", 1, 1, step, finish))?;
+    let added = was_added(registry.add_aggregate("", 1, 1, step, finish))?;
     assert!(rt; !added);
     Ok(())
-}
-
-fn letters(alloc: Global, count: usize) -> Result<String, AllocError> {
-    let mut text = String::new(alloc);
-    for _ in 0..count {
-        text.push('a')?;
-    }
-    Ok(text)
 }
 
 #[test]
 fn bad_names_of_collations_are_refused(rt: HostRuntime) -> Result<(), Fail> {
     let alloc = rt.alloc();
     let mut registry: Registry<Demo> = Registry::new(alloc);
-    let long = letters(alloc, 256)?;
+    let long = "a".repeat(alloc, 256)?;
     let order: OrderFn = Box::new(alloc, |a: &str, b: &str| bylen(a, b))?;
-    let added = was_added(registry.add_collation(alloc, "Binary", 2, order))?;
+    let added = was_added(registry.add_collation("Binary", 2, order))?;
     assert!(rt; !added);
     let order: OrderFn = Box::new(alloc, |a: &str, b: &str| bylen(a, b))?;
-    let added = was_added(registry.add_collation(alloc, long.as_str(), 2, order))?;
+    let added = was_added(registry.add_collation(long.as_str(), 2, order))?;
     assert!(rt; !added);
     Ok(())
 }
@@ -137,10 +129,11 @@ fn a_scalar_function_is_called(rt: HostRuntime) -> Result<(), Fail> {
     let alloc = rt.alloc();
     let mut registry: Registry<Demo> = Registry::new(alloc);
     let call: ScalarFn = Box::new(alloc, move |args: &[Value]| half(alloc, args))?;
-    let added = was_added(registry.add_scalar(alloc, "half", 1, 0, call))?;
+    let added = was_added(registry.add_scalar("half", 1, 0, call))?;
     assert!(rt; added);
     assert!(rt; is_int(registry.call("half", &[Value::Int(2)]), 1));
     assert!(rt; is_fault(registry.call("HALF", &[Value::Int(1)]), "odd"));
+    assert!(rt; registry.has_function("Half") && !registry.has_function("third"));
     assert!(rt; registry.call("half", &[]).is_none());
     Ok(())
 }
@@ -160,9 +153,16 @@ fn an_aggregate_is_folded(rt: HostRuntime) -> Result<(), Fail> {
         move |held: &Value, row: &[Value]| xorall_step(alloc, held, row),
     )?;
     let finish: FinishFn = Box::new(alloc, move |held: &Value| xorall_finish(alloc, held))?;
-    let added = was_added(registry.add_aggregate(alloc, "xorall", 1, 1, step, finish))?;
+    let added = was_added(registry.add_aggregate("xorall", 1, 1, step, finish))?;
     assert!(rt; added);
     assert!(rt; is_null(registry.fold("xorall", 1, &[])));
+    assert!(rt;
+        is_int(
+            registry.step("XORALL", 1, &Value::Int(5), &[Value::Int(3)]),
+            6
+        )
+    );
+    assert!(rt; is_int(registry.finish("xorall", 1, &Value::Int(5)), 5));
     let mut rows: Vec<Row> = Vec::new(alloc);
     for id in [1, 2, 4] {
         rows.push(row_of(alloc, Value::Int(id))?)?;
@@ -178,43 +178,39 @@ fn an_aggregate_is_folded(rt: HostRuntime) -> Result<(), Fail> {
     Ok(())
 }
 
-#[test]
-fn texts_are_compared_by_name(rt: HostRuntime) -> Result<(), Fail> {
-    let alloc = rt.alloc();
-    let mut registry: Registry<Demo> = Registry::new(alloc);
-    let order: OrderFn = Box::new(alloc, |a: &str, b: &str| bylen(a, b))?;
-    let added = was_added(registry.add_collation(alloc, "bylen", 2, order))?;
-    assert!(rt; added);
-    assert!(rt; registry.has_collation("BYLEN"));
-    assert_eq!(rt;
-        registry.compare("bylen", "bb", "a"),
-        Some(Ordering::Greater)
-    );
-    assert_eq!(rt;
-        registry.compare("bylen", "bb", "cc"),
-        Some(Ordering::Equal)
-    );
-    assert_eq!(rt; registry.compare("nocase", "A", "a"), Some(Ordering::Equal));
-    assert_eq!(rt; registry.compare("none", "A", "a"), None);
-    Ok(())
+// How the first text stands to the second under the collation of a name.
+fn compared<F: Functions>(functions: &F, name: &str, a: &str, b: &str) -> Option<Ordering>
+    requires { F.is_faithful functions.now }
+{
+    let found = functions.find_collation(name)?;
+    Some(functions.compare(found, a, b))
 }
 
 #[test]
-fn collations_are_found_by_name(rt: HostRuntime) -> Result<(), Fail> {
+fn texts_are_compared_under_a_collation_that_was_found(rt: HostRuntime) -> Result<(), Fail> {
     let alloc = rt.alloc();
     let mut registry: Registry<Demo> = Registry::new(alloc);
     let order: OrderFn = Box::new(alloc, |a: &str, b: &str| bylen(a, b))?;
-    let added = was_added(registry.add_collation(alloc, "bylen", 2, order))?;
+    let added = was_added(registry.add_collation("bylen", 2, order))?;
     assert!(rt; added);
+    assert!(rt; registry.has_collation("BYLEN"));
     assert_eq!(rt;
-        registry.find_collation("ByLen"),
-        Some(FoundCollation::Host(2))
+        compared(&registry, "ByLen", "bb", "a"),
+        Some(Ordering::Greater)
     );
+    assert_eq!(rt;
+        compared(&registry, "bylen", "bb", "cc"),
+        Some(Ordering::Equal)
+    );
+    assert_eq!(rt;
+        compared(&registry, "nocase", "A", "a"),
+        Some(Ordering::Equal)
+    );
+    assert_eq!(rt; compared(&registry, "none", "A", "a"), None);
     assert_eq!(rt;
         registry.find_collation("NoCase"),
         Some(FoundCollation::BuiltIn(Collation::Nocase))
     );
-    assert_eq!(rt; registry.find_collation("none"), None);
     Ok(())
 }
 
@@ -222,7 +218,7 @@ fn collations_are_found_by_name(rt: HostRuntime) -> Result<(), Fail> {
 fn the_built_in_functions_and_collations(rt: HostRuntime) {
     let built_ins = BuiltIns;
     assert_eq!(rt;
-        built_ins.compare("RTRIM", "a ", "a"),
+        compared(&built_ins, "RTRIM", "a ", "a"),
         Some(Ordering::Equal)
     );
     assert!(rt; !built_ins.has_collation("bylen"));

@@ -1,18 +1,15 @@
-//! Calls with known answers: the format's own vectors, worked examples and answers of SQLite. A crate of tests alone.
+//! What the lines of `vectors` can't show: stores, closures, files, devices that fail, and commits at random. A crate of
+//! tests alone.
 #![tactic(auto)]
 
 #[cfg(test)]
 mod cells;
-#[cfg(test)]
-mod delta;
 #[cfg(test)]
 mod disk;
 #[cfg(test)]
 mod guard;
 #[cfg(test)]
 mod host;
-#[cfg(test)]
-mod lattice;
 #[cfg(test)]
 mod replica;
 #[cfg(test)]
@@ -21,7 +18,3 @@ mod session;
 mod shell;
 #[cfg(test)]
 mod store;
-#[cfg(test)]
-mod told;
-#[cfg(test)]
-mod values;

@@ -2,6 +2,7 @@
 
 use cr_cells::plain::PlainCells;
 use cr_cells::tables::has_folded_names;
+use cr_host::functions::BuiltIns;
 use cr_lattice::change::{Change, Site};
 use cr_lattice::check::BadChange;
 use cr_lattice::table::{ColumnDef, Items, Row, TableDef};
@@ -81,7 +82,7 @@ fn replica(alloc: Global, site: Site) -> Result<Replica<PlainCells>, Fail> {
     if !has_folded_names(&def) {
         return Err(Fail::from("not folded"));
     }
-    match replica.define(alloc, &def) {
+    match replica.define(alloc, &BuiltIns, &def) {
         Ok(()) => Ok(replica),
         Err(DefineError::Memory) => Err(Fail::from(AllocError)),
         Err(_) => Err(Fail::from("not defined")),
@@ -120,13 +121,39 @@ fn taken(answer: Result<(), TakeError>) -> Result<(), Fail> {
     }
 }
 
+// Both steps of a taking.
+fn take(
+    alloc: Global,
+    replica: &mut Replica<PlainCells>,
+    changes: &[Change],
+) -> Result<(), TakeError> {
+    let taking = replica.prepare(alloc, changes)?;
+    replica.commit(alloc, &taking, None)?;
+    Ok(())
+}
+
+// Both steps of a pull.
+fn pull(
+    alloc: Global,
+    mine: &mut Replica<PlainCells>,
+    peer: &mut Replica<PlainCells>,
+) -> Result<(), TakeError> {
+    let offer = peer.offer(alloc)?;
+    let taking = match mine.prepare_offer(alloc, &offer) {
+        Ok(taking) => taking,
+        Err(error) => return Err(error),
+    };
+    mine.commit(alloc, &taking, None)?;
+    Ok(())
+}
+
 #[test]
 fn a_value_may_come_before_its_row(rt: HostRuntime) -> Result<(), Fail> {
     let alloc = rt.alloc();
     let mut replica = replica(alloc, A)?;
     for (cid, val, version) in [("name", "'x'", 1), ("-1", "NULL", 3), ("name", "'x'", 1)] {
         let said = change(alloc, &KEY, cid, val, version, 3)?;
-        taken(replica.take(alloc, &[said]))?;
+        taken(take(alloc, &mut replica, &[said]))?;
         assert_eq!(rt; shown(alloc, &mut replica)?.as_str(), "1|'x'|7|/");
     }
     assert_eq!(rt; replica.db_version(), 2);
@@ -140,8 +167,8 @@ fn a_peer_is_pulled_and_shows_the_same(rt: HostRuntime) -> Result<(), Fail> {
     let mut mine = replica(alloc, C)?;
     let mut peer = replica(alloc, A)?;
     let said = change(alloc, &KEY, "name", "'x'", 1, 3)?;
-    taken(peer.take(alloc, &[said]))?;
-    taken(mine.pull(alloc, &mut peer))?;
+    taken(take(alloc, &mut peer, &[said]))?;
+    taken(pull(alloc, &mut mine, &mut peer))?;
     assert_eq!(rt; shown(alloc, &mut mine)?.as_str(), "1|'x'|7|/");
     assert_eq!(rt;
         mine.changes_since(alloc, 0).map_err(|_| AllocError)?.len(),
@@ -155,7 +182,7 @@ fn a_peer_of_the_same_site_is_not_pulled(rt: HostRuntime) -> Result<(), Fail> {
     let alloc = rt.alloc();
     let mut mine = replica(alloc, A)?;
     let mut peer = replica(alloc, A)?;
-    let pulled = mine.pull(alloc, &mut peer);
+    let pulled = pull(alloc, &mut mine, &mut peer);
     assert_eq!(rt; pulled, Err(TakeError::SameSite));
     Ok(())
 }
@@ -172,7 +199,7 @@ fn keys_that_are_none_are_refused_beside_a_good_change(rt: HostRuntime) -> Resul
     ] {
         let good = change(alloc, &KEY, "-1", "NULL", 1, 1)?;
         let bad = change(alloc, pk, "-1", "NULL", 1, 1)?;
-        match replica.take(alloc, &[good, bad]) {
+        match take(alloc, &mut replica, &[good, bad]) {
             Err(TakeError::Memory) => return Err(Fail::from(AllocError)),
             refused => assert_eq!(rt; refused, Err(TakeError::Bad(BadChange::Key))),
         }
@@ -187,7 +214,7 @@ fn a_table_is_defined_once(rt: HostRuntime) -> Result<(), Fail> {
     let mut replica = replica(alloc, A)?;
     let def = table(alloc)?;
     if has_folded_names(&def) {
-        match replica.define(alloc, &def) {
+        match replica.define(alloc, &BuiltIns, &def) {
             Err(DefineError::Memory) => return Err(Fail::from(AllocError)),
             refused => assert_eq!(rt; refused, Err(DefineError::TableExists)),
         }

@@ -1,4 +1,4 @@
-//! Lines in, replies out: worked examples through `serve`, over a reader and a writer in memory.
+//! Readers and writers that fail while lines are served.
 
 use cr_cells::plain::PlainCells;
 use cr_session::fleet::Fleet;
@@ -22,49 +22,6 @@ const TAKEN_AND_PULLED: &str = "\
 .rows p
 ";
 
-/// Keys that are no packed key of the table's: a byte more, no integer, no value, a text.
-const BAD_KEYS: &str = "\
-.open B 0b0b0b0b0b0b0b0b0b0b0b0b0b0b0b0b
-.table t *id:INT name:TEXT='none'
-.open A 0a0a0a0a0a0a0a0a0a0a0a0a0a0a0a0a
-.table t *id:INT name:TEXT='none'
-.take 't'|X'0101000000000000000100'|'-1'|NULL|1|0|X'0B0B0B0B0B0B0B0B0B0B0B0B0B0B0B0B'|1|0
-.take 't'|X'0100'|'-1'|NULL|1|0|X'0B0B0B0B0B0B0B0B0B0B0B0B0B0B0B0B'|1|0
-.take 't'|X'00'|'-1'|NULL|1|0|X'0B0B0B0B0B0B0B0B0B0B0B0B0B0B0B0B'|1|0
-.take 't'|X'01030000000131'|'-1'|NULL|1|0|X'0B0B0B0B0B0B0B0B0B0B0B0B0B0B0B0B'|1|0
-";
-
-/// A peer that there is not, the replica itself, a line that is no command; after the end nothing is read.
-const NO_PEERS: &str = "\
-.open B 0b0b0b0b0b0b0b0b0b0b0b0b0b0b0b0b
-.table t *id:INT name:TEXT='none'
-.open A 0a0a0a0a0a0a0a0a0a0a0a0a0a0a0a0a
-.table t *id:INT name:TEXT='none'
-.pull Z
-.pull A
-.frob
-.rows q
-.quit
-.rows t
-";
-
-const RUNS: &[(&str, End, &str)] = &[
-    ("", End::Input, ""),
-    (TAKEN_AND_PULLED, End::Input, ROWS),
-    (
-        BAD_KEYS,
-        End::Input,
-        "error 20 BadChange Key\nerror 20 BadChange Key\nerror 20 BadChange Key\nerror 20 BadChange Key\n",
-    ),
-    (
-        NO_PEERS,
-        End::Quit,
-        "error 1 NoReplica\nerror 1 SameSite\nerror 1 Command\nerror 1 NoSuchTable 'q'\n",
-    ),
-    (".frob", End::Input, "error 1 Command\n"),
-    ("  \r\n.quit\r\n.frob", End::Quit, ""),
-];
-
 const ROWS: &str = "1|'x'|7\n1|'x'|7\n1|'x'|7\n";
 
 fn run<R: Read + Drop, W: Write + Drop>(
@@ -76,19 +33,6 @@ fn run<R: Read + Drop, W: Write + Drop>(
     let mut writer = Watched::new(writer);
     let mut fleet = Fleet::<PlainCells>::new(alloc);
     serve(alloc, &mut reader, &mut writer, &mut fleet)
-}
-
-fn prints(alloc: Global, input: &str, end: End, wanted: &str) -> bool {
-    let mut printed = Vec::new(alloc);
-    let ended = run(alloc, input.as_bytes(), &mut printed);
-    ended == Ok(end) && printed.as_slice() == wanted.as_bytes()
-}
-
-#[test]
-fn lines_are_answered(rt: HostRuntime) {
-    for (input, end, wanted) in RUNS {
-        assert!(rt; prints(rt.alloc(), input, *end, wanted));
-    }
 }
 
 // Whether a writer with room for so many bytes fails, and has a front of what is wanted.

@@ -1,13 +1,13 @@
 //! The store over sqlite, in memory, in a file and in a file in memory: the same calls with the same answers as at the plain one.
 
 use crate::cells::{add_replicated, commit_from, meets_the_vectors};
-use crate::told::{A, B, definition, key};
 use cr_cells::plain::PlainCells;
 use cr_cells::store::{Cells, CellsError, NewCells, StoreFault};
 use cr_lattice::change::{Change, Site};
 use cr_lattice::stamped::Stamped;
 use cr_memory::MemoryCells;
 use cr_store::store::Store;
+use cr_told::reading::{A, B, definition, key};
 use cr_value::text::Text;
 use cr_value::value::Value;
 use sqlite::{Alter, Connection, File, FileStore};

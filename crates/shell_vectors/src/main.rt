@@ -1,0 +1,58 @@
+//! Whole inputs of the shell with known output. A line `shell NAME` begins a case: the lines up to one that is `end` are
+//! served over a new fleet in memory, and what that prints is printed, and how it ended. Of a line `shell-cut NAME` the
+//! last line of the input has no line feed. Lines that begin with `#` and empty lines are printed as they are.
+#![tactic(auto)]
+
+mod serving;
+
+use cr_told::lines::next_line;
+use std::alloc::Global;
+use std::io::{self, BufReader, BufWriter, Write};
+
+// The lines up to `end`, each with its line feed but for the last; the text becomes what follows `end`.
+fn block<'a>(rest: &mut &'a str) -> &'a str {
+    let (block, after) = match rest.split_once("end\n") {
+        Some(("", after)) => ("", after),
+        _ => rest.split_once("\nend\n").unwrap_or((*rest, "")),
+    };
+    *rest = after;
+    block
+}
+
+fn print_case<W: Write>(alloc: Global, line: &str, block: &str, out: &mut W) -> io::Result<()> {
+    let mut input = String::from_str(alloc, block)?;
+    if !block.is_empty() && line.starts_with("shell ") {
+        input.push_str("\n")?;
+    }
+    writeln!(out, "{line}")?;
+    serving::print_served(alloc, input.as_bytes(), out)
+}
+
+// Prints what begins with a line: a case, or a line that is printed as it is. The text is what follows the line; it
+// becomes what follows the case.
+fn print_next<W: Write>(alloc: Global, line: &str, rest: &mut &str, out: &mut W) -> io::Result<()> {
+    if line.is_empty() || line.starts_with('#') {
+        return writeln!(out, "{line}");
+    }
+    let block = block(rest);
+    print_case(alloc, line, block, out)
+}
+
+fn run<W: Write>(alloc: Global, input: &str, out: &mut W) -> io::Result<()> {
+    let mut rest = input;
+    for _turn in 0..=input.len() {
+        let Some(line) = next_line(&mut rest) else {
+            break;
+        };
+        print_next(alloc, line, &mut rest, out)?;
+    }
+    Ok(())
+}
+
+fn main(rt: HostRuntime) -> io::Result<()> {
+    let alloc = rt.alloc();
+    let input = io::read_to_string(alloc, BufReader::new(alloc, rt.stdin())?)?;
+    let mut out = BufWriter::new(alloc, rt.stdout())?;
+    run(alloc, input.as_str(), &mut out)?;
+    out.flush()
+}
