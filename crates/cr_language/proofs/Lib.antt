@@ -1,0 +1,9 @@
+pub mod Lists
+pub mod Trees
+pub mod Sources
+pub mod Selects
+pub mod Asking
+pub mod Tables
+pub mod Masks
+pub mod Standing
+pub mod Instance

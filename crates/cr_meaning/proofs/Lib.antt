@@ -1,0 +1,4 @@
+pub mod Limits
+pub mod Ordered
+pub mod Aggregated
+pub mod BagLaw

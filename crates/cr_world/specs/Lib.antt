@@ -1,0 +1,12 @@
+pub mod Refusals
+pub mod Causes
+pub mod Resolved
+pub mod Language
+pub mod State
+pub mod Statement
+pub mod Scripts
+pub mod World
+pub mod Takings
+pub mod Answers
+pub mod Run
+pub mod Headline
