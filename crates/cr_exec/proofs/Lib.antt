@@ -1,0 +1,5 @@
+pub mod Stages
+pub mod Loops
+pub mod Evaluated
+pub mod Tested
+pub mod Tails

@@ -1,0 +1,6 @@
+pub mod Answers
+pub mod Values
+pub mod Scopes
+pub mod Tails
+pub mod Combinations
+pub mod Shows
