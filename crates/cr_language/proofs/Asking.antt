@@ -1,6 +1,7 @@
 -- What is asked about a select, and what is left of it, doesn't depend on where its relations stand.
 use Rattle.std.proofs.Common.{◌≡◌, ◌∙◌, Bool, true, false, List, [], ◌∷◌, ◌++◌, map, filter, Option, Some, None, Ok, refl, ap, sym}
 use Rattle.std.specs.Prelude.{get_or, not, ◌||◌, if◌then◌else◌, Result}
+use Rattle.std.specs.Option.{option_to_list}
 use Rattle.std.specs.List.{flat_map, list_any}
 use Rattle.std.specs.Str.{bytes_eq}
 use Rattle.cr_host.specs.declared.meaning.Action.TheVariants as action
@@ -20,13 +21,13 @@ use Rattle.cr_term.specs.declared.query.Query.{Query}
 use Rattle.cr_term.specs.declared.query.Resolved.{Resolved}
 use Rattle.cr_term.specs.declared.query.Resolved.TheVariants as r
 use Rattle.cr_resolve.specs.declared.refusal.Refusal.{Refusal}
-use Rattle.cr_resolve.specs.declared.refusal.Question.{Question}
-use Rattle.cr_resolve.specs.Known.{Name, Known}
+use Rattle.cr_questions.specs.declared.question.Question.{Question}
+use Rattle.cr_resolve.specs.Known.{Known}
 use Rattle.cr_resolve.specs.Reading.{Read, with}
 use Rattle.cr_resolve.specs.Trees.{calls}
 use Rattle.cr_value.specs.declared.value.Value.TheVariants.{Null}
-use Rattle.cr_resolve.specs.Queries.{option_list, select}
-use Rattle.cr_resolve.specs.Questions.{Answers, ask, no_table, no_column, relation_at, read_of, question_of, asked, asked_all, relations_of, exprs_of, is_read, bare_reads, select_questions, first_denied, is_gone, left_arm, left, left_joined, left_query, left_of}
+use Rattle.cr_resolve.specs.Queries.{select}
+use Rattle.cr_questions.specs.Questions.{Name, Answers, ask, no_table, no_column, relation_at, read_of, question_of, asked, asked_all, relations_of, exprs_of, is_read, bare_reads, select_questions, first_denied, is_gone, left_arm, left, left_joined, left_query, left_of}
 use Rattle.cr_resolve.specs.Resolve.{trees, cast_outside, marked, select_or_mark, or_allowed, judged, resolved}
 use Rattle.cr_language.specs.Laws.{unplaced, unplaced_joined, unplaced_query, unplaced_resolved, unplaced_outcome, asks, SelectsLookAtTheirNames}
 use Rattle.cr_language.proofs.Lists.{both, map_map, flat_map_map, get_map, none_are, all_parts}
@@ -64,7 +65,7 @@ question_same rs (SiteId b) = refl
 question_same rs (DbVersion n) = refl
 
 asked_same : (rs : List Relation) → asked (map unplaced rs) ≡ asked rs
-asked_same rs = λ i. fold-Expr (List Question) (List Question) (λ n. option_list (question_same rs n i) ++ parts n) arm
+asked_same rs = λ i. fold-Expr (List Question) (List Question) (λ n. option_to_list (question_same rs n i) ++ parts n) arm
 
 left_same : (answers : Answers) (rs : List Relation) → left answers (map unplaced rs) ≡ left answers rs
 left_same answers rs = λ i. fold-Expr Expr When (λ n. if is_gone answers (question_same rs n i) then e.Literal Null else built n) left_arm
@@ -78,7 +79,7 @@ relations_are q =
 
 exprs_are : (q : Query) → exprs_of (unplaced_query q) ≡ exprs_of q
 exprs_are q =
-    ap (λ (ons : List Expr). map (λ x. x.expr) q.results ++ ons ++ q.filter ++ map (λ g. g.expr) q.groups ++ option_list q.having ++ map (λ t. t.expr) q.order)
+    ap (λ (ons : List Expr). map (λ x. x.expr) q.results ++ ons ++ q.filter ++ map (λ g. g.expr) q.groups ++ option_to_list q.having ++ map (λ t. t.expr) q.order)
     (flat_map_map unplaced_joined (λ j. j.on) (λ j. j.on) (λ j. refl) q.joined)
 
 abbrev of_read : Relation → Question

@@ -33,8 +33,8 @@ use Rattle.cr_meaning.proofs.Limits.{refines, safe}
 use Rattle.cr_meaning.proofs.BagLaw.{lawful}
 use Rattle.cr_scalar.specs.Meaning.{byte_limit}
 use Rattle.cr_resolve.specs.declared.refusal.Refusal.{Refusal as Unresolved}
-use Rattle.cr_resolve.specs.Known.{Name, Known, table_at, module_at, relation_of}
-use Rattle.cr_resolve.specs.Questions.{Answers}
+use Rattle.cr_resolve.specs.Known.{Known, table_at, module_at, relation_of}
+use Rattle.cr_questions.specs.Questions.{Name, Answers}
 use Rattle.cr_resolve.specs.Resolve.{marked, resolved}
 use Rattle.cr_world.specs.Resolved as world
 use Rattle.cr_world.specs.Language.{IsLanguage, IsOf, IsSelect, AreWide, definition_in}

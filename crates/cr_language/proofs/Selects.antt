@@ -21,10 +21,11 @@ use Rattle.cr_term.specs.declared.query.OrderTerm.{OrderTerm}
 use Rattle.cr_term.specs.declared.query.Query.{Query}
 use Rattle.cr_term.specs.Operands.{collation_of}
 use Rattle.cr_term.specs.Terms.{terms_of}
+use Rattle.cr_questions.specs.Questions.{Name}
 use Rattle.cr_resolve.specs.declared.refusal.Refusal.{Refusal}
 use Rattle.cr_resolve.specs.declared.refusal.Refusal.TheVariants.{NoSuchTable}
 use Rattle.cr_resolve.specs.Reading.{Read, fine, refused, with, with_both, also, each, if_any}
-use Rattle.cr_resolve.specs.Known.{Name, Known, collation}
+use Rattle.cr_resolve.specs.Known.{Known, collation}
 use Rattle.cr_resolve.specs.Scope.{Source, InSight, is_of}
 use Rattle.cr_resolve.specs.Expressions.{expr}
 use Rattle.cr_resolve.specs.Trees.{calls}

@@ -6,9 +6,10 @@ use Rattle.std.specs.List.{AllByRecursion, list_any}
 use Rattle.std.specs.Str.{bytes_eq}
 use Rattle.cr_lattice.specs.declared.catalog.Catalog.{Catalog}
 use Rattle.cr_term.specs.declared.query.Relation.{Relation}
+use Rattle.cr_questions.specs.Questions.{Name}
 use Rattle.cr_resolve.specs.declared.refusal.Refusal.TheVariants.{NoSuchTable}
 use Rattle.cr_resolve.specs.Reading.{Read, fine, refused, with, with_both}
-use Rattle.cr_resolve.specs.Known.{Name, Known, relation_of, no_relation, or_no_table, table}
+use Rattle.cr_resolve.specs.Known.{Known, relation_of, no_relation, or_no_table, table}
 use Rattle.cr_resolve.specs.Scope.{Source, columns_from, sight_from, in_sight}
 use Rattle.cr_resolve.specs.Queries.{Written, sources_of}
 use Rattle.cr_language.specs.Laws.{unplaced, StandsForTheSame}

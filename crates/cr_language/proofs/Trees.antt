@@ -22,9 +22,10 @@ use Rattle.cr_term.specs.declared.operator.Aggregate.TheVariants as k
 use Rattle.cr_term.specs.Nodes as e
 use Rattle.cr_term.specs.At.{at_is}
 use Rattle.cr_term.specs.Operands.{collation_of}
+use Rattle.cr_questions.specs.Questions.{Name}
 use Rattle.cr_resolve.specs.declared.refusal.Refusal.TheVariants.{NoSuchFunction, WrongArity}
 use Rattle.cr_resolve.specs.Reading.{Read, fine, refused, with, with_both, also, also_misplaced, each, if_any}
-use Rattle.cr_resolve.specs.Known.{Name, Known, is_function, is_site_id, is_db_version, collation, collations}
+use Rattle.cr_resolve.specs.Known.{Known, is_function, is_site_id, is_db_version, collation, collations}
 use Rattle.cr_resolve.specs.Scope.{Source, in_sight, only, told_name, is_of}
 use Rattle.cr_resolve.specs.Trees.{calls, calls_node}
 use Rattle.cr_resolve.specs.Trees as parts

@@ -13,10 +13,10 @@ use Rattle.cr_term.specs.declared.query.Query.{Query}
 use Rattle.cr_term.specs.declared.query.Resolved.{Resolved}
 use Rattle.cr_term.specs.declared.query.Resolved.TheVariants as r
 use Rattle.cr_resolve.specs.declared.refusal.Refusal.{Refusal}
-use Rattle.cr_resolve.specs.Known.{Name, Known, relation_of, is_site_id, is_db_version}
+use Rattle.cr_resolve.specs.Known.{Known, relation_of, is_site_id, is_db_version}
 use Rattle.cr_resolve.specs.Trees.{calls}
 use Rattle.cr_resolve.specs.Queries.{written}
-use Rattle.cr_resolve.specs.Questions.{Answers}
+use Rattle.cr_questions.specs.Questions.{Name, Answers}
 use Rattle.cr_resolve.specs.Resolve.{trees, marked, resolved}
 
 -- ---- the place of a relation in a catalog's lists

@@ -22,13 +22,14 @@ use Rattle.cr_term.specs.declared.query.Resolved.TheVariants as r
 use Rattle.cr_scalar.specs.Host.{Host}
 use Rattle.cr_meaning.specs.View.{Ordered, query, insert, update, delete}
 use Rattle.cr_meaning.specs.Meaning.{exact, sized}
+use Rattle.cr_questions.specs.Questions.{Name}
 use Rattle.cr_resolve.specs.declared.refusal.Refusal.{Refusal as Unresolved}
 use Rattle.cr_resolve.specs.declared.refusal.Refusal.TheVariants as unresolved
 use Rattle.cr_resolve.specs.declared.refusal.Limit.{Limit as DefinitionLimit}
 use Rattle.cr_resolve.specs.declared.refusal.Limit.TheVariants as definition
 use Rattle.cr_resolve.specs.declared.refusal.Outside.{Outside}
 use Rattle.cr_resolve.specs.declared.refusal.Outside.TheVariants as outside
-use Rattle.cr_resolve.specs.Known.{Name, Known}
+use Rattle.cr_resolve.specs.Known.{Known}
 use Rattle.cr_resolve.specs.Resolve.{marked, resolved}
 use Rattle.cr_resolve.specs.Parameters.{fits}
 use Rattle.cr_sql.specs.Sql.{Refusal as Unread, is_semicolon, told, judged}

@@ -38,7 +38,7 @@ use Rattle.cr_term.specs.At.{at_is}
 use Rattle.cr_resolve.specs.declared.refusal.Refusal.TheVariants.{NoSuchTable, NoSuchColumn, AmbiguousColumn, NoSuchFunction, WrongArity, NoSuchCollation, BadName, TableExists, Misaggregate, OutOfProfile, Denied}
 use Rattle.cr_resolve.specs.declared.refusal.Outside.TheVariants as outside
 use Rattle.cr_resolve.specs.Known.{Known}
-use Rattle.cr_resolve.specs.Questions.{Answers, ask, questions, left, left_of}
+use Rattle.cr_questions.specs.Questions.{Answers, ask, questions, left, left_of}
 use Rattle.cr_resolve.specs.Parameters.{fits}
 use Rattle.cr_resolve.specs.Writes.{insert_row, targets}
 use Rattle.cr_resolve.specs.Resolve.{complaints, resolved, read}

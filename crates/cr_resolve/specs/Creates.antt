@@ -20,12 +20,13 @@ use Rattle.cr_tree.specs.declared.statement.Alter.{Alter as AlterTree}
 use Rattle.cr_term.specs.declared.query.Alter.{Alter}
 use Rattle.cr_term.specs.declared.query.Create.{Create}
 use Rattle.cr_term.specs.declared.query.Relation.{Relation}
+use Rattle.cr_questions.specs.Questions.{Name}
 use Rattle.cr_resolve.specs.declared.refusal.Refusal.{Refusal}
 use Rattle.cr_resolve.specs.declared.refusal.Refusal.TheVariants.{OutOfProfile, Limit, BadName, TableExists, NoSuchColumn, AmbiguousColumn}
 use Rattle.cr_resolve.specs.declared.refusal.Outside.TheVariants as outside
 use Rattle.cr_resolve.specs.declared.refusal.Limit.TheVariants as limit
 use Rattle.cr_resolve.specs.Reading.{Read, when}
-use Rattle.cr_resolve.specs.Known.{Name, Known, relation_of, collation, collations, table}
+use Rattle.cr_resolve.specs.Known.{Known, relation_of, collation, collations, table}
 use Rattle.cr_resolve.specs.Expressions.{spaced}
 
 -- ---- constraints: the last DEFAULT and the last COLLATE count

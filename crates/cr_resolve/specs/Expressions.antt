@@ -33,9 +33,10 @@ use Rattle.cr_term.specs.Nodes as e
 use Rattle.cr_term.specs.declared.expr.When.{When}
 use Rattle.cr_term.specs.At.{at}
 use Rattle.cr_term.specs.Operands.{meeting, meeting_item, no_meeting, comparison, collation_of, first_collation}
+use Rattle.cr_questions.specs.Questions.{Name}
 use Rattle.cr_resolve.specs.declared.refusal.Refusal.TheVariants.{NoSuchFunction, WrongArity}
 use Rattle.cr_resolve.specs.Reading.{Read, fine, refused, with, with_both, also, also_misplaced, each, if_any}
-use Rattle.cr_resolve.specs.Known.{Name, Known, is_function, is_site_id, is_db_version, collation, collations}
+use Rattle.cr_resolve.specs.Known.{Known, is_function, is_site_id, is_db_version, collation, collations}
 use Rattle.cr_resolve.specs.Scope.{Source, column}
 
 -- where an expression stands: the columns in sight, and whether an aggregate may stand there

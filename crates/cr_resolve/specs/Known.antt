@@ -10,12 +10,10 @@ use Rattle.cr_host.specs.declared.function.Definition.{Definition}
 use Rattle.cr_host.specs.BuiltIn.{is_built_in_function}
 use Rattle.cr_term.specs.declared.query.Held.TheVariants as held
 use Rattle.cr_term.specs.declared.query.Relation.{Relation}
+use Rattle.cr_questions.specs.Questions.{Name}
 use Rattle.cr_resolve.specs.declared.refusal.Refusal.{Refusal}
 use Rattle.cr_resolve.specs.declared.refusal.Refusal.TheVariants.{NoSuchTable, NoSuchCollation}
 use Rattle.cr_resolve.specs.Reading.{Read, fine, refused}
-
-abbrev pub Name : Type 0
-Name = List ℕ
 
 pub record Known : Type 0 where
   pub catalog : Catalog

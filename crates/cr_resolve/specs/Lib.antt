@@ -6,6 +6,5 @@ pub mod Expressions
 pub mod Queries
 pub mod Writes
 pub mod Creates
-pub mod Questions
 pub mod Resolve
 pub mod Parameters

@@ -1,7 +1,7 @@
 -- What a SELECT is once its names are resolved. Source: SQLite's SELECT document; that columns of groups stand in terms or
 -- aggregates alone, and what DISTINCT sorts by, is this project's own.
 use Rattle.std.specs.Prelude.{ℕ, ℤ, pos, negsuc, zero, suc, nat_le, ◌&&◌, ◌||◌, Bool, true, false, not, List, [], ◌∷◌, ◌++◌, length, take, map, filter, get_or, position, codes, Option, Some, None, if◌then◌else◌}
-use Rattle.std.specs.Option.{option_map, option_map_or, option_and_then, unwrap_or, is_some, option_or}
+use Rattle.std.specs.Option.{option_map, option_map_or, option_and_then, unwrap_or, is_some, option_or, option_to_list}
 use Rattle.std.specs.List.{flat_map, list_any, list_all}
 use Rattle.std.specs.Str.{bytes_eq}
 use Rattle.std.specs.Fmt.{signed_decimal}
@@ -34,11 +34,12 @@ use Rattle.cr_term.specs.Parts.{parts, aggregates}
 use Rattle.cr_term.specs.Build.{mapped, built}
 use Rattle.cr_term.specs.Same.{same}
 use Rattle.cr_term.specs.Terms.{terms_of, without_collate}
+use Rattle.cr_questions.specs.Questions.{Name, result_column}
 use Rattle.cr_resolve.specs.declared.refusal.Refusal.{Refusal}
 use Rattle.cr_resolve.specs.declared.refusal.Refusal.TheVariants.{NoSuchTable, NoSuchColumn, Misaggregate, OutOfProfile}
 use Rattle.cr_resolve.specs.declared.refusal.Outside.TheVariants.{Distinct}
 use Rattle.cr_resolve.specs.Reading.{Read, fine, refused, with, with_both, also, also_misplaced, each, if_any, when}
-use Rattle.cr_resolve.specs.Known.{Name, Known, table, collation, collations}
+use Rattle.cr_resolve.specs.Known.{Known, table, collation, collations}
 use Rattle.cr_resolve.specs.Scope.{Source, in_sight, is_of}
 use Rattle.cr_resolve.specs.Expressions.{expr}
 
@@ -276,13 +277,9 @@ abbrev pub bare_in : Bool → List Expr → List Expr → Bool
 bare_in false terms es = false
 bare_in true terms es = list_any (λ x. (placed terms x).is_bare) es
 
-abbrev pub option_list : {A : Type 0} → Option A → List A
-option_list None = []
-option_list (Some x) = x ∷ []
-
 -- results, HAVING and ORDER BY stand over groups
 abbrev pub over_groups : Named → List Expr
-over_groups n = map (λ r. r.expr) n.results ++ option_list n.having ++ map (λ t. t.expr) n.order
+over_groups n = map (λ r. r.expr) n.results ++ option_to_list n.having ++ map (λ t. t.expr) n.order
 
 abbrev pub count_limit : ℤ → Option ℕ
 count_limit (pos n) = Some n
@@ -292,9 +289,6 @@ abbrev pub offset_of : Option ℤ → ℕ
 offset_of (Some (pos n)) = n
 offset_of (Some (negsuc n)) = 0
 offset_of None = 0
-
-abbrev pub result_column : Expr → ResultColumn
-result_column x = record { expr = x; collation = collation_of (x ∷ []) }
 
 -- beside DISTINCT a term that is the same as a result column is that column
 abbrev pub found_result : Bool → List Expr → Expr → Option ℕ

@@ -18,15 +18,15 @@ use Rattle.cr_term.specs.declared.query.Resolved.TheVariants as r
 use Rattle.cr_resolve.specs.declared.refusal.Refusal.{Refusal}
 use Rattle.cr_resolve.specs.declared.refusal.Refusal.TheVariants.{OutOfProfile, Denied, Memory}
 use Rattle.cr_resolve.specs.declared.refusal.Outside.TheVariants.{Real}
-use Rattle.cr_resolve.specs.declared.refusal.Question.{Question}
+use Rattle.cr_questions.specs.declared.question.Question.{Question}
 use Rattle.cr_resolve.specs.Reading.{Read, fine, with, when}
-use Rattle.cr_resolve.specs.Known.{Name, Known, table}
+use Rattle.cr_resolve.specs.Known.{Known, table}
 use Rattle.cr_resolve.specs.Trees.{casts}
 use Rattle.cr_resolve.specs.Expressions.{cast_target}
 use Rattle.cr_resolve.specs.Queries.{select, or_none}
 use Rattle.cr_resolve.specs.Writes.{insert, update, delete}
 use Rattle.cr_resolve.specs.Creates.{create, alter}
-use Rattle.cr_resolve.specs.Questions.{Answers, questions, first_denied, left_of}
+use Rattle.cr_questions.specs.Questions.{Name, Answers, questions, first_denied, left_of}
 
 -- ---- the expressions of a statement as they are written, in source order
 

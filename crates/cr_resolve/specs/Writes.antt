@@ -16,10 +16,11 @@ use Rattle.cr_term.specs.declared.query.Assignment.{Assignment}
 use Rattle.cr_term.specs.declared.query.Update.{Update}
 use Rattle.cr_term.specs.declared.query.Delete.{Delete}
 use Rattle.cr_term.specs.Terms.{terms_of}
+use Rattle.cr_questions.specs.Questions.{Name}
 use Rattle.cr_resolve.specs.declared.refusal.Refusal.{Refusal}
 use Rattle.cr_resolve.specs.declared.refusal.Refusal.TheVariants.{NoSuchColumn, AmbiguousColumn, WrongArity, Misaggregate}
 use Rattle.cr_resolve.specs.Reading.{Read, fine, refused, with_both, also, each, if_any, when}
-use Rattle.cr_resolve.specs.Known.{Name, Known, table}
+use Rattle.cr_resolve.specs.Known.{Known, table}
 use Rattle.cr_resolve.specs.Scope.{Source}
 use Rattle.cr_resolve.specs.Expressions.{expr}
 

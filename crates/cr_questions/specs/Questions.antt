@@ -1,7 +1,7 @@
 -- What the authorizer is asked about a statement, in order, and what its answers make of the statement.
 -- Source: "Compile-Time Authorization Callbacks" of SQLite's C interface; the order of the questions is this project's own.
 use Rattle.std.specs.Prelude.{ℕ, Bool, true, false, not, List, [], ◌∷◌, ◌++◌, map, filter, find, get_or, codes, Option, Some, None, if◌then◌else◌}
-use Rattle.std.specs.Option.{option_map}
+use Rattle.std.specs.Option.{option_map, option_to_list}
 use Rattle.std.specs.List.{flat_map, list_any}
 use Rattle.std.specs.Str.{bytes_eq}
 use Rattle.cr_value.specs.declared.value.Value.TheVariants.{Null}
@@ -33,13 +33,18 @@ use Rattle.cr_term.specs.declared.query.Resolved.TheVariants as s
 use Rattle.cr_term.specs.Operands.{collation_of}
 use Rattle.cr_term.specs.Parts.{parts, arm, columns}
 use Rattle.cr_term.specs.Build.{built}
-use Rattle.cr_resolve.specs.declared.refusal.Question.{Question}
-use Rattle.cr_resolve.specs.Known.{Name}
-use Rattle.cr_resolve.specs.Queries.{result_column, option_list}
+use Rattle.cr_term.specs.declared.query.ResultColumn.{ResultColumn}
+use Rattle.cr_questions.specs.declared.question.Question.{Question}
+
+abbrev pub Name : Type 0
+Name = List ℕ
 
 -- what an authorizer answers
 abbrev pub Answers : Type 0
 Answers = Action → Name → Name → Auth
+
+abbrev pub result_column : Expr → ResultColumn
+result_column x = record { expr = x; collation = collation_of (x ∷ []) }
 
 abbrev pub ask : Action → Name → Name → Question
 ask a x y = record { action = a; a = x; b = y }
@@ -111,7 +116,7 @@ question_of relations _ = None
 -- ---- questions of an expression, from left to right, a call's before those of its arguments
 
 abbrev pub questions_node : List Relation → Expr-F (List Question) (List Question) → List Question
-questions_node relations n = option_list (question_of relations n) ++ parts n
+questions_node relations n = option_to_list (question_of relations n) ++ parts n
 
 abbrev pub asked : List Relation → Expr → List Question
 asked relations = fold-Expr (List Question) (List Question) (questions_node relations) arm
@@ -126,7 +131,7 @@ relations_of q = map (λ j. j.relation) q.joined
 
 -- the expressions of a query, in source order
 abbrev pub exprs_of : Query → List Expr
-exprs_of q = map (λ r. r.expr) q.results ++ flat_map (λ j. j.on) q.joined ++ q.filter ++ map (λ g. g.expr) q.groups ++ option_list q.having ++ map (λ t. t.expr) q.order
+exprs_of q = map (λ r. r.expr) q.results ++ flat_map (λ j. j.on) q.joined ++ q.filter ++ map (λ g. g.expr) q.groups ++ option_to_list q.having ++ map (λ t. t.expr) q.order
 
 -- a column of that table is referred to, in whichever source
 abbrev pub is_read : List Relation → List Field → Name → Bool

@@ -1,0 +1,4 @@
+//! What the authorizer is asked about a resolved statement, and what its answers make of the statement.
+#![tactic(auto)]
+
+pub mod question;
