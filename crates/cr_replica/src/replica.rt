@@ -130,7 +130,8 @@ impl<C: Cells> Replica<C> {
     ghost use Rattle.std.specs.Option.{ForSome, is_some};
     ghost use Rattle.cr_lattice.specs.declared.change.Change.{Change};
     ghost use Rattle.cr_cells.specs.Tables.{is_named, has_folded_names};
-    ghost use Rattle.cr_cells.specs.Holding.{Holding, IsSound, since};
+    ghost use Rattle.cr_cells.specs.Holding.{Holding, IsSound, since, changes_of};
+    ghost use Rattle.cr_cells.specs.Marks.{seen_of};
     ghost use Rattle.cr_cells.specs.Calls.{Reads, is_want, UnlessWant};
     ghost use Rattle.cr_replica.specs.Definition.{DefinesTable};
     ghost use Rattle.cr_replica.specs.Definition as definitions;
@@ -281,13 +282,13 @@ impl<C: Cells> Replica<C> {
         ensures sound { C.is_clean self.new → IsSound (C.holding self.new) }
         ensures reads { C.is_clean self.new → Reads (C.holding self.old) (C.holding self.new) result (IsOffer (C.holding self.old)) }
     {
-        let cells = match self.changes_since(alloc, 0) {
-            Ok(cells) => cells,
+        let changes = match self.changes_above(alloc, 0) {
+            Ok(changes) => changes,
             Err(error) => return Err(error),
         };
         Ok(Offer {
             site: self.site_id(),
-            changes: Items::new(changes_of(alloc, cells)?),
+            changes: Items::new(changes),
         })
     }
 
@@ -335,6 +336,39 @@ impl<C: Cells> Replica<C> {
             (λ cells. cells.items ≡ since (C.holding self.old).cells version) }
     {
         self.cells.since(alloc, version)
+    }
+
+    /// The same changes without their stamps.
+    ///
+    /// # Errors
+    /// `Memory`, or `Store(Refused)`.
+    pub fn changes_above(&mut self, alloc: Global, version: i64) -> Result<Vec<Change>, CellsError>
+        ensures was_honest { C.is_honest self.new → C.is_honest self.old }
+        ensures was_clean { C.is_clean self.new → C.is_clean self.old }
+        ensures stays_clean { C.is_honest self.new → C.is_clean self.old → UnlessWant is_want result (C.is_clean self.new) }
+        ensures sound { C.is_clean self.new → IsSound (C.holding self.new) }
+        ensures reads { C.is_clean self.new → Reads (C.holding self.old) (C.holding self.new) result
+            (λ changes. changes.items ≡ changes_of (since (C.holding self.old).cells version)) }
+    {
+        let cells = match self.changes_since(alloc, version) {
+            Ok(cells) => cells,
+            Err(error) => return Err(error),
+        };
+        Ok(changes_of(alloc, cells)?)
+    }
+
+    /// The version up to which the changes of a peer were taken, by the peer's site: 0 where it has no mark.
+    ///
+    /// # Errors
+    /// `Memory`, or `Store(Refused)`.
+    pub fn seen(&mut self, alloc: Global, site: Site) -> Result<i64, CellsError>
+        ensures was_honest { C.is_honest self.new → C.is_honest self.old }
+        ensures was_clean { C.is_clean self.new → C.is_clean self.old }
+        ensures stays_clean { C.is_honest self.new → C.is_clean self.old → UnlessWant is_want result (C.is_clean self.new) }
+        ensures reads { C.is_clean self.new → Reads (C.holding self.old) (C.holding self.new) result
+            (λ version. version ≡ seen_of (C.holding self.old).marks site) }
+    {
+        self.cells.seen(alloc, site)
     }
 
     /// How many commits changed a kept change.
