@@ -109,7 +109,7 @@ module _ {S E : Type 0} (l : Language S E) (host : Host) where
   accepted_stays st None held s = record { keeps = same_kept (kept_of st.holding) held s.keeps; none = s.none }
   accepted_stays st (Some r) held s = record { keeps = left_keeps st r (rows_of l host st [] r) st.modules held s.keeps; none = left_modules st r (rows_of l host st [] r) ∙ s.none }
 
-  script_stays : (st : State) (ps : List (Piece S)) (xs : List Reply) (f : Option Refusal) (held : List Change) → Stays st held → Stays (after_script l host st ps xs f) (held ++ added_by_script l host st ps xs)
+  pub script_stays : (st : State) (ps : List (Piece S)) (xs : List Reply) (f : Option Refusal) (held : List Change) → Stays st held → Stays (after_script l host st ps xs f) (held ++ added_by_script l host st ps xs)
   script_stays st [] xs f held s = subst (Stays st) (sym (append_nil held)) s
   script_stays st (Unread why ∷ ps) xs f held s = subst (Stays st) (sym (append_nil held)) s
   script_stays st (Statement x ∷ ps) [] None held s = subst (Stays st) (sym (append_nil held)) s

@@ -1,0 +1,6 @@
+pub mod Places
+pub mod Takings
+pub mod Defining
+pub mod Stepping
+pub mod Opening
+pub mod Pulling

@@ -1,0 +1,10 @@
+use Rattle.cr_fleet.proofs.session.Session.step.Goals as goal
+
+pub returns-in-Define : goal.returns-in-Define
+returns-in-Define g c = rw c.in-Define.is (c.define.ensures _)
+
+pub returns-in-Take : goal.returns-in-Take
+returns-in-Take g c = rw c.in-Take.is (c.take.ensures _)
+
+pub returns-in-Changes : goal.returns-in-Changes
+returns-in-Changes g c = rw c.in-Changes.is (c.changes.ensures _ _)

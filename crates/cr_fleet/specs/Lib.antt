@@ -1,0 +1,3 @@
+pub mod Sessions
+pub mod Fleets
+pub mod Speaking

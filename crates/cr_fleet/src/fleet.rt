@@ -1,0 +1,221 @@
+//! A fleet of replicas that take and pull changes.
+
+ghost use Rattle.std.specs.Prelude.{◌≡◌, ◌⊎◌, IfOk, OnErr, position};
+ghost use Rattle.std.specs.List.{list_any, list_all, AllByRecursion};
+ghost use Rattle.std.specs.Char.{is_ascii_alphanumeric};
+ghost use Rattle.cr_lattice.specs.Check.{same_bytes};
+ghost use Rattle.cr_world.specs.Answers.{is_replica_name};
+
+use crate::session::{Session, reply_of};
+use crate::speaking::{Speaking, Watching};
+use cr_cells::store::NewCells;
+use cr_guard::guarding::Guarding;
+use cr_guard::policy::PolicyRule;
+use cr_host::functions::Functions;
+use cr_lattice::change::Site;
+use cr_value::order::same_bytes;
+use cr_value::text::Text;
+use cr_world::command::{Command, FleetReply};
+use cr_world::refusal::{Limit, Refusal};
+use std::alloc::{AllocError, Global};
+use std::marker::Model;
+
+/// The greatest number of replicas of a fleet.
+pub const REPLICA_LIMIT: usize = 64;
+
+/// The greatest length of a replica's name, in bytes.
+pub const NAME_LIMIT: usize = 64;
+
+fn is_alphanumeric(name: &[u8]) -> bool
+    ensures { result ≡ list_all is_ascii_alphanumeric name.now }
+{
+    name.iter().all(|c| c.is_ascii_alphanumeric())
+}
+
+fn is_replica_name(name: &str) -> bool
+    ensures { result ≡ is_replica_name name.now }
+{
+    let len = name.len();
+    0 < len && len <= NAME_LIMIT && is_alphanumeric(name.as_bytes())
+}
+
+// A replica of a fleet, by its name.
+#[derive(Drop)]
+struct Named<C: Drop> {
+    name: Text,
+    session: Session<C>,
+}
+
+/// Replicas by their names, of which one may be in use.
+#[derive(Drop)]
+pub struct Fleet<C: Drop> {
+    replicas: Vec<Named<C>>,
+    in_use: Option<usize>,
+}
+
+impl<C: Drop> Model for Fleet<C> {
+    ghost use Rattle.std.specs.Prelude.{map};
+    ghost use Rattle.cr_fleet.specs.Fleets.{FleetOf};
+
+    ghost Value = { FleetOf C };
+
+    ghost view = { λ f. (map (λ r. (r.name, r.session)) f.replicas.items, f.in_use) };
+}
+
+// The place of the replica of that name.
+fn place_of<C: Drop>(replicas: &[Named<C>], name: &str) -> Option<usize>
+    ensures { result ≡ position (λ r. same_bytes r.name name.now) replicas.now }
+{
+    replicas.iter().position(|named| same_bytes(named.name.as_str().as_bytes(), name.as_bytes()))
+}
+
+// Whether a replica has the site.
+fn has_site<C: NewCells>(replicas: &[Named<C>], site: &Site) -> bool
+    ensures { AllByRecursion (λ r. C.is_clean r.session) replicas.now
+        → result ≡ list_any (λ r. same_bytes (C.holding r.session).site site.now) replicas.now }
+{
+    for named in replicas {
+        if same_bytes(&named.session.site(), site) {
+            return true;
+        }
+    }
+    false
+}
+
+impl<C: NewCells> Fleet<C> {
+    ghost use Rattle.std.specs.Prelude.{[], None, map, true};
+    ghost use Rattle.cr_guard.specs.Policy.{Rules};
+    ghost use Rattle.cr_world.specs.declared.command.Command.TheVariants.{Open, Use, Define, Take, Rows, Pull, Policy};
+    ghost use Rattle.cr_world.specs.Answers.{IsReady, AreAnswered};
+    ghost use Rattle.cr_world.specs.Language.{Language};
+    ghost use Rattle.cr_world.specs.World.{World, Closures};
+    ghost use Rattle.cr_fleet.specs.Sessions.{is_own};
+    ghost use Rattle.cr_fleet.specs.Fleets.{Steps, AreClean, Shows, reply_of, is_free_name, is_carried_out};
+
+    /// A fleet without replicas.
+    pub fn new(alloc: Global) -> Fleet<C>
+        ensures { result ≡ ([], None) }
+    {
+        Fleet {
+            replicas: Vec::new(alloc),
+            in_use: None,
+        }
+    }
+
+    fn use_replica(&mut self, name: &Text) -> FleetReply
+        ensures { (l : Language (Unit {0}) (Unit {0})) (k : Closures) (rules : Rules) → Steps l k C.is_clean C.holding rules self.old (Use name.now) result rules self.new }
+    {
+        match place_of(&self.replicas, name.as_str()) {
+            Some(at) => {
+                self.in_use = Some(at);
+                FleetReply::Done
+            }
+            None => FleetReply::Refused(Refusal::NoReplica),
+        }
+    }
+
+    // Whether a new replica may have the name.
+    fn is_free(&self, name: &str) -> bool
+        ensures { result ≡ is_free_name name.now self.now }
+    {
+        is_replica_name(name) && place_of(&self.replicas, name).is_none()
+    }
+
+    /// Opens a new replica, which is then in use.
+    ///
+    /// # Errors
+    /// `BadName` where the name is not of 1 to 64 ASCII letters and digits, or is a replica's; `Limit` where there are 64
+    /// replicas; `SameSite` where a replica has the site; `Memory`, or `Store`. Then nothing is changed.
+    pub fn open(&mut self, alloc: Global, name: &Text, site: Site) -> Result<(), Refusal>
+        ensures { (l : Language (Unit {0}) (Unit {0})) (k : Closures) (rules : Rules) → Steps l k C.is_clean C.holding rules self.old (Open name.now site) (reply_of result) rules self.new }
+    {
+        if !self.is_free(name.as_str()) {
+            return Err(Refusal::BadName(name.copy(alloc)?));
+        }
+        if self.replicas.len() >= REPLICA_LIMIT {
+            return Err(Refusal::Limit(Limit::Replicas));
+        }
+        if has_site(&self.replicas, &site) {
+            return Err(Refusal::SameSite);
+        }
+        let name = name.copy(alloc)?;
+        let cells = match C::create(alloc, site) {
+            Ok(cells) => cells,
+            Err(error) => return Err(Refusal::from(error)),
+        };
+        let at = self.replicas.len();
+        let session = Session::new(cells);
+        if self.replicas.push(Named { name, session }).is_err() {
+            return Err(Refusal::Memory);
+        }
+        self.in_use = Some(at);
+        Ok(())
+    }
+
+    // Adds a rule to the policy.
+    fn set_rule<G: Guarding>(&self, alloc: Global, guard: &mut G, rule: &PolicyRule) -> FleetReply
+        requires { G.is_faithful guard.old }
+        ensures steps { (l : Language (Unit {0}) (Unit {0})) → Steps l (⟦<G as Watching>⟧.closures guard.old) C.is_clean C.holding (G.rules guard.old) self.now (Policy rule.now) result (G.rules guard.new) self.now }
+        ensures closures { ⟦<G as Watching>⟧.closures guard.new ≡ ⟦<G as Watching>⟧.closures guard.old }
+        ensures faithful { G.is_faithful guard.new }
+    {
+        match guard.policy(alloc, rule) {
+            Ok(()) => FleetReply::Done,
+            Err(AllocError) => FleetReply::Refused(Refusal::Memory),
+        }
+    }
+
+    // A command that the replica in use carries out by itself.
+    fn step_used<F: Functions, G: Guarding>(
+        &mut self,
+        alloc: Global,
+        functions: &F,
+        guard: &G,
+        command: &Command,
+    ) -> FleetReply
+        requires faithful { G.is_faithful guard.now }
+        requires ready { IsReady command.now }
+        requires own { is_own command.now ≡ true }
+        ensures { Steps (⟦<F as Speaking>⟧.language functions.now) (⟦<G as Watching>⟧.closures guard.now) C.is_clean C.holding (G.rules guard.now) self.old command.now result (G.rules guard.now) self.new }
+    {
+        let Some(at) = self.in_use else {
+            return FleetReply::Refused(Refusal::NoReplica);
+        };
+        let Some(named) = self.replicas.get_mut(at) else {
+            return FleetReply::Refused(Refusal::NoReplica);
+        };
+        named.session.step(alloc, functions, guard, command)
+    }
+
+    fn pull<G: Guarding>(&mut self, alloc: Global, guard: &G, name: &Text) -> FleetReply
+        requires { G.is_faithful guard.now }
+        ensures { (l : Language (Unit {0}) (Unit {0})) → Steps l (⟦<G as Watching>⟧.closures guard.now) C.is_clean C.holding (G.rules guard.now) self.old (Pull name.now) result (G.rules guard.now) self.new }
+    {
+        let Some(at) = self.in_use else {
+            return FleetReply::Refused(Refusal::NoReplica);
+        };
+        let Some(taker) = self.replicas.get(at) else {
+            return FleetReply::Refused(Refusal::NoReplica);
+        };
+        let Some(from) = place_of(&self.replicas, name.as_str()) else {
+            return FleetReply::Refused(Refusal::NoReplica);
+        };
+        let Some(peer) = self.replicas.get(from) else {
+            return FleetReply::Refused(Refusal::NoReplica);
+        };
+        if same_bytes(&peer.session.site(), &taker.session.site()) {
+            return FleetReply::Refused(Refusal::SameSite);
+        }
+        let Some(peer) = self.replicas.get_mut(from) else {
+            return FleetReply::Refused(Refusal::NoReplica);
+        };
+        let changes = match peer.session.changes_above(alloc, 0) {
+            Ok(changes) => changes,
+            Err(error) => return FleetReply::Refused(Refusal::from(error)),
+        };
+        let Some(taker) = self.replicas.get_mut(at) else {
+            return FleetReply::Refused(Refusal::NoReplica);
+        };
+        reply_of(taker.session.take_all(alloc, guard, &changes, None))
+    }
+}

@@ -1,0 +1,7 @@
+//! Fleets of replicas, each under a policy, a host's functions and its commit hook: what they reply to commands, and that
+//! replicas that hold the same changes show the same rows.
+#![tactic(auto)]
+
+pub mod fleet;
+pub mod session;
+pub mod speaking;

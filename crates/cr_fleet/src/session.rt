@@ -1,0 +1,210 @@
+//! One replica of a fleet: the commands that look at no other.
+
+ghost use Rattle.std.specs.Prelude.{◌≡◌};
+ghost use Rattle.cr_fleet.specs.Fleets.{reply_of};
+
+use crate::speaking::{Speaking, Watching};
+use cr_cells::marks::Mark;
+use cr_cells::store::{CellsError, NewCells};
+use cr_guard::guarding::Guarding;
+use cr_host::functions::Functions;
+use cr_lattice::change::{Change, Site};
+use cr_lattice::check::BadChange;
+use cr_lattice::table::Items;
+use cr_replica::change_row::ChangeRow;
+use cr_replica::replica::Replica;
+use cr_value::text::Text;
+use cr_world::command::{Command, Declaration, FleetReply};
+use cr_world::refusal::{OutOfProfile, Refusal, of_definition, of_rows};
+use std::alloc::{AllocError, Global};
+use std::marker::Model;
+
+/// Done, or why not.
+pub(crate) fn reply_of(outcome: Result<(), Refusal>) -> FleetReply
+    ensures { result ≡ reply_of outcome }
+{
+    match outcome {
+        Ok(()) => FleetReply::Done,
+        Err(refusal) => FleetReply::Refused(refusal),
+    }
+}
+
+/// A replica, outside of transactions.
+#[derive(Drop)]
+pub struct Session<C: Drop> {
+    replica: Replica<C>,
+}
+
+impl<C: Drop> Model for Session<C> {
+    ghost Value = { C };
+
+    ghost view = { λ s. s.replica };
+}
+
+impl<C: NewCells> Session<C> {
+    ghost use Rattle.std.specs.Prelude.{◌≡◌, ◌≤ℤ◌, pos, true};
+    ghost use Rattle.std.specs.Option.{ForSome};
+    ghost use Rattle.cr_cells.specs.Calls.{Reads, is_want, UnlessWant};
+    ghost use Rattle.cr_cells.specs.Holding.{IsSound, since, changes_of};
+    ghost use Rattle.cr_cells.specs.Marks.{seen_of};
+    ghost use Rattle.cr_world.specs.declared.command.Command.TheVariants.{Define, Take, Rows, Changes};
+    ghost use Rattle.cr_world.specs.Answers.{IsReady};
+    ghost use Rattle.cr_world.specs.Language.{Language};
+    ghost use Rattle.cr_world.specs.Statement.{Host};
+    ghost use Rattle.cr_fleet.specs.Sessions.{Does, TakesAll, is_own};
+
+    /// A session over the store, which may hold something already.
+    pub fn new(cells: C) -> Session<C>
+        ensures { result ≡ cells }
+    {
+        Session {
+            replica: Replica::new(cells),
+        }
+    }
+
+    /// The site that the replica was made with.
+    pub fn site(&self) -> Site
+        ensures { C.is_clean self.now → result ≡ (C.holding self.now).site }
+    {
+        self.replica.site_id()
+    }
+
+    /// How many commits changed a kept change.
+    pub fn version(&self) -> i64
+        ensures { C.is_clean self.now → result ≡ (C.holding self.now).version }
+    {
+        self.replica.db_version()
+    }
+
+    /// The kept changes that are stamped above a version, by their stamps.
+    ///
+    /// # Errors
+    /// `Memory`, or `Store(Refused)`.
+    pub fn changes_above(&mut self, alloc: Global, version: i64) -> Result<Vec<Change>, CellsError>
+        ensures was_clean { C.is_clean self.new → C.is_clean self.old }
+        ensures stays_clean { C.is_clean self.old → UnlessWant is_want result (C.is_clean self.new) }
+        ensures sound { C.is_clean self.new → IsSound (C.holding self.new) }
+        ensures reads { C.is_clean self.new → Reads (C.holding self.old) (C.holding self.new) result
+            (λ changes. changes.items ≡ changes_of (since (C.holding self.old).cells version)) }
+    {
+        self.replica.changes_above(alloc, version)
+    }
+
+    /// The version up to which the changes of a peer were taken, by the peer's site: 0 where it has no mark.
+    ///
+    /// # Errors
+    /// `Memory`, or `Store(Refused)`.
+    pub fn seen(&mut self, alloc: Global, site: Site) -> Result<i64, CellsError>
+        ensures was_clean { C.is_clean self.new → C.is_clean self.old }
+        ensures stays_clean { C.is_clean self.old → UnlessWant is_want result (C.is_clean self.new) }
+        ensures reads { C.is_clean self.new → Reads (C.holding self.old) (C.holding self.new) result
+            (λ version. version ≡ seen_of (C.holding self.old).marks site) }
+    {
+        self.replica.seen(alloc, site)
+    }
+
+    /// Takes changes, all in one commit or none, and with them the mark of a peer: its site, and its version, at least 0,
+    /// up to which they were taken. Those that lose change nothing.
+    ///
+    /// # Errors
+    /// `BadChange` where a change is not well formed; `VersionLimit` where a kept change would change at the greatest
+    /// version; `Veto` where policy or commit hook refuse what would come in; `Memory`, or `Store`. Then nothing is changed.
+    pub fn take_all<G: Guarding>(
+        &mut self,
+        alloc: Global,
+        guard: &G,
+        changes: &[Change],
+        mark: Option<Mark>,
+    ) -> Result<(), Refusal>
+        requires faithful { G.is_faithful guard.now }
+        requires from_0 { ForSome mark (λ m. pos 0 ≤ℤ m.1) }
+        ensures { TakesAll (⟦<G as Watching>⟧.host guard.now) C.is_clean C.holding self.old changes.now mark result self.new }
+    {
+        let taking = match self.replica.prepare(alloc, changes) {
+            Ok(taking) => taking,
+            Err(error) => return Err(Refusal::from(error)),
+        };
+        if guard.vetoes(taking.newly_kept.as_slice()) {
+            return Err(Refusal::Veto);
+        }
+        match self.replica.commit(alloc, &taking, mark) {
+            Ok(()) => Ok(()),
+            Err(error) => Err(Refusal::from(error)),
+        }
+    }
+
+    fn define<F: Functions>(
+        &mut self,
+        alloc: Global,
+        functions: &F,
+        declaration: &Declaration,
+    ) -> FleetReply
+        requires { IsReady (Define declaration.now) }
+        ensures { (host : Host) → Does (⟦<F as Speaking>⟧.language functions.now) host C.is_clean C.holding self.old (Define declaration.now) result self.new }
+    {
+        let Declaration::Table(def) = declaration else {
+            return FleetReply::Refused(Refusal::OutOfProfile(OutOfProfile::Real));
+        };
+        match self.replica.define(alloc, functions, def) {
+            Ok(()) => FleetReply::Done,
+            Err(error) => FleetReply::Refused(of_definition(alloc, def, error)),
+        }
+    }
+
+    fn take<G: Guarding>(&mut self, alloc: Global, guard: &G, row: &ChangeRow) -> FleetReply
+        requires { G.is_faithful guard.now }
+        ensures { (l : Language (Unit {0}) (Unit {0})) → Does l (⟦<G as Watching>⟧.host guard.now) C.is_clean C.holding self.old (Take row.now) result self.new }
+    {
+        let change = match row.change(alloc) {
+            Ok(Some(change)) => change,
+            Ok(None) => return FleetReply::Refused(Refusal::BadChange(BadChange::Shape)),
+            Err(AllocError) => return FleetReply::Refused(Refusal::Memory),
+        };
+        reply_of(self.take_all(alloc, guard, &[change], None))
+    }
+
+    fn rows(&mut self, alloc: Global, name: &Text) -> FleetReply
+        ensures { (l : Language (Unit {0}) (Unit {0})) (host : Host) → Does l host C.is_clean C.holding self.old (Rows name.now) result self.new }
+    {
+        match self.replica.rows_of(alloc, name.as_str()) {
+            Ok(rows) => FleetReply::Rows(rows),
+            Err(error) => FleetReply::Refused(of_rows(alloc, name, error)),
+        }
+    }
+
+    fn changes(&mut self, alloc: Global, version: &i64) -> FleetReply
+        ensures { (l : Language (Unit {0}) (Unit {0})) (host : Host) → Does l host C.is_clean C.holding self.old (Changes version.now) result self.new }
+    {
+        match self.replica.changes_since(alloc, *version) {
+            Ok(cells) => FleetReply::Changes(Items::new(cells)),
+            Err(error) => FleetReply::Refused(Refusal::from(error)),
+        }
+    }
+
+    /// Carries out a command that looks at no other replica.
+    pub fn step<F: Functions, G: Guarding>(
+        &mut self,
+        alloc: Global,
+        functions: &F,
+        guard: &G,
+        command: &Command,
+    ) -> FleetReply
+        requires faithful { G.is_faithful guard.now }
+        requires ready { IsReady command.now }
+        requires own { is_own command.now ≡ true }
+        ensures { Does (⟦<F as Speaking>⟧.language functions.now) (⟦<G as Watching>⟧.host guard.now) C.is_clean C.holding self.old command.now result self.new }
+    {
+        match command {
+            Command::Define(declaration) => self.define(alloc, functions, declaration),
+            Command::Take(row) => self.take(alloc, guard, row),
+            Command::Rows(name) => self.rows(alloc, name),
+            Command::Changes(version) => self.changes(alloc, version),
+            Command::Open(_, _)
+            | Command::Use(_)
+            | Command::Pull(_)
+            | Command::PullSince(_)
+            | Command::Policy(_)
+            | Command::Sql(_) => FleetReply::Refused(Refusal::Command),
+        }
+    }
+}
