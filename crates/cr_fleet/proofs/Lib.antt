@@ -4,3 +4,4 @@ pub mod Defining
 pub mod Stepping
 pub mod Opening
 pub mod Pulling
+pub mod Running

@@ -90,7 +90,9 @@ impl<C: NewCells> Fleet<C> {
     ghost use Rattle.cr_world.specs.Language.{Language};
     ghost use Rattle.cr_world.specs.World.{World, Closures};
     ghost use Rattle.cr_fleet.specs.Sessions.{is_own};
-    ghost use Rattle.cr_fleet.specs.Fleets.{Steps, AreClean, Shows, reply_of, is_free_name, is_carried_out};
+    ghost use Rattle.cr_world.specs.Headline.{RowsConverge};
+    ghost use Rattle.cr_world.specs.Run.{Run, world_after};
+    ghost use Rattle.cr_fleet.specs.Fleets.{Steps, AreClean, IsUnharmed, Shows, reply_of, is_free_name, is_carried_out};
 
     /// A fleet without replicas.
     pub fn new(alloc: Global) -> Fleet<C>
@@ -217,5 +219,66 @@ impl<C: NewCells> Fleet<C> {
             return FleetReply::Refused(Refusal::NoReplica);
         };
         reply_of(taker.session.take_all(alloc, guard, &changes, None))
+    }
+
+    /// Carries out one command.
+    pub fn step<F: Functions, G: Guarding>(
+        &mut self,
+        alloc: Global,
+        functions: &F,
+        guard: &mut G,
+        command: &Command,
+    ) -> FleetReply
+        requires faithful { G.is_faithful guard.old }
+        requires ready { IsReady command.now }
+        requires carried_out { is_carried_out command.now ≡ true }
+        ensures steps { Steps (⟦<F as Speaking>⟧.language functions.now) (⟦<G as Watching>⟧.closures guard.old) C.is_clean C.holding (G.rules guard.old) self.old command.now result (G.rules guard.new) self.new }
+        ensures closures { ⟦<G as Watching>⟧.closures guard.new ≡ ⟦<G as Watching>⟧.closures guard.old }
+        ensures faithful { G.is_faithful guard.new }
+    {
+        match command {
+            Command::Open(name, site) => reply_of(self.open(alloc, name, *site)),
+            Command::Use(name) => self.use_replica(name),
+            Command::Policy(rule) => self.set_rule(alloc, guard, rule),
+            Command::Pull(name) => self.pull(alloc, guard, name),
+            Command::Define(_) => self.step_used(alloc, functions, guard, command),
+            Command::Take(_) => self.step_used(alloc, functions, guard, command),
+            Command::Rows(_) => self.step_used(alloc, functions, guard, command),
+            Command::Changes(_) => self.step_used(alloc, functions, guard, command),
+            Command::PullSince(_) | Command::Sql(_) => FleetReply::Refused(Refusal::Command),
+        }
+    }
+
+    /// Carries out the commands in order, one reply each.
+    ///
+    /// # Errors
+    /// Where there is no memory for the replies; then no command is carried out.
+    pub fn run<F: Functions, G: Guarding>(
+        &mut self,
+        alloc: Global,
+        functions: &F,
+        guard: &mut G,
+        commands: &[Command],
+    ) -> Result<Vec<FleetReply>, AllocError>
+        requires faithful { G.is_faithful guard.old }
+        requires ready { AllByRecursion IsReady commands.now }
+        requires carried_out { AllByRecursion (λ c. is_carried_out c ≡ true) commands.now }
+        ensures was_clean { AreClean C.is_clean self.new → AreClean C.is_clean self.old }
+        ensures stays_clean { IfOk result (λ replies. AreClean C.is_clean self.old → AreAnswered replies.items → AreClean C.is_clean self.new) }
+        ensures runs { IfOk result (λ replies. IsUnharmed C.is_clean self.old replies.items self.new → (w : World) → Shows C.holding w (G.rules guard.old) self.old
+            → Run (⟦<F as Speaking>⟧.language functions.now) (⟦<G as Watching>⟧.closures guard.old) w commands.now replies.items
+            × Shows C.holding (world_after (⟦<F as Speaking>⟧.language functions.now) (⟦<G as Watching>⟧.closures guard.old) w commands.now replies.items) (G.rules guard.new) self.new) }
+        ensures converges { IfOk result (λ replies. IsUnharmed C.is_clean self.old replies.items self.new → (w : World) → Shows C.holding w (G.rules guard.old) self.old
+            → RowsConverge (⟦<F as Speaking>⟧.language functions.now) (⟦<G as Watching>⟧.closures guard.old) w commands.now replies.items) }
+        ensures refused { OnErr result (self.new ≡ self.old) }
+        ensures closures { ⟦<G as Watching>⟧.closures guard.new ≡ ⟦<G as Watching>⟧.closures guard.old }
+        ensures faithful { G.is_faithful guard.new }
+    {
+        let mut replies = Vec::with_capacity(alloc, commands.len())?;
+        for command in commands {
+            let reply = self.step(alloc, functions, guard, command);
+            replies.push(reply).unwrap();
+        }
+        Ok(replies)
     }
 }
