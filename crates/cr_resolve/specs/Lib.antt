@@ -1,5 +1,7 @@
 pub mod Reading
+pub mod Told
 pub mod Known
+pub mod Offer
 pub mod Scope
 pub mod Trees
 pub mod Expressions

@@ -25,7 +25,6 @@ use Rattle.cr_term.specs.declared.expr.Expr.TheOpen as term
 use Rattle.cr_term.specs.declared.expr.Expr.TheOpen.{Expr-F as Node, When-F as ArmNode}
 use Rattle.cr_term.specs.declared.expr.Expr.TheFolds.{fold-Expr as fold-Term}
 use Rattle.cr_term.specs.declared.query.Joined.{Joined}
-use Rattle.cr_term.specs.declared.query.ResultColumn.{ResultColumn}
 use Rattle.cr_term.specs.declared.query.GroupTerm.{GroupTerm}
 use Rattle.cr_term.specs.declared.query.OrderTerm.{OrderTerm}
 use Rattle.cr_term.specs.declared.query.Query.{Query}

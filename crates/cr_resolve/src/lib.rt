@@ -2,4 +2,7 @@
 //! it: definitions, and the refusals.
 #![tactic(auto)]
 
+pub mod known;
+pub mod naming;
+pub mod reading;
 pub mod refusal;
