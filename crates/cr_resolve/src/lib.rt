@@ -6,3 +6,4 @@ pub mod known;
 pub mod naming;
 pub mod reading;
 pub mod refusal;
+pub mod scope;
