@@ -3,3 +3,4 @@ pub mod Loops
 pub mod Evaluated
 pub mod Tested
 pub mod Tails
+pub mod Sorted

@@ -4,3 +4,4 @@ pub mod Scopes
 pub mod Tails
 pub mod Combinations
 pub mod Shows
+pub mod Comparisons

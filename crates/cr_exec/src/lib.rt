@@ -2,6 +2,7 @@
 //! that stands in the answer.
 #![tactic(auto)]
 
+pub mod compare;
 pub mod join;
 pub mod order;
 mod push;

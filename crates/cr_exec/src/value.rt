@@ -49,7 +49,7 @@ fn told_as(fault: EvalFault) -> Fault
 }
 
 // The value at a place, NULL where there is none.
-fn value_at<'a>(values: &'a [Value], at: usize) -> Operand<'a>
+pub(crate) fn value_at<'a>(values: &'a [Value], at: usize) -> Operand<'a>
     ensures { result ≡ get_or values.now at Null }
 {
     match values.get(at) {
