@@ -2,11 +2,11 @@
 
 ghost use Rattle.std.specs.Prelude.{◌≡◌, ◌∷◌, [], map, IfOk};
 ghost use Rattle.std.specs.Option.{option_copied, option_map, option_or, unwrap_or};
-ghost use Rattle.cr_term.specs.Operands.{adjusted, affinity_of, binary, collation_of, column_collation, explicit_collation, first_collation, first_of, flat, meeting, meeting_item, no_meeting, of_cast};
+ghost use Rattle.cr_term.specs.Operands.{adjusted, affinity_of, binary, collation_of, column_collation, comparison, explicit_collation, first_collation, first_of, flat, meeting, meeting_item, no_meeting, of_cast};
 ghost use Rattle.cr_questions.specs.Parts.{explicit_of_arm};
 
 use cr_term::expr::{Expr, When};
-use cr_term::operator::{Adjusted, Meeting, Unary};
+use cr_term::operator::{Adjusted, Comparison, Meeting, Unary};
 use cr_value::affinity::Affinity;
 use cr_value::cast::CastTo;
 use cr_value::text::Text;
@@ -271,4 +271,22 @@ pub fn no_meeting(alloc: Global) -> Result<Meeting, AllocError>
         adjusted: Adjusted::Neither,
         collation: named(alloc, None)?,
     })
+}
+
+/// A comparison of two operands, with how they meet.
+///
+/// # Errors
+/// Where memory runs out.
+pub fn comparison(
+    alloc: Global,
+    op: Comparison,
+    left: Expr,
+    right: Expr,
+) -> Result<Expr, AllocError>
+    ensures { IfOk result (λ e. e ≡ comparison op left right) }
+{
+    let meeting = meeting(alloc, &left, &right)?;
+    let left = Boxed::new(alloc, left)?;
+    let right = Boxed::new(alloc, right)?;
+    Ok(Expr::Compare(op, meeting, left, right))
 }
