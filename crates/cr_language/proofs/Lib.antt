@@ -7,3 +7,5 @@ pub mod Tables
 pub mod Masks
 pub mod Standing
 pub mod Instance
+pub mod Texts
+pub mod SoFar

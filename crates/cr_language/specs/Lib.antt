@@ -1,3 +1,6 @@
 pub mod Standing
 pub mod Laws
+pub mod Texts
 pub mod Sql
+pub mod Engines
+pub mod SoFar

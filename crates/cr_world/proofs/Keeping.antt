@@ -124,6 +124,25 @@ module _ {S E : Type 0} (l : Language S E) (host : Host) where
   none_left name rows old [] e h = sym e
   none_left name rows old (m ∷ ms) e h = absurd (subst (λ (o : List ModuleState). ModulesLeave name rows o (m ∷ ms)) e h)
 
+  accepted_modules : (st : State) (o : Option (Resolved E)) → st.modules ≡ [] → (option_map_or (λ r. left_by st r (rows_of l host st [] r) st.modules) o st).modules ≡ []
+  accepted_modules st None n = n
+  accepted_modules st (Some r) n = left_modules st r (rows_of l host st [] r) ∙ n
+
+  -- a session without modules stands where its script left it
+  pub runs_leave : (st : State) (ps : List (Piece S)) (xs : List Reply) (f : Option Refusal) (new : State) → st.modules ≡ [] → Runs l host st ps xs f new → after_script l host st ps xs f ≡ new
+  runs_leave st [] [] None new n run = sym run
+  runs_leave st [] [] (Some r) new n run = sym run.1
+  runs_leave st [] (x ∷ xs) f new n run = absurd run
+  runs_leave st (Unread why ∷ ps) [] None new n run = absurd run
+  runs_leave st (Unread why ∷ ps) [] (Some r) new n run = sym run.1
+  runs_leave st (Unread why ∷ ps) (x ∷ xs) f new n run = absurd run
+  runs_leave st (Statement s ∷ ps) [] None new n run = absurd run
+  runs_leave st (Statement s ∷ ps) [] (Some r) new n run = sym run.1
+  runs_leave st (Statement s ∷ ps) (x ∷ xs) f new n run =
+      let same = none_left _ _ st.modules run.0 n run.1.0.2 in
+      runs_leave (accepted l host st s x) ps xs f new (accepted_modules st (allowed_of l host st [] s) n)
+      (subst (λ (ms : List ModuleState). Runs l host (stepped l host st [] s (Ok x) ms) ps xs f new) same run.1.1)
+
   -- a moment of a session that keeps what it held has an answer for where the session stood
   pub record IsMoment (m : Moment S) : Type 0 where
     pub stays : Stays m.state m.held
