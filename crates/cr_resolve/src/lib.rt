@@ -4,6 +4,7 @@
 
 pub mod known;
 pub mod naming;
+pub mod node;
 pub mod reading;
 pub mod refusal;
 pub mod scope;
