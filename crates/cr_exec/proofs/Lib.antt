@@ -4,3 +4,4 @@ pub mod Evaluated
 pub mod Tested
 pub mod Tails
 pub mod Sorted
+pub mod Orders

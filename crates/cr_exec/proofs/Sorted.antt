@@ -1,5 +1,5 @@
 -- Sorts by orders of values, and the first of each class.
-use Rattle.std.proofs.Common.{◌≡◌, ◌∙◌, ℕ, zero, suc, ◌+◌, ◌<◌, Bool, true, false, not, ◌||◌, ◌&&◌, cond, List, [], ◌∷◌, ◌++◌, length, map, take, drop, get_or, add-one, append_assoc, refl, sym, ap, Ordering, Less, Equal, Greater}
+use Rattle.std.proofs.Common.{◌≡◌, ◌∙◌, ℕ, zero, suc, ◌+◌, ◌<◌, Bool, true, false, not, ◌||◌, ◌&&◌, cond, List, [], ◌∷◌, ◌++◌, length, map, take, drop, get_or, add-one, append_assoc, append-nil, refl, sym, ap, Ordering, Less, Equal, Greater}
 use Rattle.std.specs.Prelude.{filter}
 use Rattle.std.specs.List.{list_any}
 use Rattle.std.specs.Ordering.{is_eq, is_ne, ordering_reverse, ordering_then, match_ordering, then_cmp, on}
@@ -14,7 +14,7 @@ use Rattle.cr_query.specs.Query.{Row, head_or_null, rest_of, directed}
 use Rattle.cr_meaning.proofs.Ordered.{values_total}
 use Rattle.std.proofs.lemmas.List.{drop_more, take_more, map-append}
 use Rattle.cr_exec.specs.declared.compare.Sense.{Sense}
-use Rattle.cr_exec.specs.Comparisons.{ValueOrder, by_orders, held_order}
+use Rattle.cr_exec.specs.Comparisons.{ValueOrder, by_orders, held_order, is_new}
 
 -- ---- rows, place by place
 
@@ -106,10 +106,6 @@ sense_pushed {X = X} at f xs i x s old new h is same made k =
 -- ---- the first of each class
 
 module _ {X : Type 0} (ties : X → X → Bool) where
-  -- no member of what is kept ties with it
-  abbrev pub is_new : List X → X → Bool
-  is_new kept y = not (list_any (λ k. ties k y) kept)
-
   filter_filter : (p q : X → Bool) (xs : List X) → filter p (filter q xs) ≡ filter (λ x. q x && p x) xs
   filter_filter p q [] = refl
   filter_filter p q (x ∷ xs) =
@@ -135,12 +131,12 @@ module _ {X : Type 0} (ties : X → X → Bool) where
   none_of false b = refl
 
   -- one that is new stands behind
-  pub first_kept : (kept : List X) (x : X) (xs whole : List X) → is_new kept x ≡ true → kept ++ filter (is_new kept) (firsts ties (x ∷ xs)) ≡ whole → (kept ++ x ∷ []) ++ filter (is_new (kept ++ x ∷ [])) (firsts ties xs) ≡ whole
+  pub first_kept : (kept : List X) (x : X) (xs whole : List X) → is_new ties kept x ≡ true → kept ++ filter (is_new ties kept) (firsts ties (x ∷ xs)) ≡ whole → (kept ++ x ∷ []) ++ filter (is_new ties (kept ++ x ∷ [])) (firsts ties xs) ≡ whole
   first_kept kept x xs whole new w =
-      append_assoc kept (x ∷ []) (filter (is_new (kept ++ x ∷ [])) (firsts ties xs))
-      ∙ ap (λ (l : List X). kept ++ x ∷ l) (filter_agree (is_new (kept ++ x ∷ [])) (λ y. not (ties x y) && is_new kept y) (λ y. ap not (any_more kept x y) ∙ none_of (ties x y) (list_any (λ k. ties k y) kept)) (firsts ties xs)
-      ∙ sym (filter_filter (is_new kept) (λ y. not (ties x y)) (firsts ties xs)))
-      ∙ ap (λ b. kept ++ cond b (x ∷ filter (is_new kept) (filter (λ y. not (ties x y)) (firsts ties xs))) (filter (is_new kept) (filter (λ y. not (ties x y)) (firsts ties xs)))) (sym new)
+      append_assoc kept (x ∷ []) (filter (is_new ties (kept ++ x ∷ [])) (firsts ties xs))
+      ∙ ap (λ (l : List X). kept ++ x ∷ l) (filter_agree (is_new ties (kept ++ x ∷ [])) (λ y. not (ties x y) && is_new ties kept y) (λ y. ap not (any_more kept x y) ∙ none_of (ties x y) (list_any (λ k. ties k y) kept)) (firsts ties xs)
+      ∙ sym (filter_filter (is_new ties kept) (λ y. not (ties x y)) (firsts ties xs)))
+      ∙ ap (λ b. kept ++ cond b (x ∷ filter (is_new ties kept) (filter (λ y. not (ties x y)) (firsts ties xs))) (filter (is_new ties kept) (filter (λ y. not (ties x y)) (firsts ties xs)))) (sym new)
       ∙ w
 
   module _ (trans : (a b c : X) → ties a b ≡ true → ties b c ≡ true → ties a c ≡ true) where
@@ -156,24 +152,24 @@ module _ {X : Type 0} (ties : X → X → Bool) where
           or_true false b h = h
 
     -- what ties with one that isn't new isn't new
-    pub first_passed : (kept : List X) (x : X) (xs whole : List X) → is_new kept x ≡ false → kept ++ filter (is_new kept) (firsts ties (x ∷ xs)) ≡ whole → kept ++ filter (is_new kept) (firsts ties xs) ≡ whole
+    pub first_passed : (kept : List X) (x : X) (xs whole : List X) → is_new ties kept x ≡ false → kept ++ filter (is_new ties kept) (firsts ties (x ∷ xs)) ≡ whole → kept ++ filter (is_new ties kept) (firsts ties xs) ≡ whole
     first_passed kept x xs whole old w =
-        ap (λ (l : List X). kept ++ l) (filter_agree (is_new kept) (λ y. not (ties x y) && is_new kept y) one (firsts ties xs)
-        ∙ sym (filter_filter (is_new kept) (λ y. not (ties x y)) (firsts ties xs)))
-        ∙ ap (λ b. kept ++ cond b (x ∷ filter (is_new kept) (filter (λ y. not (ties x y)) (firsts ties xs))) (filter (is_new kept) (filter (λ y. not (ties x y)) (firsts ties xs)))) (sym old)
+        ap (λ (l : List X). kept ++ l) (filter_agree (is_new ties kept) (λ y. not (ties x y) && is_new ties kept y) one (firsts ties xs)
+        ∙ sym (filter_filter (is_new ties kept) (λ y. not (ties x y)) (firsts ties xs)))
+        ∙ ap (λ b. kept ++ cond b (x ∷ filter (is_new ties kept) (filter (λ y. not (ties x y)) (firsts ties xs))) (filter (is_new ties kept) (filter (λ y. not (ties x y)) (firsts ties xs)))) (sym old)
         ∙ w where
           held : (b : Bool) → not b ≡ false → b ≡ true
           held true h = refl
           held false h = absurd cc
 
-          one : (y : X) → is_new kept y ≡ not (ties x y) && is_new kept y
+          one : (y : X) → is_new ties kept y ≡ not (ties x y) && is_new ties kept y
           one y =
-              elim (ties x y) as (λ b. ties x y ≡ b → is_new kept y ≡ not b && is_new kept y) [
+              elim (ties x y) as (λ b. ties x y ≡ b → is_new ties kept y ≡ not b && is_new ties kept y) [
                 | true ↦ λ t. ap not (through kept x y (held (list_any (λ k. ties k x) kept) old) t)
                 | false ↦ λ t. refl
               ] refl
 
-  pub all_new : (xs : List X) → filter (is_new []) xs ≡ xs
+  pub all_new : (xs : List X) → filter (is_new ties []) xs ≡ xs
   all_new [] = refl
   all_new (x ∷ xs) = ap (λ (l : List X). x ∷ l) (all_new xs)
 
@@ -185,3 +181,38 @@ ties_on R o a b c h k =
       | Equal ↦ λ e q. ap is_eq (o.congr a b c e) ∙ k
       | Greater ↦ λ e q. absurd cc
     ] refl h
+
+-- a loop that keeps the first of each class
+module _ {X : Type 0} (ties : X → X → Bool) (whole : List X) where
+  -- whatever is left, behind what has been looked at
+  abbrev pub KeepsFirsts : List X → List X → Type 0
+  KeepsFirsts yielded kept = (rest : List X) → yielded ++ rest ≡ whole → kept ++ filter (is_new ties kept) (firsts ties rest) ≡ firsts ties whole
+
+  pub firsts_start : (kept : List X) → kept ≡ [] → (rest : List X) → rest ≡ whole → kept ++ filter (is_new ties kept) (firsts ties rest) ≡ firsts ties whole
+  firsts_start kept none rest is = ap (λ (l : List X). l ++ filter (is_new ties l) (firsts ties rest)) none ∙ all_new ties (firsts ties rest) ∙ ap (firsts ties) is
+
+  pub firsts_next : (yielded kept new : List X) (x : X) (b : Bool) → b ≡ is_new ties kept x → b ≡ true → new ≡ kept ++ x ∷ [] → KeepsFirsts yielded kept → KeepsFirsts (yielded ++ x ∷ []) new
+  firsts_next yielded kept new x b is t made inv more all =
+      ap (λ (l : List X). l ++ filter (is_new ties l) (firsts ties more)) made
+      ∙ first_kept ties kept x more (firsts ties whole) (sym is ∙ t) (inv (x ∷ more) (sym (append_assoc yielded (x ∷ []) more) ∙ all))
+
+  pub firsts_pass : ((a b c : X) → ties a b ≡ true → ties b c ≡ true → ties a c ≡ true) → (yielded kept : List X) (x : X) (b : Bool) → b ≡ is_new ties kept x → b ≡ false → KeepsFirsts yielded kept → KeepsFirsts (yielded ++ x ∷ []) kept
+  firsts_pass trans yielded kept x b is t inv more all =
+      first_passed ties trans kept x more (firsts ties whole) (sym is ∙ t) (inv (x ∷ more) (sym (append_assoc yielded (x ∷ []) more) ∙ all))
+
+  pub firsts_end : (yielded kept : List X) → yielded ≡ whole → KeepsFirsts yielded kept → kept ≡ firsts ties whole
+  firsts_end yielded kept done inv = sym (append-nil kept) ∙ inv [] (append-nil yielded ∙ done)
+
+-- ---- classes of what is seen as something else
+
+filter-map : {X Y : Type 0} (p : Y → Bool) (f : X → Y) (xs : List X) → map f (filter (λ x. p (f x)) xs) ≡ filter p (map f xs)
+filter-map p f [] = refl
+filter-map p f (x ∷ xs) =
+    elim (p (f x)) as (λ b. map f (cond b (x ∷ filter (λ x. p (f x)) xs) (filter (λ x. p (f x)) xs)) ≡ cond b (f x ∷ filter p (map f xs)) (filter p (map f xs))) [
+      | true ↦ ap (λ l. f x ∷ l) (filter-map p f xs)
+      | false ↦ filter-map p f xs
+    ]
+
+pub firsts-map : {X Y : Type 0} (t : Y → Y → Bool) (f : X → Y) (xs : List X) → map f (firsts (λ a b. t (f a) (f b)) xs) ≡ firsts t (map f xs)
+firsts-map t f [] = refl
+firsts-map t f (x ∷ xs) = ap (λ l. f x ∷ l) (filter-map (λ y. not (t (f x) y)) f (firsts (λ a b. t (f a) (f b)) xs) ∙ ap (filter (λ y. not (t (f x) y))) (firsts-map t f xs))

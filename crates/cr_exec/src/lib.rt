@@ -3,6 +3,7 @@
 #![tactic(auto)]
 
 pub mod compare;
+pub mod distinct;
 pub mod join;
 pub mod order;
 mod push;

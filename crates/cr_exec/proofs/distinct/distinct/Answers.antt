@@ -1,0 +1,20 @@
+use Rattle.std.proofs.Common.{◌≡◌, ◌∙◌, ap, map, ℕ, List, Option}
+use Rattle.cr_bags.specs.Bags.{firsts}
+use Rattle.cr_value.specs.declared.value.Value.{Value}
+use Rattle.cr_scalar.specs.Host.{host}
+use Rattle.cr_query.specs.Query.{distinct}
+use Rattle.cr_meaning.specs.View.{result_term}
+use Rattle.cr_meaning.specs.Meaning.{meaning}
+use Rattle.cr_exec.specs.declared.show.Shown.{Shown}
+use Rattle.cr_exec.specs.Comparisons.{held_order}
+use Rattle.cr_exec.specs.Shows.{shown_of, shown_ties}
+use Rattle.cr_exec.proofs.Orders.{of_ok, distinct_is}
+use Rattle.cr_exec.proofs.distinct.distinct.Goals as goal
+
+pub returns : goal.returns
+returns g c =
+    let h = host (g.F.Functions.function_of c.args.functions.now) (g.F.Functions.scalar c.args.functions.now) (g.F.Functions.step c.args.functions.now) (g.F.Functions.finish c.args.functions.now) (g.F.Functions.order_of c.args.functions.now) in
+    of_ok _ _ c.firsts.result
+    (λ v is most params. distinct_is most h params c.args.results.now (map (held_order (g.F.Functions.order_at c.args.functions.now)) c.as_slice.result.now) c.args.shown.items c.in_ok-shown.shown.items v.items
+    (ap (map (held_order (g.F.Functions.order_at c.args.functions.now))) c.as_slice.ensures.value ∙ c.in_ok-senses.ensures) c.in_ok-shown.ensures is)
+    c.firsts.ensures
