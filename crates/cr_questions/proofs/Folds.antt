@@ -1,5 +1,5 @@
 -- One step of a fold of an expression, at the nodes that have lists of parts.
-use Rattle.std.proofs.Common.{◌≡◌, ◌∙◌, List, [], ◌∷◌, map, Option, Some, None, refl, ap, sym}
+use Rattle.std.proofs.Common.{◌≡◌, ◌∙◌, ℕ, suc, ◌+◌, ◌<◌, List, [], ◌∷◌, length, map, drop, get_or, Option, Some, None, refl, ap, sym, drop-cons, add-one}
 use Rattle.std.specs.Option.{option_map}
 use Rattle.cr_term.specs.declared.expr.When.{When}
 use Rattle.cr_term.specs.declared.expr.Expr.{Expr, out-Expr, map-Expr, out-roll-Expr}
@@ -7,6 +7,10 @@ use Rattle.cr_term.specs.declared.expr.Expr as e
 use Rattle.cr_term.specs.declared.expr.Expr.TheVariants.{rolls-Case}
 use Rattle.cr_term.specs.declared.expr.Expr.TheOpen.{Expr-F, When-F, Case}
 use Rattle.cr_term.specs.declared.expr.Expr.TheFolds.{fold-Expr, fold-When, fold_out-Expr, fold_out-When}
+
+-- what is left of a list
+pub rest_at : {A : Type 0} (xs : List A) (i : ℕ) (x : A) → i < length xs → x ≡ get_or xs i x → drop i xs ≡ x ∷ drop (i + 1) xs
+rest_at xs i x h is = rw (add-one, drop-cons xs i x h) (ap (λ (y : _). y ∷ drop (suc i) xs) (let s : get_or xs i x ≡ x = cc in s))
 
 pub map_same : {A B : Type 0} (f g : A → B) → ((x : A) → f x ≡ g x) → (xs : List A) → map f xs ≡ map g xs
 map_same f g same [] = refl

@@ -1,2 +1,4 @@
 pub mod Folds
 pub mod Firsts
+pub mod Columns
+pub mod Denials

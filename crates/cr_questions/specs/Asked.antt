@@ -1,0 +1,40 @@
+-- Questions as they are asked, of texts and tables that stand elsewhere.
+use Rattle.std.specs.Prelude.{List, [], ◌∷◌, ◌++◌, map, Option}
+use Rattle.std.specs.Option.{option_or}
+use Rattle.cr_term.specs.declared.expr.When.{When}
+use Rattle.cr_term.specs.declared.expr.Expr.{Expr, out-Expr, map-Expr}
+use Rattle.cr_term.specs.declared.expr.Expr.TheOpen.{When-F}
+use Rattle.cr_term.specs.declared.expr.Expr.TheFolds.{fold-When}
+use Rattle.cr_term.specs.declared.query.Relation.{Relation}
+use Rattle.cr_term.specs.Parts.{parts, arm}
+use Rattle.cr_questions.specs.declared.question.Question.{Question}
+use Rattle.cr_questions.specs.declared.question.Asked.{Asked}
+use Rattle.cr_questions.specs.declared.sources.Sources.{Sources}
+use Rattle.cr_questions.specs.declared.sources.Sources.TheVariants.{Joined, One, Empty}
+use Rattle.cr_questions.specs.Questions.{Answers, question_of, questions_node, asked, first_denied}
+
+-- the question, without where its texts stand
+abbrev pub told : Asked → Question
+told q = record { action = q.action; a = q.a.now; b = q.b.now }
+
+-- the tables of a statement, in order
+abbrev pub relations : Sources → List Relation
+relations (Joined joined) = map (λ j. j.relation) joined.now
+relations (One relation) = relation.now ∷ []
+relations Empty = []
+
+-- the question about an expression's own node
+abbrev pub own_question : List Relation → Expr → Option Question
+own_question tables e = question_of tables (out-Expr e)
+
+-- the questions about an expression's parts
+abbrev pub part_questions : List Relation → Expr → List Question
+part_questions tables e = parts (map-Expr Expr (When-F Expr (Unit {0})) (List Question) (List Question) (asked tables) (fold-When (List Question) (List Question) (questions_node tables) arm) (out-Expr e))
+
+-- those about an arm of a CASE
+abbrev pub arm_questions : List Relation → When → List Question
+arm_questions tables w = asked tables w.when ++ asked tables w.then
+
+-- what was found, else the first question that is denied
+unfoldable pub or_first_denied : Answers → Option Question → List Question → Option Question
+or_first_denied answers found qs = option_or found (first_denied answers qs)
