@@ -1,5 +1,5 @@
 -- From the value of an expression to what it means to a query.
-use Rattle.std.proofs.Common.{MatchOption, ℕ, not, ◌&&◌, ◌≡◌, ◌∙◌, Bool, true, false, cond, List, Option, Some, None, Result, Ok, Err, refl, sym, ap, subst}
+use Rattle.std.proofs.Common.{MatchOption, ℕ, ◌&&◌, ◌≡◌, ◌∙◌, Bool, true, false, cond, List, Option, Some, None, Result, Ok, Err, refl, sym, ap, subst}
 use Rattle.std.specs.Option.{option_and_then}
 use Rattle.cr_value.specs.declared.value.Value.{Value}
 use Rattle.cr_term.specs.declared.expr.Expr.{Expr}
@@ -18,7 +18,7 @@ use Rattle.cr_query.specs.declared.fault.Fault.{Fault}
 use Rattle.cr_query.specs.declared.fault.Fault.TheVariants as told
 use Rattle.cr_scalar.specs.declared.fault.EvalFault.{EvalFault}
 use Rattle.cr_scalar.specs.declared.fault.EvalFault.TheVariants.{Overflow, NotANumber, NotUtf8, Host as Said, TooBig, Memory}
-use Rattle.cr_scalar.specs.Meaning.{and_then, bounded, Outcome, Meant, Evaluates, FaultsAs, byte_limit}
+use Rattle.cr_scalar.specs.Meaning.{and_then, bounded, Outcome, Meant, FaultsAs, byte_limit}
 use Rattle.cr_scalar.specs.Numbers.{truth, is_true, is_null, truth_value, unary_of}
 use Rattle.cr_scalar.specs.Host.{Host}
 use Rattle.cr_expr.specs.declared.given.Given.{Given}
@@ -27,16 +27,16 @@ use Rattle.cr_expr.specs.Eval.{Meaning as Meaning-of, Arm, layer, meaning as mea
 use Rattle.cr_expr.specs.Laws.{unlimited}
 use Rattle.cr_expr.proofs.LimitLaw.{limit_law}
 use Rattle.cr_expr.proofs.Nodes.{one_node}
-use Rattle.cr_query.specs.Query.{Row, Group, Meaning}
+use Rattle.cr_query.specs.Query.{Row, Group}
 use Rattle.cr_meaning.specs.View.{Ordered, plain}
-use Rattle.cr_meaning.specs.Meaning.{value_of, is_so, at_row, at_group, exact, sized}
+use Rattle.cr_meaning.specs.Meaning.{value_of, is_so, at_row, at_group}
 use Rattle.cr_exec.specs.Answers.{Faults, IsBoth, Answers}
 use Rattle.cr_exec.specs.Values.{told_as, null_wanted, null_test, HasValue, Limited}
 use Rattle.cr_exec.specs.Scopes.{in_scope, is_so_in}
 use Rattle.std.specs.Borrow.{Bor}
 use Rattle.cr_exec.specs.declared.value.Scope.{Scope}
 use Rattle.cr_exec.specs.declared.value.Scope.TheVariants as scope
-use Rattle.cr_exec.proofs.Stages.{faults_on, both_on}
+use Rattle.cr_exec.proofs.Stages.{faults_on}
 
 abbrev unbounded : Host → Given → Setting
 unbounded host given = setting None host given

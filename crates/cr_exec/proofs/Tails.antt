@@ -1,17 +1,26 @@
 -- Combinations kept one after another.
-use Rattle.std.proofs.Common.{◌≡◌, ◌∙◌, Bool, true, false, cond, List, [], ◌∷◌, ◌++◌, length, map, Option, Some, None, option_map, refl, sym, ap, append-nil}
+use Rattle.std.proofs.Common.{◌≡◌, ◌∙◌, ℕ, zero, suc, ◌+◌, add-one, append_assoc, map-id, Bool, true, false, cond, List, [], ◌∷◌, ◌++◌, length, map, Option, Some, None, option_map, Result, Ok, Err, ◌<◌, get_or, drop, refl, sym, ap, append-nil}
 use Rattle.std.specs.Option.{option_and_then}
 use Rattle.cr_value.specs.declared.value.Value.{Value}
+use Rattle.cr_value.specs.declared.value.Value.TheVariants.{Null}
 use Rattle.cr_scalar.specs.Host.{Host}
+use Rattle.std.specs.Borrow.{Bor}
+use Rattle.cr_term.specs.declared.expr.Expr.{Expr}
+use Rattle.cr_term.specs.declared.query.Query.{Query as Resolved}
 use Rattle.cr_term.specs.declared.query.Joined.{Joined}
 use Rattle.cr_bags.specs.Bags.{joins, gather, those, single}
 use Rattle.cr_query.specs.declared.fault.Fault.{Fault}
-use Rattle.cr_query.specs.Queries.{Joining}
-use Rattle.cr_query.specs.Query.{Row, Meaning, all_true, holds, nulls, or_padded, with_rows, joined_with, combined}
-use Rattle.cr_query.proofs.PlanLaws.{joins-nil_right}
-use Rattle.cr_meaning.specs.View.{Ordered, plain, joining}
+use Rattle.cr_query.specs.Query.{Row, Meaning, all_true, holds, nulls, or_padded, with_rows, joined_with, combined, joined}
+use Rattle.cr_query.proofs.PlanLaws.{joins-nil_right, gather_gather, gather-map}
+use Rattle.cr_query.proofs.JoinLaws.{combined-parts}
+use Rattle.cr_meaning.specs.View.{Ordered, plain, joining, query, terms as terms_of}
+use Rattle.cr_exec.specs.Scopes.{there}
+use Rattle.cr_exec.specs.Tails.{with_quiet_first}
+use Rattle.cr_meaning.specs.Meaning.{meaning}
+use Rattle.cr_exec.specs.Combinations.{tail, left_with}
 use Rattle.cr_exec.specs.Answers.{Stage, Faults, IsBoth, Adds, behind}
-use Rattle.cr_exec.proofs.Stages.{faults_on, both_on}
+use Rattle.cr_exec.proofs.Stages.{Gives, gives_all, faults_on, both_on, faults_after, both_after}
+use Rattle.cr_exec.proofs.Loops.{behind_nil, behind_none, gather_fails}
 
 -- ---- one combination
 
@@ -29,3 +38,132 @@ unkept m terms c h = ap (λ o. joins (option_map (λ b. cond b (single c) []) o)
 pub those_singly : (p : Row → Option Bool) (c : Row) (rows : List Row) → gather (λ r. those p (single (c ++ r))) rows ≡ those p (with_rows c rows)
 those_singly p c [] = refl
 those_singly p c (r ∷ rows) = (λ i. joins (joins-nil_right (option_map (λ b. cond b (single (c ++ r)) []) (p (c ++ r))) i) (those_singly p c rows i))
+
+-- ---- padding
+
+pub nulls_more : (n : ℕ) → nulls n ++ Null ∷ [] ≡ nulls (n + 1)
+nulls_more n = by n ∙ ap nulls (sym (add-one n)) where
+  by : (n : ℕ) → nulls n ++ Null ∷ [] ≡ nulls (suc n)
+  by zero = refl
+  by (suc n) = ap (λ (l : Row). Null ∷ l) (by n)
+
+pub null_pushed : (old now new : Row) (n : ℕ) → now ≡ old ++ nulls n → new ≡ now ++ Null ∷ [] → new ≡ old ++ nulls (n + 1)
+null_pushed old now new n h k = k ∙ ap (λ (l : Row). l ++ Null ∷ []) h ∙ append_assoc old (nulls n) (Null ∷ []) ∙ ap (λ (l : Row). old ++ l) (nulls_more n)
+
+-- ---- one table after another
+
+module _ (most : Option ℕ) (host : Host) (params : List Value) (terms : List Ordered) where
+  abbrev m : Meaning Ordered
+  m = meaning most host params
+
+  -- tables that come later are joined to each combination by itself
+  pub tail_of : (j : Joined) (joined : List Joined) (rows : List Row) (tables : List (List Row)) (c : Row) (cs : List Row) → joined_with m (joining j) rows c ≡ Some cs
+      → tail m terms (j ∷ joined) (rows ∷ tables) c ≡ gather (tail m terms joined tables) cs
+  tail_of j joined rows tables c cs h =
+      ap (λ (o : Option (List Row)). option_and_then (those (all_true m terms)) (option_and_then (combined m (map joining joined) tables) o)) (joins-nil_right (joined_with m (joining j) rows c) ∙ h)
+      ∙ ap (option_and_then (those (all_true m terms))) (combined-parts m (map joining joined) tables cs)
+      ∙ gather_gather (λ d. combined m (map joining joined) tables (single d)) _ cs
+
+  pub tail_none : (j : Joined) (joined : List Joined) (rows : List Row) (tables : List (List Row)) (c : Row) → joined_with m (joining j) rows c ≡ None
+      → tail m terms (j ∷ joined) (rows ∷ tables) c ≡ None
+  tail_none j joined rows tables c h =
+      ap (λ (o : Option (List Row)). option_and_then (those (all_true m terms)) (option_and_then (combined m (map joining joined) tables) o)) (joins-nil_right (joined_with m (joining j) rows c) ∙ h)
+
+  left_is : (j : Joined) (rows : List Row) (c : Row) → j.is_left ≡ true → joined_with m (joining j) rows c ≡ left_with m j rows c
+  left_is j rows c l = ap (λ b. cond b (option_map (or_padded (nulls (length j.relation.definition.columns)) c) (those (holds m (cond b (map plain j.on) [])) (with_rows c rows))) (Some (with_rows c rows))) l
+
+  inner_is : (j : Joined) (rows : List Row) (c : Row) → j.is_left ≡ false → joined_with m (joining j) rows c ≡ Some (with_rows c rows)
+  inner_is j rows c l = ap (λ b. cond b (option_map (or_padded (nulls (length j.relation.definition.columns)) c) (those (holds m (cond b (map plain j.on) [])) (with_rows c rows))) (Some (with_rows c rows))) l
+
+  pub tail_inner : (j : Joined) (joined : List Joined) (rows : List Row) (tables : List (List Row)) (c : Row) → j.is_left ≡ false
+      → tail m terms (j ∷ joined) (rows ∷ tables) c ≡ gather (tail m terms joined tables) (with_rows c rows)
+  tail_inner j joined rows tables c l = tail_of j joined rows tables c (with_rows c rows) (inner_is j rows c l)
+
+  pub tail_left : (j : Joined) (joined : List Joined) (rows : List Row) (tables : List (List Row)) (c : Row) (cs : List Row) → j.is_left ≡ true → left_with m j rows c ≡ Some cs
+      → tail m terms (j ∷ joined) (rows ∷ tables) c ≡ gather (tail m terms joined tables) (with_rows [] cs)
+  tail_left j joined rows tables c cs l h = tail_of j joined rows tables c cs (left_is j rows c l ∙ h) ∙ ap (gather (tail m terms joined tables)) (sym (map-id cs))
+
+  pub tail_fault : (j : Joined) (joined : List Joined) (rows : List Row) (tables : List (List Row)) (c : Row) → j.is_left ≡ true → left_with m j rows c ≡ None
+      → tail m terms (j ∷ joined) (rows ∷ tables) c ≡ None
+  tail_fault j joined rows tables c l h = tail_none j joined rows tables c (left_is j rows c l ∙ h)
+
+-- ---- what is put behind
+
+module _ (host : Host) (params : List Value) where
+  adds_after : {X Y : Type 0} (p : Stage Y) (y : Y) (f g : Stage (List X)) → ((most : Option ℕ) → p (meaning most host params) ≡ Some y → f (meaning most host params) ≡ g (meaning most host params))
+      → IsBoth host params p y → (old new : List X) (r : Result (Unit {0}) Fault) → Adds host params f old new r → Adds host params g old new r
+  adds_after p y f g k b old new (Ok u) h = both_after host params p y (λ m. behind old (f m)) new (λ m. behind old (g m)) new (λ most hp hf. ap (behind old) (sym (k most hp)) ∙ hf) b h
+  adds_after p y f g k b old new (Err e) h = faults_after host params p y f g e (λ most hp hf. sym (k most hp) ∙ hf) b h
+
+  pub adds_on : {X : Type 0} (f g : Stage (List X)) → ((most : Option ℕ) → f (meaning most host params) ≡ g (meaning most host params)) → (old new : List X) (r : Result (Unit {0}) Fault) → Adds host params f old new r → Adds host params g old new r
+  adds_on f g k old new (Ok u) h = both_on host params (λ m. behind old (f m)) (λ m. behind old (g m)) new new (λ most hf. ap (behind old) (sym (k most)) ∙ hf) h
+  adds_on f g k old new (Err e) h = faults_on host params f g e (λ most hf. sym (k most) ∙ hf) h
+
+  -- ---- a LEFT JOIN
+
+  module _ (j : Joined) (rows : List Row) (c : Row) (ts : List (Bor Expr)) (same : map there ts ≡ with_quiet_first (map plain j.on)) where
+    abbrev pad : List Row → List Row
+    pad = or_padded (nulls (length j.relation.definition.columns)) c
+
+    pub left_fault : (e : Fault) → Faults host params (λ m. those (all_true m (map there ts)) (with_rows c rows)) e → Faults host params (λ m. left_with m j rows c) e
+    left_fault e h =
+        faults_on host params (λ m. those (all_true m (map there ts)) (with_rows c rows)) (λ m. left_with m j rows c) e
+        (λ most k. ap (λ (es : List Ordered). option_map pad (those (all_true (meaning most host params) es) (with_rows c rows))) (sym same) ∙ ap (option_map pad) k) h
+
+    pub left_both : (cs ds : List Row) → ds ≡ or_padded (nulls (length j.relation.definition.columns)) c cs → IsBoth host params (λ m. those (all_true m (map there ts)) (with_rows c rows)) cs → IsBoth host params (λ m. left_with m j rows c) ds
+    left_both cs ds is h =
+        both_on host params (λ m. those (all_true m (map there ts)) (with_rows c rows)) (λ m. left_with m j rows c) cs ds
+        (λ most k. ap (λ (es : List Ordered). option_map pad (those (all_true (meaning most host params) es) (with_rows c rows))) (sym same) ∙ ap (option_map pad) k ∙ ap (λ (l : List Row). Some l) (sym is)) h
+
+  -- ---- what is left of FROM
+
+  module _ (terms : List Ordered) (js js' : List Joined) (j : Joined) (tables tables' : List (List Row)) (rows : List Row) (c : Row) (first : js ≡ j ∷ js') (table : tables ≡ rows ∷ tables') where
+    abbrev whole : Stage (List Row)
+    whole m = tail m terms js tables c
+
+    abbrev split : Stage (List Row)
+    split m = tail m terms (j ∷ js') (rows ∷ tables') c
+
+    apart : (most : Option ℕ) → split (meaning most host params) ≡ whole (meaning most host params)
+    apart most i = tail (meaning most host params) terms (sym first i) (sym table i) c
+
+    pub rest_inner : j.is_left ≡ false → (old new : List Row) (r : Result (Unit {0}) Fault) → Adds host params (λ m. gather (tail m terms js' tables') (with_rows c rows)) old new r → Adds host params (λ m. tail m terms js tables c) old new r
+    rest_inner l old new r h = adds_on (λ m. gather (tail m terms js' tables') (with_rows c rows)) whole (λ most. sym (tail_inner most host params terms j js' rows tables' c l) ∙ apart most) old new r h
+
+    pub rest_left : j.is_left ≡ true → (cs : List Row) → IsBoth host params (λ m. left_with m j rows c) cs → (old new : List Row) (r : Result (Unit {0}) Fault) → Adds host params (λ m. gather (tail m terms js' tables') (with_rows [] cs)) old new r → Adds host params (λ m. tail m terms js tables c) old new r
+    rest_left l cs b old new r h = adds_after (λ m. left_with m j rows c) cs (λ m. gather (tail m terms js' tables') (with_rows [] cs)) whole (λ most k. sym (tail_left most host params terms j js' rows tables' c cs l k) ∙ apart most) b old new r h
+
+    pub rest_fault : j.is_left ≡ true → (e : Fault) → Faults host params (λ m. left_with m j rows c) e → Faults host params (λ m. tail m terms js tables c) e
+    rest_fault l e h = faults_on host params (λ m. left_with m j rows c) whole e (λ most k. sym (apart most) ∙ tail_fault most host params terms j js' rows tables' c l k) h
+
+  -- ---- one row after another
+
+  module _ (terms : List Ordered) (js : List Joined) (tables : List (List Row)) (c : Row) (rows : List Row) (first : List Row) where
+    abbrev each_row : Meaning Ordered → Row → Option (List Row)
+    each_row m r = tail m terms js tables (c ++ r)
+
+    abbrev all_rows : Stage (List Row)
+    all_rows m = behind first (gather (tail m terms js tables) (with_rows c rows))
+
+    pub each_starts : Gives host params (λ m. behind first (gather (each_row m) rows)) all_rows
+    each_starts = gives_all host params (λ m. behind first (gather (each_row m) rows)) all_rows (λ most. ap (behind first) (sym (gather-map (λ r. c ++ r) (tail (meaning most host params) terms js tables) rows)))
+
+    pub each_fails : (i : ℕ) (x : Row) (old : List Row) (e : Fault) → i < length rows → x ≡ get_or rows i x → Faults host params (λ m. each_row m x) e
+        → Gives host params (λ m. behind old (gather (each_row m) (drop i rows))) all_rows → Faults host params (λ m. gather (tail m terms js tables) (with_rows c rows)) e
+    each_fails i x old e h is f g =
+        faults_on host params all_rows (λ m. gather (tail m terms js tables) (with_rows c rows)) e (λ most k. behind_none first _ k)
+        (gather_fails host params each_row all_rows rows i x old e h is f g)
+
+  -- ---- a query's FROM and WHERE
+
+  module _ (q : Resolved) (tables : List (List Row)) (ts : List (Bor Expr)) (js : List Joined) (same : map there ts ≡ with_quiet_first (terms_of q)) (all : js ≡ q.joined) where
+    from_is : (most : Option ℕ) → tail (meaning most host params) (map there ts) js tables [] ≡ joined (meaning most host params) (query q) tables
+    from_is most i = tail (meaning most host params) (same i) (all i) tables []
+
+    pub joined_fault : (e : Fault) → Faults host params (λ m. tail m (map there ts) js tables []) e → Faults host params (λ m. joined m (query q) tables) e
+    joined_fault e h = faults_on host params (λ m. tail m (map there ts) js tables []) (λ m. joined m (query q) tables) e (λ most k. sym (from_is most) ∙ k) h
+
+    pub joined_both : (old new : List Row) → old ≡ [] → IsBoth host params (λ m. behind old (tail m (map there ts) js tables [])) new → IsBoth host params (λ m. joined m (query q) tables) new
+    joined_both old new none h =
+        both_on host params (λ m. behind old (tail m (map there ts) js tables [])) (λ m. joined m (query q) tables) new new
+        (λ most k. sym (from_is most) ∙ sym (behind_nil (tail (meaning most host params) (map there ts) js tables [])) ∙ ap (λ l. behind l (tail (meaning most host params) (map there ts) js tables [])) (sym none) ∙ k) h

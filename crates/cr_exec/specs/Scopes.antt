@@ -1,5 +1,5 @@
 -- What an expression is evaluated over in a query: a combination or a group.
-use Rattle.std.specs.Prelude.{Bool, List, Option, option_map}
+use Rattle.std.specs.Prelude.{Bool, Option}
 use Rattle.std.specs.Option.{option_and_then}
 use Rattle.std.specs.Borrow.{Bor}
 use Rattle.cr_value.specs.declared.value.Value.{Value}

@@ -1,19 +1,22 @@
-//! The rows of a table on which terms are true.
+//! The combinations of the tables of a query on which its terms are true.
 
 ghost use Rattle.std.specs.Prelude.{◌≡◌, ◌++◌, map, IfOk, OnOk};
-ghost use Rattle.cr_bags.specs.Bags.{those, single};
-ghost use Rattle.cr_query.specs.Query.{all_true, with_rows};
+ghost use Rattle.cr_bags.specs.Bags.{gather, those, single};
+ghost use Rattle.cr_query.specs.Query.{all_true, with_rows, nulls, or_padded, joined};
+ghost use Rattle.cr_meaning.specs.View as view;
 ghost use Rattle.cr_exec.specs.Answers.{Answers, Adds};
 ghost use Rattle.cr_exec.specs.Scopes.{there};
-ghost use Rattle.cr_exec.specs.Combinations.{values};
+ghost use Rattle.cr_exec.specs.Combinations.{values, tail, left_with};
 
 use crate::push::push;
+use crate::terms::{terms_of, with_quiet_first};
 use crate::value::{Scope, is_so_in};
 use cr_expr::given::Hosted;
 use cr_host::functions::Functions;
 use cr_lattice::table::{Items, Row};
 use cr_query::fault::Fault;
 use cr_term::expr::Expr;
+use cr_term::query::{Joined, Query};
 use cr_value::value::Value;
 use std::alloc::{AllocError, Global};
 use std::marker::Model;
@@ -154,5 +157,180 @@ pub fn matching<F: Functions>(
         let more = longer(alloc, combination, row)?;
         keep(alloc, &mut out, terms, more.as_slice(), functions, params)?;
     }
+    Ok(out)
+}
+
+// Puts NULLs behind other values.
+fn push_nulls(out: &mut Vec<Value>, width: usize) -> Result<(), AllocError>
+    ensures { OnOk result (out.new.items ≡ out.old.items ++ nulls width) }
+{
+    for _place in 0..width {
+        out.push(Value::Null)?;
+    }
+    Ok(())
+}
+
+// A combination with NULLs for the columns of one more table.
+fn padded(alloc: Global, combination: &[Value], width: usize) -> Result<Row, AllocError>
+    ensures { IfOk result (λ r. r ≡ combination.now ++ nulls width) }
+{
+    let mut values = Vec::new(alloc);
+    push_copies(alloc, &mut values, combination)?;
+    push_nulls(&mut values, width)?;
+    Ok(Items::new(values))
+}
+
+// The combinations that a LEFT JOIN gives of one: those that matched, or it alone beside NULLs.
+fn or_padded(
+    alloc: Global,
+    mut matched: Vec<Row>,
+    combination: &[Value],
+    width: usize,
+) -> Result<Vec<Row>, AllocError>
+    ensures { IfOk result (λ v. v.items ≡ or_padded (nulls width) combination.now matched.items) }
+{
+    if matched.is_empty() {
+        let row = padded(alloc, combination, width)?;
+        matched.push(row)?;
+    }
+    Ok(matched)
+}
+
+// The combinations of one with the rows of a table that a LEFT JOIN brings.
+fn left_joined<F: Functions>(
+    alloc: Global,
+    join: &Joined,
+    rows: &[Row],
+    combination: &[Value],
+    functions: &F,
+    params: &[Value],
+) -> Result<Vec<Row>, Fault>
+    requires { F.is_faithful functions.now }
+    ensures { Answers (⟦<F as Hosted>⟧.means functions.now) params.now result (λ v. v.items) (λ m. left_with m join.now rows.now combination.now) }
+{
+    let terms = with_quiet_first(alloc, join.on.as_slice())?;
+    let matched = matching(
+        alloc,
+        terms.as_slice(),
+        combination,
+        rows,
+        functions,
+        params,
+    )?;
+    let width = join.relation.definition.columns.as_slice().len();
+    let rows = or_padded(alloc, matched, combination, width)?;
+    Ok(rows)
+}
+
+// Puts the combinations of one with those of further tables, on which all terms are true, behind others.
+#[cycle(join)]
+fn join_rest<F: Functions>(
+    alloc: Global,
+    out: &mut Vec<Row>,
+    terms: &[&Expr],
+    joined: &[Joined],
+    tables: &[Items<Row>],
+    combination: &[Value],
+    functions: &F,
+    params: &[Value],
+) -> Result<(), Fault>
+    requires { F.is_faithful functions.now }
+    ensures { Adds (⟦<F as Hosted>⟧.means functions.now) params.now (λ m. tail m (map there terms.now) joined.now tables.now combination.now) out.old.items out.new.items result }
+{
+    let Some((join, joined)) = joined.split_first() else {
+        return keep(alloc, out, terms, combination, functions, params);
+    };
+    let Some((rows, tables)) = tables.split_first() else {
+        return keep(alloc, out, terms, combination, functions, params);
+    };
+    if join.is_left {
+        let matched = left_joined(alloc, join, rows.as_slice(), combination, functions, params)?;
+        let rows = matched.as_slice();
+        return join_each(
+            alloc,
+            out,
+            terms,
+            joined,
+            tables,
+            &[],
+            rows,
+            functions,
+            params,
+        );
+    }
+    let rows = rows.as_slice();
+    join_each(
+        alloc,
+        out,
+        terms,
+        joined,
+        tables,
+        combination,
+        rows,
+        functions,
+        params,
+    )
+}
+
+// The same for the combinations of one with each row of a table.
+#[cycle(join)]
+fn join_each<F: Functions>(
+    alloc: Global,
+    out: &mut Vec<Row>,
+    terms: &[&Expr],
+    joined: &[Joined],
+    tables: &[Items<Row>],
+    combination: &[Value],
+    rows: &[Row],
+    functions: &F,
+    params: &[Value],
+) -> Result<(), Fault>
+    requires { F.is_faithful functions.now }
+    ensures { Adds (⟦<F as Hosted>⟧.means functions.now) params.now (λ m. gather (tail m (map there terms.now) joined.now tables.now) (with_rows combination.now rows.now)) out.old.items out.new.items result }
+{
+    for row in rows {
+        let more = longer(alloc, combination, row)?;
+        join_rest(
+            alloc,
+            out,
+            terms,
+            joined,
+            tables,
+            more.as_slice(),
+            functions,
+            params,
+        )?;
+    }
+    Ok(())
+}
+
+/// The combinations of a query's tables, in the order of FROM, on which WHERE and every inner ON are true. A LEFT JOIN
+/// gives NULLs for the columns of its table where no row of it matches.
+///
+/// # Errors
+/// As those of `matching`.
+pub fn joined<F: Functions>(
+    alloc: Global,
+    query: &Query,
+    tables: &[Items<Row>],
+    functions: &F,
+    params: &[Value],
+) -> Result<Vec<Row>, Fault>
+    requires { F.is_faithful functions.now }
+    ensures { Answers (⟦<F as Hosted>⟧.means functions.now) params.now result (λ v. v.items) (λ m. joined m (view.query query.now) tables.now) }
+{
+    let terms = terms_of(alloc, query)?;
+    let mut out = Vec::new(alloc);
+    let joined = query.joined.as_slice();
+    join_rest(
+        alloc,
+        &mut out,
+        terms.as_slice(),
+        joined,
+        tables,
+        &[],
+        functions,
+        params,
+    )?;
     Ok(out)
 }

@@ -1,6 +1,6 @@
 use Rattle.std.proofs.Common.{◌∙◌, ap, sym, subst, rules}
 use Rattle.cr_scalar.specs.Host.{host}
-use Rattle.cr_scalar.specs.Numbers.{truth, is_true}
+use Rattle.cr_scalar.specs.Numbers.{truth}
 use Rattle.cr_meaning.specs.View.{plain}
 use Rattle.cr_exec.specs.Answers.{Faults, IsBoth}
 use Rattle.cr_exec.specs.Scopes as scopes

@@ -1,0 +1,5 @@
+use Rattle.cr_exec.proofs.Tails.{null_pushed}
+use Rattle.cr_exec.proofs.join.push_nulls.Goals as goal
+
+pub loop-place-preserved : goal.loop-place-preserved
+loop-place-preserved c = null_pushed c.args.out.now.items c.loop-place.out.items c.push.new.self.items c.loop-place._place c.loop-place.invariant c.in_ok-push.ensures.items
