@@ -1,4 +1,5 @@
 pub mod Folds
 pub mod Firsts
 pub mod Columns
+pub mod Collected
 pub mod Denials

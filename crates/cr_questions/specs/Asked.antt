@@ -1,17 +1,18 @@
 -- Questions as they are asked, of texts and tables that stand elsewhere.
-use Rattle.std.specs.Prelude.{List, [], ◌∷◌, ◌++◌, map, Option}
+use Rattle.std.specs.Prelude.{Bool, ◌||◌, List, [], ◌∷◌, ◌++◌, map, Option}
 use Rattle.std.specs.Option.{option_or}
+use Rattle.cr_term.specs.declared.expr.Column.{Column as Field}
 use Rattle.cr_term.specs.declared.expr.When.{When}
 use Rattle.cr_term.specs.declared.expr.Expr.{Expr, out-Expr, map-Expr}
-use Rattle.cr_term.specs.declared.expr.Expr.TheOpen.{When-F}
-use Rattle.cr_term.specs.declared.expr.Expr.TheFolds.{fold-When}
+use Rattle.cr_term.specs.declared.expr.Expr.TheOpen.{Expr-F, When-F, Column}
+use Rattle.cr_term.specs.declared.expr.Expr.TheFolds.{fold-Expr, fold-When}
 use Rattle.cr_term.specs.declared.query.Relation.{Relation}
-use Rattle.cr_term.specs.Parts.{parts, arm}
+use Rattle.cr_term.specs.Parts.{parts, arm, columns}
 use Rattle.cr_questions.specs.declared.question.Question.{Question}
 use Rattle.cr_questions.specs.declared.question.Asked.{Asked}
 use Rattle.cr_questions.specs.declared.sources.Sources.{Sources}
 use Rattle.cr_questions.specs.declared.sources.Sources.TheVariants.{Joined, One, Empty}
-use Rattle.cr_questions.specs.Questions.{Answers, question_of, questions_node, asked, first_denied}
+use Rattle.cr_questions.specs.Questions.{Name, Answers, question_of, questions_node, asked, first_denied, is_read}
 
 -- the question, without where its texts stand
 abbrev pub told : Asked → Question
@@ -27,9 +28,13 @@ relations Empty = []
 abbrev pub own_question : List Relation → Expr → Option Question
 own_question tables e = question_of tables (out-Expr e)
 
+-- what the parts of an expression have, under a fold
+abbrev pub parts_of : {A : Type 0} → (Expr-F (List A) (List A) → List A) → Expr → List A
+parts_of {A} node e = parts (map-Expr Expr (When-F Expr (Unit {0})) (List A) (List A) (fold-Expr (List A) (List A) node arm) (fold-When (List A) (List A) node arm) (out-Expr e))
+
 -- the questions about an expression's parts
 abbrev pub part_questions : List Relation → Expr → List Question
-part_questions tables e = parts (map-Expr Expr (When-F Expr (Unit {0})) (List Question) (List Question) (asked tables) (fold-When (List Question) (List Question) (questions_node tables) arm) (out-Expr e))
+part_questions tables = parts_of (questions_node tables)
 
 -- those about an arm of a CASE
 abbrev pub arm_questions : List Relation → When → List Question
@@ -38,3 +43,18 @@ arm_questions tables w = asked tables w.when ++ asked tables w.then
 -- what was found, else the first question that is denied
 unfoldable pub or_first_denied : Answers → Option Question → List Question → Option Question
 or_first_denied answers found qs = option_or found (first_denied answers qs)
+
+-- ---- columns that are referred to
+
+-- the column that an expression is
+abbrev pub own_columns : {A C : Type 0} → Expr-F A C → List Field
+own_columns (Column c) = c ∷ []
+own_columns _ = []
+
+-- found already, or a column of that table is among them
+unfoldable pub or_is_read : List Relation → Name → Bool → List Field → Bool
+or_is_read tables name found fields = found || is_read tables fields name
+
+-- the columns in an arm of a CASE
+abbrev pub arm_columns : When → List Field
+arm_columns w = columns w.when ++ columns w.then

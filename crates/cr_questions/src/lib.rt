@@ -6,4 +6,5 @@ pub mod asked;
 pub mod denied;
 pub mod operands;
 pub mod question;
+pub mod reads;
 pub mod sources;
