@@ -2,6 +2,7 @@
 //! it: definitions, and the refusals.
 #![tactic(auto)]
 
+pub mod from;
 pub mod known;
 pub mod naming;
 pub mod node;
