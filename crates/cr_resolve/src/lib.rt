@@ -4,6 +4,8 @@
 
 pub mod from;
 pub mod known;
+pub mod leaf;
+pub mod limits;
 pub mod naming;
 pub mod node;
 pub mod reading;
