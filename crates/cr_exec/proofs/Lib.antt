@@ -5,3 +5,4 @@ pub mod Tested
 pub mod Tails
 pub mod Sorted
 pub mod Orders
+pub mod Grouped

@@ -5,3 +5,4 @@ pub mod Tails
 pub mod Combinations
 pub mod Shows
 pub mod Comparisons
+pub mod Groups

@@ -4,6 +4,7 @@
 
 pub mod compare;
 pub mod distinct;
+pub mod group;
 pub mod join;
 pub mod order;
 mod push;

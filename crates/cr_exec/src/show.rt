@@ -25,7 +25,7 @@ pub struct Shown {
 }
 
 // What a combination or a group shows.
-fn show<F: Functions>(
+pub(crate) fn show<F: Functions>(
     alloc: Global,
     results: &[&Expr],
     keys: &[&Expr],
