@@ -5,6 +5,7 @@ pub mod Offer
 pub mod Scope
 pub mod Trees
 pub mod Expressions
+pub mod Compares
 pub mod Queries
 pub mod Writes
 pub mod Creates

@@ -2,6 +2,7 @@
 //! it: definitions, and the refusals.
 #![tactic(auto)]
 
+pub mod comparing;
 pub mod from;
 pub mod known;
 pub mod leaf;

@@ -1,0 +1,19 @@
+-- What an answer says of how two operands meet, kept closed, since how they meet is long.
+use Rattle.std.specs.Prelude.{◌≡◌, List, [], ◌∷◌, Result, Ok, Err}
+use Rattle.cr_term.specs.declared.operator.Meeting.{Meeting}
+use Rattle.cr_term.specs.declared.operator.Comparison.{Comparison}
+use Rattle.cr_term.specs.declared.expr.Expr.{Expr}
+use Rattle.cr_term.specs.Operands.{meeting}
+use Rattle.cr_resolve.specs.declared.refusal.Refusal.{Refusal}
+use Rattle.cr_resolve.specs.declared.reading.Made.{Made}
+use Rattle.cr_resolve.specs.Known.{Known, collation}
+use Rattle.cr_resolve.specs.Expressions.{compared}
+use Rattle.cr_resolve.specs.Told.{told, Refuses, Reads}
+
+-- the meeting of two operands, by a collation that is there
+unfoldable pub Meets : Known → Expr → Expr → Result Meeting Refusal → Type 0
+Meets known x y (Ok m) = (meeting x y ≡ m) × (collation known m.collation ≡ [])
+Meets known x y (Err f) = Refuses (collation known (meeting x y).collation) f
+
+unfoldable pub Compares : Known → Comparison → Made Expr → Made Expr → Result (Made Expr) Refusal → Type 0
+Compares known op x y r = Reads (compared known op (told x) (told y)) r
