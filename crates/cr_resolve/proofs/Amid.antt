@@ -1,5 +1,5 @@
 -- IN by the meeting of its operand with an item.
-use Rattle.std.proofs.Common.{◌≡◌, ◌∙◌, List, [], ◌∷◌, ◌++◌, Bool, ◌||◌, Ok, Err, refl, ap, sym, subst}
+use Rattle.std.proofs.Common.{◌≡◌, ◌∙◌, List, [], Bool, ◌||◌, Ok, Err, ap, sym, subst}
 use Rattle.cr_term.specs.declared.operator.Meeting.{Meeting}
 use Rattle.cr_term.specs.Nodes as e
 use Rattle.cr_term.specs.declared.expr.Expr.{Expr}

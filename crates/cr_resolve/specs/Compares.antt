@@ -1,5 +1,5 @@
 -- What an answer says of how two operands meet, kept closed, since how they meet is long.
-use Rattle.std.specs.Prelude.{◌≡◌, Bool, List, [], ◌∷◌, Result, Ok, Err}
+use Rattle.std.specs.Prelude.{◌≡◌, Bool, List, [], Result, Ok, Err}
 use Rattle.cr_term.specs.declared.operator.Meeting.{Meeting}
 use Rattle.cr_term.specs.declared.operator.Comparison.{Comparison}
 use Rattle.cr_term.specs.declared.expr.Expr.{Expr}
