@@ -1,5 +1,5 @@
 -- A comparison by the meeting of its operands.
-use Rattle.std.proofs.Common.{◌≡◌, ◌∙◌, List, [], ◌∷◌, ◌++◌, Bool, ◌||◌, Ok, Err, refl, ap, sym, subst}
+use Rattle.std.proofs.Common.{◌≡◌, ◌∙◌, List, [], ◌||◌, Ok, Err, ap, sym, subst}
 use Rattle.cr_term.specs.declared.operator.Comparison.{Comparison}
 use Rattle.cr_term.specs.declared.operator.Meeting.{Meeting}
 use Rattle.cr_term.specs.Nodes as e

@@ -1,5 +1,6 @@
 //! What the names of a statement stand for, what stands against it, and what the authorizer is asked about it and makes of
-//! it: definitions, and the refusals.
+//! it: definitions, the refusals, and what names, tables and
+//! operators are resolved to.
 #![tactic(auto)]
 
 pub mod comparing;
