@@ -1,13 +1,12 @@
 -- Definitions by a call: why a replica refuses one, as a session tells it.
-use Rattle.std.proofs.Common.{◌≡◌, ◌⊎◌, inl, inr, ℕ, zero, suc, ◌+◌, ◌<◌, ◌≤◌, arith, nat_lt, nat_le, Bool, true, false, not, ◌&&◌, ◌||◌, cond, List, [], ◌∷◌, ◌++◌, Option, Some, None, Ok, Err, refl, sym, ap, subst, ◌∙◌, map, find, position, length, take, get_or, slice_get}
-use Rattle.std.specs.Prelude.{AllPairs, codes, is_some}
+use Rattle.std.proofs.Common.{◌≡◌, ◌⊎◌, inl, inr, ℕ, zero, suc, ◌<◌, ◌≤◌, arith, nat_lt, nat_le, Bool, true, false, not, ◌||◌, cond, List, [], ◌∷◌, Option, Some, None, Ok, Err, refl, sym, ap, subst, ◌∙◌, map, find, position, length, take, get_or, slice_get}
+use Rattle.std.specs.Prelude.{AllPairs, is_some}
 use Rattle.std.specs.Option.{option_map, option_map_or, option_or}
-use Rattle.std.specs.List.{list_any, position_or_len, starts_with}
+use Rattle.std.specs.List.{list_any, position_or_len}
 use Rattle.std.proofs.lemmas.Option.{slice_get-get_or, slice_get_past}
 use Rattle.std.proofs.lemmas.List.Folds.{find_at}
 use Rattle.std.proofs.lemmas.Bool.Decides.{leb_tells}
 use Rattle.std.proofs.lemmas.Cmp.{eq_by_cmp_equiv}
-use Rattle.cr_value.specs.Order.{bytes_cmp}
 use Rattle.cr_value.specs.OrderLaws.{bytes_total}
 use Rattle.cr_lattice.specs.declared.profile.ProfileFault.{ProfileFault}
 use Rattle.cr_lattice.specs.declared.profile.ProfileFault.TheVariants as profile
@@ -27,8 +26,8 @@ use Rattle.cr_replica.specs.Definition.{IsAccepted, IsRefusedFor, DefinesTable, 
 use Rattle.cr_replica.proofs.Definitions.{is_some-find}
 use Rattle.cr_world.specs.declared.refusal.Refusal.{Refusal}
 use Rattle.cr_world.specs.declared.refusal.Refusal.TheVariants as refusal
-use Rattle.cr_world.specs.Refusals.{is_want, of_profile, of_definition, column_at, collation_at, name_of, collation_of}
-use Rattle.cr_world.specs.Causes.{Cause, Free, Is, Tells, IsWant, first_cause, of_option, where_true}
+use Rattle.cr_world.specs.Refusals.{is_want, of_profile, of_definition, column_at, name_of, collation_of}
+use Rattle.cr_world.specs.Causes.{Cause, Free, Tells, IsWant, first_cause, of_option, where_true}
 use Rattle.cr_world.specs.Language.{Language, definition_in}
 use Rattle.cr_world.specs.State.{State, new_state, catalog, changes_name, changes_definition}
 use Rattle.cr_world.specs.declared.command.Command.TheVariants.{Define}
@@ -243,23 +242,25 @@ unwanted : (told cause : Refusal) (b : Bool) → ((told ≡ refusal.Memory) ⊎ 
 unwanted told cause b (inl e) w n = absurd (let q : true ≡ false = sym (ap is_want e) ∙ n in cc)
 unwanted told cause b (inr e) w n = sym w ∙ sym (ap is_want e) ∙ n
 
-module _ {S E C : Type 0} (l : Language S E) (host : Host) (is_clean : C → Type 0) (holding : C → Holding) (old new : C) (def : TableDef) (cleans : is_clean new → is_clean old) where
-  pub define_done : (is_clean old → is_clean new) → (is_clean new → DefinesTable l.has_collation (holding old) (holding new) def (Ok tt)) → Does l host is_clean holding old (Define (Declared def)) Done new
+module _ {S E C : Type 0} (l : Language S E) (host : Host) (is_clean : C → Type 0) (holding : C → Holding) (old new : C) (def : TableDef) (has : List ℕ → Bool) (known : l.has_collation ≡ has) (cleans : is_clean new → is_clean old) where
+  pub define_done : (is_clean old → is_clean new) → (is_clean new → DefinesTable has (holding old) (holding new) def (Ok tt)) → Does l host is_clean holding old (Define (Declared def)) Done new
   define_done lasts defines = record {
     was_clean = cleans;
     stays_clean = λ clean answered. lasts clean;
-    answers = λ clean. accepted_is l.has_collation (holding old) def (defines clean).0;
+    answers = λ clean. ap (λ (f : List ℕ → Bool). define_cause f (new_state (holding old)) def) known ∙ accepted_is has (holding old) def (defines clean).0;
     leaves = λ clean m e. ap (λ (st : State). record st { holding = defined st.holding def }) e ∙ ap new_state (sym (defines clean).1);
   }
 
-  pub define_refused : (e : DefineError) (t : Refusal) → (is_clean old → definitions.is_want e ≡ false → is_clean new) → (is_clean new → DefinesTable l.has_collation (holding old) (holding new) def (Err e))
+  pub define_refused : (e : DefineError) (t : Refusal) → (is_clean old → definitions.is_want e ≡ false → is_clean new) → (is_clean new → DefinesTable has (holding old) (holding new) def (Err e))
       → ((t ≡ refusal.Memory) ⊎ (t ≡ of_definition def e)) → Does l host is_clean holding old (Define (Declared def)) (Refused t) new
   define_refused e t lasts defines told = record {
     was_clean = cleans;
     stays_clean = λ clean answered. lasts clean (unwanted t (of_definition def e) (definitions.is_want e) told (want_of_definition def e) answered);
     answers = λ clean. elim told [
       | inl x ↦ inl (inl x)
-      | inr x ↦ subst (λ (r : Refusal). IsWant r ⊎ Tells (define_cause l.has_collation (new_state (holding old)) def) r) (sym x) (refused_is l.has_collation (holding old) def e (defines clean).0)
+      | inr x ↦
+          subst (λ (f : List ℕ → Bool). IsWant t ⊎ Tells (define_cause f (new_state (holding old)) def) t) (sym known)
+          (subst (λ (r : Refusal). IsWant r ⊎ Tells (define_cause has (new_state (holding old)) def) r) (sym x) (refused_is has (holding old) def e (defines clean).0))
     ];
     leaves = λ clean m e. e ∙ ap new_state (sym (defines clean).1);
   }

@@ -5,3 +5,5 @@ pub mod Stepping
 pub mod Opening
 pub mod Pulling
 pub mod Running
+pub mod Scripting
+pub mod Turning

@@ -1,5 +1,5 @@
 -- A pull: what a peer offers, and what the replica in use takes.
-use Rattle.std.proofs.Common.{◌≡◌, ◌⊎◌, inl, inr, ℕ, pos, Bool, true, false, List, [], ◌++◌, Option, Some, None, Result, Ok, Err, refl, sym, ap, subst, ◌∙◌, map, slice_get, slice_set}
+use Rattle.std.proofs.Common.{◌≡◌, inl, ℕ, pos, Bool, true, false, List, [], Option, Some, None, Result, Ok, Err, refl, sym, ap, subst, ◌∙◌, map, slice_get, slice_set}
 use Rattle.std.specs.Prelude.{if◌then◌else◌}
 use Rattle.std.specs.Option.{option_map}
 use Rattle.std.proofs.lemmas.Option.{slice_get-map}
@@ -8,7 +8,7 @@ use Rattle.cr_lattice.specs.Check.{same_bytes}
 use Rattle.cr_cells.specs.declared.store.CellsError.{CellsError}
 use Rattle.cr_cells.specs.Calls as calls
 use Rattle.cr_cells.specs.Calls.{Reads, IsRefusal}
-use Rattle.cr_cells.specs.Holding.{Holding, IsSound, changes_of, since}
+use Rattle.cr_cells.specs.Holding.{Holding, IsSound}
 use Rattle.cr_guard.specs.Policy.{Rules}
 use Rattle.cr_world.specs.declared.command.Command.TheVariants.{Pull}
 use Rattle.cr_world.specs.declared.command.FleetReply.{FleetReply}
@@ -17,12 +17,11 @@ use Rattle.cr_world.specs.declared.refusal.Refusal.{Refusal}
 use Rattle.cr_world.specs.declared.refusal.Refusal.TheVariants.{NoReplica, SameSite}
 use Rattle.cr_world.specs.Refusals.{of_store}
 use Rattle.cr_world.specs.Language.{Language}
-use Rattle.cr_world.specs.Causes.{Cause, IsWant}
+use Rattle.cr_world.specs.Causes.{Cause}
 use Rattle.cr_world.specs.State.{State, new_state}
-use Rattle.cr_world.specs.Statement.{Host}
 use Rattle.cr_world.specs.Takings.{taking_cause, taking, changes_above, pulling}
 use Rattle.cr_world.specs.World.{World, Member, Keeps, Closures, host_of, used, named, item_at}
-use Rattle.cr_world.specs.Answers.{Answers, IsDone, IsDoneUnless, Pulls, tells_want}
+use Rattle.cr_world.specs.Answers.{Answers, IsDone, IsDoneUnless, Pulls}
 use Rattle.cr_world.proofs.Keeping.{pull_keeps}
 use Rattle.cr_fleet.specs.Fleets.{FleetOf, AreClean, Shows, Steps, reply_of, seen, name_and_state, place_in}
 use Rattle.cr_fleet.specs.Sessions.{TakesAll, standing, host_under}

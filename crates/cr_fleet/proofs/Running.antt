@@ -1,5 +1,5 @@
 -- Runs of a fleet, command by command.
-use Rattle.std.proofs.Common.{◌≡◌, ◌⊎◌, inl, inr, false, List, [], ◌∷◌, ◌++◌, refl, sym, subst}
+use Rattle.std.proofs.Common.{◌≡◌, inl, inr, false, List, [], ◌∷◌, ◌++◌, refl, sym, subst}
 use Rattle.cr_cells.specs.Holding.{Holding}
 use Rattle.cr_guard.specs.Policy.{Rules}
 use Rattle.cr_world.specs.declared.command.Command.{Command}

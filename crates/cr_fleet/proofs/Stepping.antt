@@ -1,7 +1,6 @@
 -- Steps of a fleet: what a call of one of its replicas means for the world.
-use Rattle.std.proofs.Common.{◌≡◌, ◌⊎◌, inl, inr, ℕ, zero, suc, List, [], ◌∷◌, ◌++◌, Bool, true, false, Option, Some, None, Result, Ok, Err, refl, sym, ap, subst, ◌∙◌, map, find, position, slice_get, slice_set, ◌<◌, length}
+use Rattle.std.proofs.Common.{◌≡◌, ℕ, zero, suc, List, [], ◌∷◌, Bool, true, false, Option, Some, None, refl, sym, ap, subst, ◌∙◌, map, find, position, slice_get, slice_set}
 use Rattle.std.specs.Option.{option_map}
-use Rattle.std.specs.List.{AllByRecursion}
 use Rattle.std.proofs.lemmas.Option.{slice_get-map}
 use Rattle.cr_lattice.specs.declared.change.Change.{Change}
 use Rattle.cr_lattice.specs.Check.{same_bytes}
@@ -12,7 +11,6 @@ use Rattle.cr_guard.specs.Policy.{Rules, with_rule, wants_memory}
 use Rattle.cr_replica.specs.ChangeRow.{change_of}
 use Rattle.cr_world.specs.declared.command.Command.{Command}
 use Rattle.cr_world.specs.declared.command.Command.TheVariants.{Open, Use, Define, Take, Rows, Changes, Pull, PullSince, Policy, Sql}
-use Rattle.cr_world.specs.declared.command.Declaration.{Declaration}
 use Rattle.cr_world.specs.declared.command.Declaration.TheVariants.{Real, Table as Declared}
 use Rattle.cr_world.specs.declared.command.FleetReply.{FleetReply}
 use Rattle.cr_world.specs.declared.command.FleetReply.TheVariants.{Script, Rows as Shown, Changes as Told, Done, Refused}
@@ -29,7 +27,7 @@ use Rattle.cr_world.proofs.Keeping.{kept_more, script_stays}
 use Rattle.cr_fleet.specs.declared.fleet.Named.{Named}
 use Rattle.cr_fleet.specs.Fleets.{FleetOf, AreClean, Shows, Steps, seen, name_and_state, place_in}
 use Rattle.cr_fleet.specs.Sessions.{Does, OwnAnswers, RunsScript, own_after, is_own, standing, host_under}
-use Rattle.cr_fleet.proofs.Places.{some_within, pair, map_set, position_map, same_at, none_at, set_at, stays_at, keeps_set, all_at, all_set, all_before, all_after}
+use Rattle.cr_fleet.proofs.Places.{pair, map_set, position_map, same_at, none_at, set_at, keeps_set, all_at, all_set, all_before, all_after}
 
 -- nothing becomes of a member that stays as it is
 unchanged_at : (i : ℕ) (ms : List Member) → changed_at i (λ m. m) ms ≡ ms
@@ -145,7 +143,11 @@ module _ {S E : Type 0} (l : Language S E) (k : Closures) (w : World) where
   own_leaves (Take row) (Refused r) o = sym (unchanged w)
   own_leaves (Rows name) reply o = sym (unchanged w)
   own_leaves (Changes n) reply o = sym (unchanged w)
-  own_leaves (Sql text) reply o = absurd (let q : false ≡ true = o in cc)
+  own_leaves (Sql text) (Script x) o = refl
+  own_leaves (Sql text) Done o = sym (unchanged w)
+  own_leaves (Sql text) (Shown rows) o = sym (unchanged w)
+  own_leaves (Sql text) (Told cells) o = sym (unchanged w)
+  own_leaves (Sql text) (Refused r) o = sym (unchanged w)
   own_leaves (Open name site) reply o = absurd (let q : false ≡ true = o in cc)
   own_leaves (Use name) reply o = absurd (let q : false ≡ true = o in cc)
   own_leaves (Policy rule) reply o = absurd (let q : false ≡ true = o in cc)
@@ -162,7 +164,7 @@ module _ {S E : Type 0} (l : Language S E) (k : Closures) (w : World) where
   own_none (Take row) o u = none_used _ u
   own_none (Rows name) o u = none_used _ u
   own_none (Changes n) o u = none_used _ u
-  own_none (Sql text) o u = absurd (let q : false ≡ true = o in cc)
+  own_none (Sql text) o u = none_used _ u
   own_none (Open name site) o u = absurd (let q : false ≡ true = o in cc)
   own_none (Use name) o u = absurd (let q : false ≡ true = o in cc)
   own_none (Policy rule) o u = absurd (let q : false ≡ true = o in cc)

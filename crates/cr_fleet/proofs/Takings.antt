@@ -19,7 +19,7 @@ use Rattle.cr_replica.specs.Taking.{IsNotTaken, IsReady, Prepares, CommitsAll}
 use Rattle.cr_world.specs.declared.refusal.Refusal.{Refusal}
 use Rattle.cr_world.specs.declared.refusal.Refusal.TheVariants as refusal
 use Rattle.cr_world.specs.Refusals.{is_want, of_store, of_taking}
-use Rattle.cr_world.specs.Causes.{Cause, Free, Tells, IsWant, first_cause, of_option, where_true}
+use Rattle.cr_world.specs.Causes.{Cause, Tells, IsWant, first_cause, of_option, where_true}
 use Rattle.cr_world.specs.State.{new_state}
 use Rattle.cr_world.specs.Statement.{Host}
 use Rattle.cr_world.specs.Takings.{taking_cause}

@@ -1,5 +1,5 @@
 -- A fleet of stores as a world sees it. Source: this project's own.
-use Rattle.std.specs.Prelude.{◌≡◌, ◌⊎◌, ℕ, Bool, true, false, not, ◌&&◌, is_some, List, map, position, Option, Some, None, Result, Ok, Err}
+use Rattle.std.specs.Prelude.{◌≡◌, ◌⊎◌, ℕ, Bool, true, false, not, ◌&&◌, is_some, List, map, position, Option, Result, Ok, Err}
 use Rattle.std.specs.List.{AllByRecursion}
 use Rattle.cr_lattice.specs.Check.{same_bytes}
 use Rattle.cr_cells.specs.Holding.{Holding}
@@ -63,7 +63,7 @@ place_in f name = position (λ r. same_bytes r.0 name) f.0
 abbrev pub is_free_name : {C : Type 0} → List ℕ → FleetOf C → Bool
 is_free_name name f = is_replica_name name && not (is_some (place_in f name))
 
--- scripts and incremental pulls aren't carried out yet
+-- incremental pulls aren't carried out yet
 abbrev pub is_carried_out : Command → Bool
 is_carried_out (Open name site) = true
 is_carried_out (Use name) = true
@@ -74,4 +74,4 @@ is_carried_out (Changes n) = true
 is_carried_out (Pull name) = true
 is_carried_out (PullSince name) = false
 is_carried_out (Policy rule) = true
-is_carried_out (Sql text) = false
+is_carried_out (Sql text) = true

@@ -1,3 +1,4 @@
 pub mod Sessions
 pub mod Fleets
 pub mod Speaking
+pub mod Scripts

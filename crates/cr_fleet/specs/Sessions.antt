@@ -20,7 +20,7 @@ use Rattle.cr_world.specs.declared.refusal.OutOfProfile.TheVariants as out
 use Rattle.cr_world.specs.Refusals.{is_want}
 use Rattle.cr_world.specs.Language.{Language, Asked}
 use Rattle.cr_world.specs.State.{State, new_state}
-use Rattle.cr_world.specs.Causes.{Cause, Free, Tells, IsWant}
+use Rattle.cr_world.specs.Causes.{Free, Tells, IsWant}
 use Rattle.cr_world.specs.Statement.{Host}
 use Rattle.cr_world.specs.Scripts.{Runs, after_script, added_by_script}
 use Rattle.cr_world.specs.World.{Member, Closures}
@@ -53,7 +53,7 @@ pub record TakesAll {C : Type 0} (host : Host) (is_clean : C → Type 0) (holdin
 
 -- ---- commands
 
--- a command that the replica in use carries out by itself; scripts aren't carried out yet
+-- a command that the replica in use carries out by itself
 abbrev pub is_own : Command → Bool
 is_own (Open name site) = false
 is_own (Use name) = false
@@ -64,7 +64,7 @@ is_own (Rows name) = true
 is_own (Changes n) = true
 is_own (Pull name) = false
 is_own (PullSince name) = false
-is_own (Sql text) = false
+is_own (Sql text) = true
 
 module _ {S E : Type 0} (l : Language S E) (host : Host) where
   abbrev pub RunsScript : State → List ℕ → FleetReply → Type 0

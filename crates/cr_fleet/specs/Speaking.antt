@@ -1,19 +1,15 @@
-use Rattle.std.specs.Prelude.{Bool, true, false, ℕ, List, [], None, Err}
-use Rattle.std.specs.declared.cmp.Ordering.TheVariants.{Equal}
-use Rattle.cr_world.specs.declared.refusal.Refusal.TheVariants as refusal
+-- The language that statements are in, with a host's functions and collations. Source: this project's own.
+use Rattle.std.specs.Prelude.{ℕ, Bool, List, Option, Result}
+use Rattle.cr_value.specs.declared.value.Value.{Value}
+use Rattle.cr_host.specs.declared.function.Definition.{Definition}
+use Rattle.cr_tree.specs.declared.statement.Statement.{Statement}
+use Rattle.cr_meaning.specs.View.{Ordered}
 use Rattle.cr_world.specs.Language.{Language}
+use Rattle.cr_language.specs.Sql.{sql}
+use Rattle.cr_language.specs.Engines.{OrderOf, AreTotal, engine}
+use Rattle.cr_language.specs.SoFar.{so_far}
 
-abbrev pub quiet : (List ℕ → Bool) → Language (Unit {0}) (Unit {0})
-quiet has = record {
-  pieces = λ text. [];
-  single = λ text. None;
-  names = λ s. [];
-  has_collation = has;
-  resolved = λ c ask s. Err refusal.Command;
-  fits = λ s n. true;
-  is_select = λ s. false;
-  is_free = λ s. false;
-  standing = λ q. [];
-  exact = λ params. record { value = λ e row. None; over = λ e g. None; truth = λ v. None; quiet = λ e. false; order = λ e v w. Equal };
-  sized = λ params. record { value = λ e row. None; over = λ e g. None; truth = λ v. None; quiet = λ e. false; order = λ e v w. Equal };
-}
+-- this project's SQL as far as it is carried out
+unfoldable pub spoken : (List ℕ → ℕ → Option Definition) → (ℕ → List Value → Result Value (List ℕ)) → (ℕ → Value → List Value → Result Value (List ℕ)) → (ℕ → Value → Result Value (List ℕ))
+    → (order_of : OrderOf) → AreTotal order_of → (List ℕ → Bool) → Language Statement Ordered
+spoken function_of scalar step finish order_of total has = so_far (sql (engine function_of scalar step finish order_of total has))

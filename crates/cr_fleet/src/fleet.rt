@@ -83,7 +83,9 @@ fn has_site<C: NewCells>(replicas: &[Named<C>], site: &Site) -> bool
 }
 
 impl<C: NewCells> Fleet<C> {
-    ghost use Rattle.std.specs.Prelude.{[], None, map, true};
+    ghost use Rattle.std.specs.Prelude.{ℕ, Bool, List, [], None, map, true};
+    ghost use Rattle.cr_meaning.specs.View.{Ordered};
+    ghost use Rattle.cr_tree.specs.declared.statement.Statement.{Statement};
     ghost use Rattle.cr_guard.specs.Policy.{Rules};
     ghost use Rattle.cr_world.specs.declared.command.Command.TheVariants.{Open, Use, Define, Take, Rows, Pull, Policy};
     ghost use Rattle.cr_world.specs.Answers.{IsReady, AreAnswered};
@@ -105,7 +107,7 @@ impl<C: NewCells> Fleet<C> {
     }
 
     fn use_replica(&mut self, name: &Text) -> FleetReply
-        ensures { (l : Language (Unit {0}) (Unit {0})) (k : Closures) (rules : Rules) → Steps l k C.is_clean C.holding rules self.old (Use name.now) result rules self.new }
+        ensures { (l : Language Statement Ordered) (k : Closures) (rules : Rules) → Steps l k C.is_clean C.holding rules self.old (Use name.now) result rules self.new }
     {
         match place_of(&self.replicas, name.as_str()) {
             Some(at) => {
@@ -129,7 +131,7 @@ impl<C: NewCells> Fleet<C> {
     /// `BadName` where the name is not of 1 to 64 ASCII letters and digits, or is a replica's; `Limit` where there are 64
     /// replicas; `SameSite` where a replica has the site; `Memory`, or `Store`. Then nothing is changed.
     pub fn open(&mut self, alloc: Global, name: &Text, site: Site) -> Result<(), Refusal>
-        ensures { (l : Language (Unit {0}) (Unit {0})) (k : Closures) (rules : Rules) → Steps l k C.is_clean C.holding rules self.old (Open name.now site) (reply_of result) rules self.new }
+        ensures { (l : Language Statement Ordered) (k : Closures) (rules : Rules) → Steps l k C.is_clean C.holding rules self.old (Open name.now site) (reply_of result) rules self.new }
     {
         if !self.is_free(name.as_str()) {
             return Err(Refusal::BadName(name.copy(alloc)?));
@@ -157,7 +159,7 @@ impl<C: NewCells> Fleet<C> {
     // Adds a rule to the policy.
     fn set_rule<G: Guarding>(&self, alloc: Global, guard: &mut G, rule: &PolicyRule) -> FleetReply
         requires { G.is_faithful guard.old }
-        ensures steps { (l : Language (Unit {0}) (Unit {0})) → Steps l (⟦<G as Watching>⟧.closures guard.old) C.is_clean C.holding (G.rules guard.old) self.now (Policy rule.now) result (G.rules guard.new) self.now }
+        ensures steps { (l : Language Statement Ordered) → Steps l (⟦<G as Watching>⟧.closures guard.old) C.is_clean C.holding (G.rules guard.old) self.now (Policy rule.now) result (G.rules guard.new) self.now }
         ensures closures { ⟦<G as Watching>⟧.closures guard.new ≡ ⟦<G as Watching>⟧.closures guard.old }
         ensures faithful { G.is_faithful guard.new }
     {
@@ -178,7 +180,8 @@ impl<C: NewCells> Fleet<C> {
         requires faithful { G.is_faithful guard.now }
         requires ready { IsReady command.now }
         requires own { is_own command.now ≡ true }
-        ensures { Steps (⟦<F as Speaking>⟧.language functions.now) (⟦<G as Watching>⟧.closures guard.now) C.is_clean C.holding (G.rules guard.now) self.old command.now result (G.rules guard.now) self.new }
+        ensures { (has : List ℕ → Bool) → ⟦<F as Speaking>⟧.are_names functions.now has
+            → Steps (⟦<F as Speaking>⟧.language functions.now has) (⟦<G as Watching>⟧.closures guard.now) C.is_clean C.holding (G.rules guard.now) self.old command.now result (G.rules guard.now) self.new }
     {
         let Some(at) = self.in_use else {
             return FleetReply::Refused(Refusal::NoReplica);
@@ -191,7 +194,7 @@ impl<C: NewCells> Fleet<C> {
 
     fn pull<G: Guarding>(&mut self, alloc: Global, guard: &G, name: &Text) -> FleetReply
         requires { G.is_faithful guard.now }
-        ensures { (l : Language (Unit {0}) (Unit {0})) → Steps l (⟦<G as Watching>⟧.closures guard.now) C.is_clean C.holding (G.rules guard.now) self.old (Pull name.now) result (G.rules guard.now) self.new }
+        ensures { (l : Language Statement Ordered) → Steps l (⟦<G as Watching>⟧.closures guard.now) C.is_clean C.holding (G.rules guard.now) self.old (Pull name.now) result (G.rules guard.now) self.new }
     {
         let Some(at) = self.in_use else {
             return FleetReply::Refused(Refusal::NoReplica);
@@ -232,7 +235,8 @@ impl<C: NewCells> Fleet<C> {
         requires faithful { G.is_faithful guard.old }
         requires ready { IsReady command.now }
         requires carried_out { is_carried_out command.now ≡ true }
-        ensures steps { Steps (⟦<F as Speaking>⟧.language functions.now) (⟦<G as Watching>⟧.closures guard.old) C.is_clean C.holding (G.rules guard.old) self.old command.now result (G.rules guard.new) self.new }
+        ensures steps { (has : List ℕ → Bool) → ⟦<F as Speaking>⟧.are_names functions.now has
+            → Steps (⟦<F as Speaking>⟧.language functions.now has) (⟦<G as Watching>⟧.closures guard.old) C.is_clean C.holding (G.rules guard.old) self.old command.now result (G.rules guard.new) self.new }
         ensures closures { ⟦<G as Watching>⟧.closures guard.new ≡ ⟦<G as Watching>⟧.closures guard.old }
         ensures faithful { G.is_faithful guard.new }
     {
@@ -245,7 +249,8 @@ impl<C: NewCells> Fleet<C> {
             Command::Take(_) => self.step_used(alloc, functions, guard, command),
             Command::Rows(_) => self.step_used(alloc, functions, guard, command),
             Command::Changes(_) => self.step_used(alloc, functions, guard, command),
-            Command::PullSince(_) | Command::Sql(_) => FleetReply::Refused(Refusal::Command),
+            Command::Sql(_) => self.step_used(alloc, functions, guard, command),
+            Command::PullSince(_) => FleetReply::Refused(Refusal::Command),
         }
     }
 
@@ -263,13 +268,15 @@ impl<C: NewCells> Fleet<C> {
         requires faithful { G.is_faithful guard.old }
         requires ready { AllByRecursion IsReady commands.now }
         requires carried_out { AllByRecursion (λ c. is_carried_out c ≡ true) commands.now }
-        ensures was_clean { AreClean C.is_clean self.new → AreClean C.is_clean self.old }
-        ensures stays_clean { IfOk result (λ replies. AreClean C.is_clean self.old → AreAnswered replies.items → AreClean C.is_clean self.new) }
-        ensures runs { IfOk result (λ replies. IsUnharmed C.is_clean self.old replies.items self.new → (w : World) → Shows C.holding w (G.rules guard.old) self.old
-            → Run (⟦<F as Speaking>⟧.language functions.now) (⟦<G as Watching>⟧.closures guard.old) w commands.now replies.items
-            × Shows C.holding (world_after (⟦<F as Speaking>⟧.language functions.now) (⟦<G as Watching>⟧.closures guard.old) w commands.now replies.items) (G.rules guard.new) self.new) }
-        ensures converges { IfOk result (λ replies. IsUnharmed C.is_clean self.old replies.items self.new → (w : World) → Shows C.holding w (G.rules guard.old) self.old
-            → RowsConverge (⟦<F as Speaking>⟧.language functions.now) (⟦<G as Watching>⟧.closures guard.old) w commands.now replies.items) }
+        ensures was_clean { (has : List ℕ → Bool) → ⟦<F as Speaking>⟧.are_names functions.now has → AreClean C.is_clean self.new → AreClean C.is_clean self.old }
+        ensures stays_clean { IfOk result (λ replies. (has : List ℕ → Bool) → ⟦<F as Speaking>⟧.are_names functions.now has → AreClean C.is_clean self.old → AreAnswered replies.items → AreClean C.is_clean self.new) }
+        ensures runs { IfOk result (λ replies. (has : List ℕ → Bool) → ⟦<F as Speaking>⟧.are_names functions.now has
+            → IsUnharmed C.is_clean self.old replies.items self.new → (w : World) → Shows C.holding w (G.rules guard.old) self.old
+            → Run (⟦<F as Speaking>⟧.language functions.now has) (⟦<G as Watching>⟧.closures guard.old) w commands.now replies.items
+            × Shows C.holding (world_after (⟦<F as Speaking>⟧.language functions.now has) (⟦<G as Watching>⟧.closures guard.old) w commands.now replies.items) (G.rules guard.new) self.new) }
+        ensures converges { IfOk result (λ replies. (has : List ℕ → Bool) → ⟦<F as Speaking>⟧.are_names functions.now has
+            → IsUnharmed C.is_clean self.old replies.items self.new → (w : World) → Shows C.holding w (G.rules guard.old) self.old
+            → RowsConverge (⟦<F as Speaking>⟧.language functions.now has) (⟦<G as Watching>⟧.closures guard.old) w commands.now replies.items) }
         ensures refused { OnErr result (self.new ≡ self.old) }
         ensures closures { ⟦<G as Watching>⟧.closures guard.new ≡ ⟦<G as Watching>⟧.closures guard.old }
         ensures faithful { G.is_faithful guard.new }

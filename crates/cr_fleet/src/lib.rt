@@ -3,5 +3,6 @@
 #![tactic(auto)]
 
 pub mod fleet;
+mod script;
 pub mod session;
 pub mod speaking;

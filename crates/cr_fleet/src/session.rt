@@ -42,15 +42,17 @@ impl<C: Drop> Model for Session<C> {
 }
 
 impl<C: NewCells> Session<C> {
-    ghost use Rattle.std.specs.Prelude.{◌≡◌, ◌≤ℤ◌, pos, true};
+    ghost use Rattle.std.specs.Prelude.{◌≡◌, ◌≤ℤ◌, ℕ, Bool, List, pos, true};
     ghost use Rattle.std.specs.Option.{ForSome};
     ghost use Rattle.cr_cells.specs.Calls.{Reads, is_want, UnlessWant};
     ghost use Rattle.cr_cells.specs.Holding.{IsSound, since, changes_of};
     ghost use Rattle.cr_cells.specs.Marks.{seen_of};
-    ghost use Rattle.cr_world.specs.declared.command.Command.TheVariants.{Define, Take, Rows, Changes};
+    ghost use Rattle.cr_world.specs.declared.command.Command.TheVariants.{Define, Take, Rows, Changes, Sql};
     ghost use Rattle.cr_world.specs.Answers.{IsReady};
     ghost use Rattle.cr_world.specs.Language.{Language};
     ghost use Rattle.cr_world.specs.Statement.{Host};
+    ghost use Rattle.cr_meaning.specs.View.{Ordered};
+    ghost use Rattle.cr_tree.specs.declared.statement.Statement.{Statement};
     ghost use Rattle.cr_fleet.specs.Sessions.{Does, TakesAll, is_own};
 
     /// A session over the store, which may hold something already.
@@ -140,7 +142,7 @@ impl<C: NewCells> Session<C> {
         declaration: &Declaration,
     ) -> FleetReply
         requires { IsReady (Define declaration.now) }
-        ensures { (host : Host) → Does (⟦<F as Speaking>⟧.language functions.now) host C.is_clean C.holding self.old (Define declaration.now) result self.new }
+        ensures { (has : List ℕ → Bool) (host : Host) → Does (⟦<F as Speaking>⟧.language functions.now has) host C.is_clean C.holding self.old (Define declaration.now) result self.new }
     {
         let Declaration::Table(def) = declaration else {
             return FleetReply::Refused(Refusal::OutOfProfile(OutOfProfile::Real));
@@ -153,7 +155,7 @@ impl<C: NewCells> Session<C> {
 
     fn take<G: Guarding>(&mut self, alloc: Global, guard: &G, row: &ChangeRow) -> FleetReply
         requires { G.is_faithful guard.now }
-        ensures { (l : Language (Unit {0}) (Unit {0})) → Does l (⟦<G as Watching>⟧.host guard.now) C.is_clean C.holding self.old (Take row.now) result self.new }
+        ensures { (l : Language Statement Ordered) → Does l (⟦<G as Watching>⟧.host guard.now) C.is_clean C.holding self.old (Take row.now) result self.new }
     {
         let change = match row.change(alloc) {
             Ok(Some(change)) => change,
@@ -164,7 +166,7 @@ impl<C: NewCells> Session<C> {
     }
 
     fn rows(&mut self, alloc: Global, name: &Text) -> FleetReply
-        ensures { (l : Language (Unit {0}) (Unit {0})) (host : Host) → Does l host C.is_clean C.holding self.old (Rows name.now) result self.new }
+        ensures { (l : Language Statement Ordered) (host : Host) → Does l host C.is_clean C.holding self.old (Rows name.now) result self.new }
     {
         match self.replica.rows_of(alloc, name.as_str()) {
             Ok(rows) => FleetReply::Rows(rows),
@@ -173,12 +175,26 @@ impl<C: NewCells> Session<C> {
     }
 
     fn changes(&mut self, alloc: Global, version: &i64) -> FleetReply
-        ensures { (l : Language (Unit {0}) (Unit {0})) (host : Host) → Does l host C.is_clean C.holding self.old (Changes version.now) result self.new }
+        ensures { (l : Language Statement Ordered) (host : Host) → Does l host C.is_clean C.holding self.old (Changes version.now) result self.new }
     {
         match self.replica.changes_since(alloc, *version) {
             Ok(cells) => FleetReply::Changes(Items::new(cells)),
             Err(error) => FleetReply::Refused(Refusal::from(error)),
         }
+    }
+
+    fn sql<F: Functions, G: Guarding>(
+        &mut self,
+        alloc: Global,
+        functions: &F,
+        guard: &G,
+        source: &Text,
+    ) -> FleetReply
+        requires { G.is_faithful guard.now }
+        ensures { (has : List ℕ → Bool) → ⟦<F as Speaking>⟧.are_names functions.now has
+            → Does (⟦<F as Speaking>⟧.language functions.now has) (⟦<G as Watching>⟧.host guard.now) C.is_clean C.holding self.old (Sql source.now) result self.new }
+    {
+        FleetReply::Script(self.script(alloc, functions, guard, source.as_str()))
     }
 
     /// Carries out a command that looks at no other replica.
@@ -192,19 +208,20 @@ impl<C: NewCells> Session<C> {
         requires faithful { G.is_faithful guard.now }
         requires ready { IsReady command.now }
         requires own { is_own command.now ≡ true }
-        ensures { Does (⟦<F as Speaking>⟧.language functions.now) (⟦<G as Watching>⟧.host guard.now) C.is_clean C.holding self.old command.now result self.new }
+        ensures { (has : List ℕ → Bool) → ⟦<F as Speaking>⟧.are_names functions.now has
+            → Does (⟦<F as Speaking>⟧.language functions.now has) (⟦<G as Watching>⟧.host guard.now) C.is_clean C.holding self.old command.now result self.new }
     {
         match command {
             Command::Define(declaration) => self.define(alloc, functions, declaration),
             Command::Take(row) => self.take(alloc, guard, row),
             Command::Rows(name) => self.rows(alloc, name),
             Command::Changes(version) => self.changes(alloc, version),
+            Command::Sql(source) => self.sql(alloc, functions, guard, source),
             Command::Open(_, _)
             | Command::Use(_)
             | Command::Pull(_)
             | Command::PullSince(_)
-            | Command::Policy(_)
-            | Command::Sql(_) => FleetReply::Refused(Refusal::Command),
+            | Command::Policy(_) => FleetReply::Refused(Refusal::Command),
         }
     }
 }

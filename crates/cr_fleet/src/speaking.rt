@@ -5,17 +5,25 @@ use cr_host::functions::Functions;
 
 /// Functions and collations, with the language that statements are in with them.
 pub trait Speaking: Functions {
+    ghost use Rattle.std.specs.Prelude.{ℕ, Bool, List};
+    ghost use Rattle.cr_tree.specs.declared.statement.Statement.{Statement};
+    ghost use Rattle.cr_meaning.specs.View.{Ordered};
     ghost use Rattle.cr_world.specs.Language.{Language};
 
-    /// The language.
-    ghost language: { Self → Language (Unit {0}) (Unit {0}) };
+    /// These are the names of functions.
+    ghost are_names: { Self → (List ℕ → Bool) → Type 0 };
+
+    /// The language, where these are the names of functions.
+    ghost language: { Self → (List ℕ → Bool) → Language Statement Ordered };
 }
 
 impl<F: Functions> Speaking for F {
-    ghost use Rattle.std.specs.Option.{is_some};
-    ghost use Rattle.cr_fleet.specs.Speaking.{quiet};
+    ghost use Rattle.cr_language.specs.Engines.{AreNames};
+    ghost use Rattle.cr_fleet.specs.Speaking.{spoken};
 
-    ghost language = { λ f. quiet (λ name. is_some (F.order_of f name)) };
+    ghost are_names = { λ f has. AreNames (F.function_of f) has };
+
+    ghost language = { λ f has. spoken (F.function_of f) (F.scalar f) (F.step f) (F.finish f) (F.order_of f) (F.orders_total f) has };
 }
 
 /// Authorizer, policy and commit hook, with what they answer.

@@ -1,4 +1,4 @@
-use Rattle.std.proofs.Common.{rules, ◌≡◌, ◌<◌, ℕ, true, false, Option, List, Some, None, sym, ap, subst, ◌∙◌, refl, length, map, position, slice_get, slice_set, arith}
+use Rattle.std.proofs.Common.{rules, ◌≡◌, ◌<◌, ℕ, false, Option, Some, None, sym, ap, subst, ◌∙◌, refl, length, map, position, slice_get, slice_set, arith}
 use Rattle.std.proofs.lemmas.List.{length-set}
 use Rattle.std.proofs.lemmas.Option.{slice_get-get_or}
 use Rattle.cr_lattice.specs.Check.{same_bytes}

@@ -1,33 +1,35 @@
-use Rattle.std.proofs.Common.{rules, ◌≡◌, ◌++◌, List, [], ◌∷◌, sym, ap, subst, ◌∙◌, arith, take, get_or}
-use Rattle.std.specs.Option.{is_some}
+use Rattle.std.proofs.Common.{rules, ◌≡◌, ◌++◌, List, [], ◌∷◌, ap, subst, ◌∙◌, arith, take, get_or}
 use Rattle.std.proofs.lemmas.List.{take_more, take_all}
 use Rattle.cr_world.specs.declared.command.Command.{Command}
 use Rattle.cr_world.specs.World.{Closures}
-use Rattle.cr_world.specs.Run.{Run}
+use Rattle.cr_world.specs.Run.{Run, world_after}
 use Rattle.cr_world.proofs.Running.{rows_converge}
 use Rattle.cr_world.specs.Language.{Language}
-use Rattle.cr_fleet.specs.Fleets.{Steps}
+use Rattle.cr_fleet.specs.Fleets.{Steps, Shows}
 use Rattle.cr_fleet.specs.Sessions.{closures}
-use Rattle.cr_fleet.specs.Speaking.{quiet}
+use Rattle.cr_tree.specs.declared.statement.Statement.{Statement}
+use Rattle.cr_meaning.specs.View.{Ordered}
+use Rattle.cr_fleet.specs.Speaking.{spoken}
 use Rattle.cr_fleet.proofs.Running.{goes_on, clean_after_run, answered_more}
 use Rattle.cr_fleet.proofs.fleet.Fleet.run.Goals as goal
 
 pub loop-command-preserved : goal.loop-command-preserved
 loop-command-preserved g c =
-    let l : Language (Unit {0}) (Unit {0}) = quiet (λ name. is_some (g.F.Functions.order_of c.args.functions.now name)) in
     let k : Closures = closures (g.G.Guarding.allows c.args.guard.now) (g.G.Guarding.refuses c.args.guard.now) in
     let told : c.push.new.self.items ≡ c.loop-command.replies.items ++ c.step-reply.result ∷ [] = search rules in
     let item : get_or c.args.commands.now c.loop-command.command-index c.command-item.result ≡ c.command-item.result = search rules in
     let i = c.loop-command.invariant in
     let s = c.step-reply.ensures in
     record {
-      clean = λ clean. i.clean (s.steps.was_clean clean);
-      stays_clean = λ clean answered.
+      clean = λ has names clean. i.clean has names ((s.steps has names).was_clean clean);
+      stays_clean = λ has names clean answered.
           let both = answered_more c.loop-command.replies.items c.push.new.self.items c.step-reply.result told answered in
-          s.steps.stays_clean (i.stays_clean clean both.0) both.1;
-      ran = goes_on l k g.C.Cells.is_clean g.C.Cells.holding _ _ _ _ c.loop-command.self c.step-reply.new.self _ _ _ _ _ c.step-reply.result
-          (take_more c.args.commands.now c.loop-command.command-index c.command-item.result c.loop-command-test.true ∙ ap (λ (x : Command). take c.loop-command.command-index c.args.commands.now ++ x ∷ []) item) told i.ran
-          (subst (λ (x : Closures). Steps l x g.C.Cells.is_clean g.C.Cells.holding (g.G.Guarding.rules c.loop-command.guard) c.loop-command.self c.command-item.result c.step-reply.result (g.G.Guarding.rules c.step-reply.new.guard) c.step-reply.new.self) i.closures s.steps);
+          (s.steps has names).stays_clean (i.stays_clean has names clean both.0) both.1;
+      ran = λ has names.
+          let l : Language Statement Ordered = spoken (g.F.Functions.function_of c.args.functions.now) (g.F.Functions.scalar c.args.functions.now) (g.F.Functions.step c.args.functions.now) (g.F.Functions.finish c.args.functions.now) (g.F.Functions.order_of c.args.functions.now) (g.F.Functions.orders_total c.args.functions.now) has in
+          goes_on l k g.C.Cells.is_clean g.C.Cells.holding _ _ _ _ c.loop-command.self c.step-reply.new.self _ _ _ _ _ c.step-reply.result
+          (take_more c.args.commands.now c.loop-command.command-index c.command-item.result c.loop-command-test.true ∙ ap (λ (x : Command). take c.loop-command.command-index c.args.commands.now ++ x ∷ []) item) told (i.ran has names)
+          (subst (λ (x : Closures). Steps l x g.C.Cells.is_clean g.C.Cells.holding (g.G.Guarding.rules c.loop-command.guard) c.loop-command.self c.command-item.result c.step-reply.result (g.G.Guarding.rules c.step-reply.new.guard) c.step-reply.new.self) i.closures (s.steps has names));
       closures = s.closures ∙ i.closures;
       faithful = s.faithful;
       count = search rules;
@@ -35,9 +37,18 @@ loop-command-preserved g c =
     }
 
 pub returns-clause-converges : goal.returns-clause-converges
-returns-clause-converges g c = λ harm w s.
-    let l : Language (Unit {0}) (Unit {0}) = quiet (λ name. is_some (g.F.Functions.order_of c.args.functions.now name)) in
+returns-clause-converges g c = λ has names harm w s.
+    let l : Language Statement Ordered = spoken (g.F.Functions.function_of c.args.functions.now) (g.F.Functions.scalar c.args.functions.now) (g.F.Functions.step c.args.functions.now) (g.F.Functions.finish c.args.functions.now) (g.F.Functions.order_of c.args.functions.now) (g.F.Functions.orders_total c.args.functions.now) has in
     let k : Closures = closures (g.G.Guarding.allows c.args.guard.now) (g.G.Guarding.refuses c.args.guard.now) in
     let all : take c.loop-command.command-index c.args.commands.now ≡ c.args.commands.now = take_all _ _ (omega arith) in
-    let clean = clean_after_run g.C.Cells.is_clean c.args.self.now c.loop-command.self c.loop-command.replies.items c.loop-command.invariant.stays_clean harm in
-    rows_converge l k w _ _ (subst (λ (x : List Command). Run l k w x c.loop-command.replies.items) all (c.loop-command.invariant.ran clean w s).0)
+    let clean = clean_after_run g.C.Cells.is_clean c.args.self.now c.loop-command.self c.loop-command.replies.items (c.loop-command.invariant.stays_clean has names) harm in
+    rows_converge l k w _ _ (subst (λ (x : List Command). Run l k w x c.loop-command.replies.items) all (c.loop-command.invariant.ran has names clean w s).0)
+
+pub returns-clause-runs : goal.returns-clause-runs
+returns-clause-runs g c = λ has names harm w s.
+    let l : Language Statement Ordered = spoken (g.F.Functions.function_of c.args.functions.now) (g.F.Functions.scalar c.args.functions.now) (g.F.Functions.step c.args.functions.now) (g.F.Functions.finish c.args.functions.now) (g.F.Functions.order_of c.args.functions.now) (g.F.Functions.orders_total c.args.functions.now) has in
+    let k : Closures = closures (g.G.Guarding.allows c.args.guard.now) (g.G.Guarding.refuses c.args.guard.now) in
+    let all : take c.loop-command.command-index c.args.commands.now ≡ c.args.commands.now = take_all _ _ (omega arith) in
+    let clean = clean_after_run g.C.Cells.is_clean c.args.self.now c.loop-command.self c.loop-command.replies.items (c.loop-command.invariant.stays_clean has names) harm in
+    subst (λ (x : List Command). Run l k w x c.loop-command.replies.items × Shows g.C.Cells.holding (world_after l k w x c.loop-command.replies.items) (g.G.Guarding.rules c.loop-command.guard) c.loop-command.self) all
+    (c.loop-command.invariant.ran has names clean w s)

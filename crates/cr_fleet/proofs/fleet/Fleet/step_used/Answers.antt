@@ -4,11 +4,12 @@ use Rattle.cr_fleet.proofs.Stepping.{pair_at, viewed, own_steps}
 use Rattle.cr_fleet.proofs.fleet.Fleet.step_used.Goals as goal
 
 pub returns : goal.returns
-returns g c =
+returns g c = λ has names.
+    let stepped = c.step.ensures has names in
     let replicas = c.self.inside.replicas in
     let within : c.in-Some.at < length replicas.items = (let h = c.in-Some-get_mut.ensures.variant.0 refl in let n = replicas.ok.0 in omega arith) in
     let at : slice_get replicas.items c.in-Some.at ≡ Some c.in-Some-get_mut.named.now = slice_get-get_or replicas.items c.in-Some.at c.in-Some-get_mut.named.now within ∙ ap Some (sym c.in-Some-get_mut.ensures.value) in
     let paired = pair_at replicas.items c.in-Some.at c.in-Some-get_mut.named.now at in
     let place : c.self.inside.in_use ≡ Some c.in-Some.at = search rules in
     rw (← c.self.view_is) (viewed _ _ g.C.Cells.is_clean g.C.Cells.holding _ replicas.items c.self.inside.in_use c.in-Some.at _ _ _
-    (own_steps _ _ g.C.Cells.is_clean g.C.Cells.holding _ _ c.in-Some.at _ _ place paired c.step.ensures.was_clean c.args.command.now c.step.result c.requires.own refl c.step.ensures))
+    (own_steps _ _ g.C.Cells.is_clean g.C.Cells.holding _ _ c.in-Some.at _ _ place paired stepped.was_clean c.args.command.now c.step.result c.requires.own refl stepped))
