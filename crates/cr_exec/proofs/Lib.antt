@@ -5,4 +5,5 @@ pub mod Tested
 pub mod Tails
 pub mod Sorted
 pub mod Orders
-pub mod Grouped
+pub mod ByClass
+pub mod Selected

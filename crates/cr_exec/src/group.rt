@@ -47,7 +47,7 @@ fn has<F: Functions>(
 }
 
 // Puts what a group shows behind others, if it has what HAVING asks.
-fn judge<F: Functions>(
+pub(crate) fn judge<F: Functions>(
     alloc: Global,
     out: &mut Vec<Shown>,
     having: &Option<Expr>,
@@ -169,7 +169,7 @@ pub fn classes<F: Functions>(
 }
 
 // Copies of the combinations of a class.
-fn members<F: Functions>(
+pub(crate) fn members<F: Functions>(
     alloc: Global,
     keyed: &[Keyed<'_>],
     class: &[Value],

@@ -1,13 +1,15 @@
-//! Stages of selects over resolved statements: the rows of a table on which terms are true, what they show, and which of
-//! that stands in the answer.
+//! Selects over resolved statements and lists of rows: the combinations of tables on which terms are true, groups, what they
+//! show, and which of that stands in the answer, in which order.
 #![tactic(auto)]
 
 pub mod compare;
 pub mod distinct;
 pub mod group;
+pub mod grouped;
 pub mod join;
 pub mod order;
 mod push;
+pub mod select;
 pub mod show;
 pub mod terms;
 pub mod value;

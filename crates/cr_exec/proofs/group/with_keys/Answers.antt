@@ -5,7 +5,7 @@ use Rattle.cr_bags.specs.Bags.{each, single}
 use Rattle.cr_exec.specs.Answers.{Faults}
 use Rattle.cr_exec.specs.Groups.{keyed_by, pair_of}
 use Rattle.cr_exec.proofs.Loops.{gather_next, gather_fails, one_behind, none_single}
-use Rattle.cr_exec.proofs.Grouped.{keyed_both, keyed_fault}
+use Rattle.cr_exec.proofs.ByClass.{keyed_both, keyed_fault}
 use Rattle.cr_exec.proofs.group.with_keys.Goals as goal
 
 pub returns-in_err-key : goal.returns-in_err-key

@@ -1,0 +1,73 @@
+-- From the stages of a query to its answer.
+use Rattle.std.proofs.Common.{◌≡◌, ◌∙◌, ℕ, Bool, true, false, cond, List, [], map, Option, Some, None, option_map, Result, refl, sym, ap}
+use Rattle.std.specs.Option.{option_and_then}
+use Rattle.std.specs.Borrow.{Bor}
+use Rattle.cr_value.specs.declared.value.Value.{Value}
+use Rattle.cr_scalar.specs.Host.{Host}
+use Rattle.cr_term.specs.declared.expr.Expr.{Expr}
+use Rattle.cr_term.specs.declared.query.Query.{Query as Resolved}
+use Rattle.cr_expr.specs.Eval.{eval_of}
+use Rattle.cr_bags.specs.Bags.{gather, each, single}
+use Rattle.cr_query.specs.declared.fault.Fault.{Fault}
+use Rattle.cr_query.specs.Queries.{Shown}
+use Rattle.cr_query.specs.Query.{Row, Meaning, groups, has, pair, shows, shown, shown_groups, joined, finished, answer}
+use Rattle.cr_query.proofs.PlanLaws.{gather-map}
+use Rattle.cr_meaning.specs.View.{Ordered, plain, group_term, result_term, order_term, query}
+use Rattle.cr_meaning.specs.Meaning.{value_of, at_row, at_group, limit_of, meaning}
+use Rattle.cr_exec.specs.Answers.{Stage, Faults, IsBoth, Answers}
+use Rattle.cr_exec.specs.Groups.{result_expr, order_expr, shows_by, judged_by}
+use Rattle.cr_exec.specs.Scopes.{there}
+use Rattle.cr_exec.proofs.Stages.{faults_on, faults_after, both_after}
+use Rattle.cr_exec.proofs.ByClass.{answers_on}
+
+module _ (host : Host) (params : List Value) (q : Resolved) where
+  module _ (results keys : List (Bor Expr)) (results_are : map there results ≡ map result_expr q.results) (keys_are : map there keys ≡ map order_expr q.order) where
+    -- what is shown, where a value looks at the expression alone
+    shows_same : (most : Option ℕ) (F : Expr → Option Value) → shows_by (λ e. F e.expr) results keys ≡ shows (meaning most host params) (query q) (λ e. F e.expr)
+    shows_same most F =
+        let f : Ordered → Option Value = λ e. F e.expr in
+        let a : each f (map there results) ≡ each f (map result_term q.results) = ap (each f) results_are ∙ gather-map result_expr (λ e. option_map single (f e)) q.results ∙ sym (gather-map result_term (λ e. option_map single (f e)) q.results) in
+        let b : each f (map there keys) ≡ each (λ t. f t.expr) (map order_term q.order) = ap (each f) keys_are ∙ gather-map order_expr (λ e. option_map single (f e)) q.order ∙ sym (gather-map order_term (λ t. option_map single (f t.expr)) q.order) in
+        λ i. pair (a i) (b i)
+
+    grouped_is : q.is_grouped ≡ true → (cs : List Row) (most : Option ℕ) → option_and_then (gather (λ g. judged_by (meaning most host params) (λ e. (meaning most host params).over e g) q.having results keys)) (groups (meaning most host params) (map group_term q.groups) cs) ≡ shown (meaning most host params) (query q) cs
+    grouped_is yes_grouped cs most =
+        let m = meaning most host params in
+        (λ i. option_and_then (gather (λ g. option_and_then (λ b. cond b (option_map single (shows_same most (λ x. value_of (eval_of (at_group most host params g) x)) i)) (Some [])) (has m (option_map plain q.having) (λ e. m.over e g)))) (groups m (map group_term q.groups) cs))
+        ∙ sym (ap (λ b. cond b (shown_groups m (query q) cs) (each (λ c. shows m (query q) (λ e. m.value e c)) cs)) yes_grouped)
+
+    plain_is : q.is_grouped ≡ false → (cs : List Row) (most : Option ℕ) → each (λ c. shows_by (λ e. (meaning most host params).value e c) results keys) cs ≡ shown (meaning most host params) (query q) cs
+    plain_is not_grouped cs most =
+        let m = meaning most host params in
+        (λ i. each (λ c. shows_same most (λ x. value_of (eval_of (at_row (limit_of most x) host params c) x)) i) cs)
+        ∙ sym (ap (λ b. cond b (shown_groups m (query q) cs) (each (λ c. shows m (query q) (λ e. m.value e c)) cs)) not_grouped)
+
+    pub grouped_shown : {X : Type 0} (view : X → List Shown) → q.is_grouped ≡ true → (cs : List Row) (r : Result X Fault)
+        → Answers host params r view (λ m. option_and_then (gather (λ g. judged_by m (λ e. m.over e g) q.having results keys)) (groups m (map group_term q.groups) cs)) → Answers host params r view (λ m. shown m (query q) cs)
+    grouped_shown view is cs r h = answers_on host params (λ m. option_and_then (gather (λ g. judged_by m (λ e. m.over e g) q.having results keys)) (groups m (map group_term q.groups) cs)) (λ m. shown m (query q) cs) view (grouped_is is cs) r h
+
+    pub plain_shown : {X : Type 0} (view : X → List Shown) → q.is_grouped ≡ false → (cs : List Row) (r : Result X Fault)
+        → Answers host params r view (λ m. each (λ c. shows_by (λ e. m.value e c) results keys) cs) → Answers host params r view (λ m. shown m (query q) cs)
+    plain_shown view is cs r h = answers_on host params (λ m. each (λ c. shows_by (λ e. m.value e c) results keys) cs) (λ m. shown m (query q) cs) view (plain_is is cs) r h
+
+  -- ---- the answer
+
+  module _ (tables : List (List Row)) where
+    pub answer_joined_fault : (e : Fault) → Faults host params (λ m. joined m (query q) tables) e → Faults host params (λ m. answer m (query q) tables) e
+    answer_joined_fault e h =
+        faults_on host params (λ m. joined m (query q) tables) (λ m. answer m (query q) tables) e
+        (λ most k. ap (λ o. option_map (finished (meaning most host params) (query q)) (option_and_then (shown (meaning most host params) (query q)) o)) k) h
+
+    pub answer_shown_fault : (cs ds : List Row) (e : Fault) → ds ≡ cs → IsBoth host params (λ m. joined m (query q) tables) cs → Faults host params (λ m. shown m (query q) ds) e → Faults host params (λ m. answer m (query q) tables) e
+    answer_shown_fault cs ds e is b h =
+        faults_after host params (λ m. joined m (query q) tables) cs (λ m. shown m (query q) ds) (λ m. answer m (query q) tables) e
+        (λ most j k. ap (λ o. option_map (finished (meaning most host params) (query q)) (option_and_then (shown (meaning most host params) (query q)) o)) j
+        ∙ ap (λ l. option_map (finished (meaning most host params) (query q)) (shown (meaning most host params) (query q) l)) (sym is) ∙ ap (option_map (finished (meaning most host params) (query q))) k) b h
+
+    pub answer_both : (cs ds : List Row) (sh : List Shown) (rows : List Row) → ds ≡ cs → IsBoth host params (λ m. joined m (query q) tables) cs → IsBoth host params (λ m. shown m (query q) ds) sh
+        → ((most : Option ℕ) (ps : List Value) → rows ≡ finished (meaning most host ps) (query q) sh) → IsBoth host params (λ m. answer m (query q) tables) rows
+    answer_both cs ds sh rows is b h last =
+        both_after host params (λ m. joined m (query q) tables) cs (λ m. shown m (query q) ds) sh (λ m. answer m (query q) tables) rows
+        (λ most j k. ap (λ o. option_map (finished (meaning most host params) (query q)) (option_and_then (shown (meaning most host params) (query q)) o)) j
+        ∙ ap (λ l. option_map (finished (meaning most host params) (query q)) (shown (meaning most host params) (query q) l)) (sym is) ∙ ap (option_map (finished (meaning most host params) (query q))) k
+        ∙ ap (λ (l : List Row). Some l) (sym (last most params))) b h

@@ -1,0 +1,7 @@
+use Rattle.std.proofs.Common.{◌≡◌, take, map}
+use Rattle.cr_exec.specs.Groups.{order_expr}
+use Rattle.cr_exec.specs.Scopes.{there}
+use Rattle.cr_exec.proofs.select.exprs_of_order.Given as goal
+
+abbrev pub invariant-loop-term : goal.invariant-loop-term
+invariant-loop-term l = map there l.exprs.items ≡ map order_expr (take l.term-index l.terms)
