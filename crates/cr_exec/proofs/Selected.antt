@@ -1,5 +1,5 @@
 -- From the stages of a query to its answer.
-use Rattle.std.proofs.Common.{◌≡◌, ◌∙◌, ℕ, Bool, true, false, cond, List, [], map, Option, Some, None, option_map, Result, refl, sym, ap}
+use Rattle.std.proofs.Common.{◌≡◌, ◌∙◌, ℕ, true, false, cond, List, [], map, Option, Some, option_map, Result, sym, ap}
 use Rattle.std.specs.Option.{option_and_then}
 use Rattle.std.specs.Borrow.{Bor}
 use Rattle.cr_value.specs.declared.value.Value.{Value}
@@ -10,11 +10,11 @@ use Rattle.cr_expr.specs.Eval.{eval_of}
 use Rattle.cr_bags.specs.Bags.{gather, each, single}
 use Rattle.cr_query.specs.declared.fault.Fault.{Fault}
 use Rattle.cr_query.specs.Queries.{Shown}
-use Rattle.cr_query.specs.Query.{Row, Meaning, groups, has, pair, shows, shown, shown_groups, joined, finished, answer}
+use Rattle.cr_query.specs.Query.{Row, groups, has, pair, shows, shown, shown_groups, joined, finished, answer}
 use Rattle.cr_query.proofs.PlanLaws.{gather-map}
 use Rattle.cr_meaning.specs.View.{Ordered, plain, group_term, result_term, order_term, query}
 use Rattle.cr_meaning.specs.Meaning.{value_of, at_row, at_group, limit_of, meaning}
-use Rattle.cr_exec.specs.Answers.{Stage, Faults, IsBoth, Answers}
+use Rattle.cr_exec.specs.Answers.{Faults, IsBoth, Answers}
 use Rattle.cr_exec.specs.Groups.{result_expr, order_expr, shows_by, judged_by}
 use Rattle.cr_exec.specs.Scopes.{there}
 use Rattle.cr_exec.proofs.Stages.{faults_on, faults_after, both_after}

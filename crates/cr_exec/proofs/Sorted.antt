@@ -2,7 +2,7 @@
 use Rattle.std.proofs.Common.{◌≡◌, ◌∙◌, ℕ, zero, suc, ◌+◌, ◌<◌, Bool, true, false, not, ◌||◌, ◌&&◌, cond, List, [], ◌∷◌, ◌++◌, length, map, take, drop, get_or, add-one, append_assoc, append-nil, refl, sym, ap, Ordering, Less, Equal, Greater}
 use Rattle.std.specs.Prelude.{filter}
 use Rattle.std.specs.List.{list_any}
-use Rattle.std.specs.Ordering.{is_eq, is_ne, ordering_reverse, ordering_then, match_ordering, then_cmp, on}
+use Rattle.std.specs.Ordering.{is_eq, is_ne, ordering_reverse, ordering_then, match_ordering, on}
 use Rattle.std.specs.Cmp.{IsTotalOrder}
 use Rattle.std.proofs.lemmas.Cmp.{on_total, then_total}
 use Rattle.cr_value.specs.declared.value.Value.{Value}

@@ -1,5 +1,5 @@
 -- What groups show, as queries speak of them.
-use Rattle.std.specs.Prelude.{Bool, List, [], map, filter, cond, Option, Some, option_map}
+use Rattle.std.specs.Prelude.{List, [], map, filter, cond, Option, Some, option_map}
 use Rattle.std.specs.Option.{option_and_then}
 use Rattle.std.specs.Borrow.{Bor}
 use Rattle.cr_value.specs.declared.value.Value.{Value}

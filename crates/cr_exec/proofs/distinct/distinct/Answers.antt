@@ -1,13 +1,6 @@
-use Rattle.std.proofs.Common.{◌≡◌, ◌∙◌, ap, map, ℕ, List, Option}
-use Rattle.cr_bags.specs.Bags.{firsts}
-use Rattle.cr_value.specs.declared.value.Value.{Value}
+use Rattle.std.proofs.Common.{◌∙◌, ap, map}
 use Rattle.cr_scalar.specs.Host.{host}
-use Rattle.cr_query.specs.Query.{distinct}
-use Rattle.cr_meaning.specs.View.{result_term}
-use Rattle.cr_meaning.specs.Meaning.{meaning}
-use Rattle.cr_exec.specs.declared.show.Shown.{Shown}
 use Rattle.cr_exec.specs.Comparisons.{held_order}
-use Rattle.cr_exec.specs.Shows.{shown_of, shown_ties}
 use Rattle.cr_exec.proofs.Orders.{of_ok, distinct_is}
 use Rattle.cr_exec.proofs.distinct.distinct.Goals as goal
 

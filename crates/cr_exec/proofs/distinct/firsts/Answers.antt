@@ -1,4 +1,4 @@
-use Rattle.std.proofs.Common.{◌≡◌, ◌∙◌, sym, List, Bool, map, map-id, rules}
+use Rattle.std.proofs.Common.{◌≡◌, ◌∙◌, sym, map, map-id, rules}
 use Rattle.std.specs.Ordering.{on}
 use Rattle.std.proofs.lemmas.Cmp.{on_total}
 use Rattle.std.proofs.lemmas.Iterator.Consumers.{YieldsList-end}

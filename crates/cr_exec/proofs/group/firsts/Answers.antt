@@ -1,9 +1,6 @@
-use Rattle.std.proofs.Common.{◌≡◌, ◌∙◌, sym, List, Bool, map, map-id, rules}
-use Rattle.std.specs.Ordering.{on}
-use Rattle.std.proofs.lemmas.Cmp.{on_total}
+use Rattle.std.proofs.Common.{◌≡◌, ◌∙◌, sym, map, map-id, rules}
 use Rattle.std.proofs.lemmas.Iterator.Consumers.{YieldsList-end}
 use Rattle.std.proofs.lemmas.Iterator.Adapters.{YieldsList-from_vec}
-use Rattle.cr_query.specs.Query.{Row}
 use Rattle.cr_exec.specs.Comparisons.{by_orders, held_order}
 use Rattle.cr_exec.specs.Shows.{ties_by}
 use Rattle.cr_exec.proofs.Sorted.{held_total, ties_on, firsts_start, firsts_next, firsts_pass, firsts_end}

@@ -1,4 +1,4 @@
-use Rattle.std.proofs.Common.{◌∙◌, ap, map, option_map, [], ◌∷◌, rules}
+use Rattle.std.proofs.Common.{◌∙◌, ap, map, option_map, rules}
 use Rattle.std.proofs.lemmas.List.{map-append}
 use Rattle.cr_scalar.specs.Host.{host}
 use Rattle.cr_bags.specs.Bags.{each, single}

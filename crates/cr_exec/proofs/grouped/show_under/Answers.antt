@@ -1,12 +1,11 @@
 use Rattle.std.proofs.Common.{◌∙◌, ap, sym, subst, map, rules}
 use Rattle.cr_scalar.specs.Host.{host}
-use Rattle.cr_bags.specs.Bags.{each, firsts, sort}
-use Rattle.cr_query.specs.Query.{row_cmp}
+use Rattle.cr_bags.specs.Bags.{each}
 use Rattle.cr_exec.specs.Answers.{Faults, IsBoth}
 use Rattle.cr_exec.specs.Comparisons.{held_order}
-use Rattle.cr_exec.specs.Groups.{keyed_by, pair_of, key_of}
+use Rattle.cr_exec.specs.Groups.{keyed_by, pair_of}
 use Rattle.cr_exec.specs.Scopes.{there}
-use Rattle.cr_exec.specs.Shows.{shown_of, ties_by}
+use Rattle.cr_exec.specs.Shows.{shown_of}
 use Rattle.cr_exec.proofs.ByClass.{grouped_by, under_fault, under_answers}
 use Rattle.cr_exec.proofs.grouped.show_under.Goals as goal
 

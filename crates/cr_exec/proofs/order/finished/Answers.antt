@@ -1,4 +1,4 @@
-use Rattle.std.proofs.Common.{◌≡◌, ◌∙◌, ap, map, ℕ, List, Option}
+use Rattle.std.proofs.Common.{◌∙◌, ap, map}
 use Rattle.cr_scalar.specs.Host.{host}
 use Rattle.cr_exec.specs.Comparisons.{held_order, term_order}
 use Rattle.cr_exec.proofs.Orders.{of_ok, finished_is}

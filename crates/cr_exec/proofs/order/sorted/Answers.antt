@@ -1,8 +1,6 @@
-use Rattle.std.proofs.Common.{◌∙◌, ap, map, rules}
+use Rattle.std.proofs.Common.{◌∙◌, map, rules}
 use Rattle.std.specs.Ordering.{on}
-use Rattle.cr_bags.specs.Bags.{sort}
 use Rattle.cr_bags.proofs.SortLaws.{sorted_by_closure}
-use Rattle.cr_query.specs.Query.{shown_row}
 use Rattle.cr_exec.specs.Comparisons.{held_order}
 use Rattle.cr_exec.specs.Shows.{shown_of, row_of, keyed_cmp}
 use Rattle.cr_exec.proofs.Sorted.{held_total}

@@ -5,7 +5,7 @@ use Rattle.cr_query.proofs.PlanLaws.{gather-map}
 use Rattle.cr_meaning.specs.Meaning.{meaning}
 use Rattle.cr_exec.specs.Answers.{Faults}
 use Rattle.cr_exec.specs.Scopes.{in_scope, there}
-use Rattle.cr_exec.proofs.Loops.{starts, gather_next, gather_fails, gather_ends, one_behind, none_single}
+use Rattle.cr_exec.proofs.Loops.{starts, gather_next, gather_fails, one_behind, none_single}
 use Rattle.cr_exec.proofs.value.values_in.Goals as goal
 
 pub loop-expr-init : goal.loop-expr-init
