@@ -1,28 +1,16 @@
 -- The first question that is denied, of questions one after another.
-use Rattle.std.proofs.Common.{◌≡◌, ◌∙◌, ℕ, ◌+◌, ◌<◌, Bool, List, [], ◌++◌, ◌⊎◌, inl, inr, length, map, drop, get_or, Option, Some, None, refl, ap, sym}
-use Rattle.std.proofs.lemmas.List.{append-nil}
-use Rattle.std.specs.Option.{option_map, option_or, option_to_list}
-use Rattle.std.specs.List.{flat_map}
-use Rattle.std.proofs.lemmas.List.Folds.{find-append, flat_map-map}
-use Rattle.cr_term.specs.declared.expr.When.{When}
-use Rattle.cr_term.specs.declared.operator.Meeting.{Meeting}
-use Rattle.cr_term.specs.declared.operator.Arithmetic.{Arithmetic as Operator}
-use Rattle.cr_term.specs.declared.operator.Logic.{Logic as Junction}
-use Rattle.cr_term.specs.declared.operator.Comparison.{Comparison}
-use Rattle.cr_term.specs.declared.operator.BuiltIn.{BuiltIn as Own}
-use Rattle.cr_term.specs.declared.operator.Aggregate.{Aggregate as Kind}
-use Rattle.cr_term.specs.declared.expr.Expr.{Expr, out-Expr, map-Expr, out-roll-Expr}
-use Rattle.cr_term.specs.declared.expr.Expr as e
-use Rattle.cr_term.specs.declared.expr.Expr.TheVariants.{rolls-In, rolls-Between, rolls-Case, rolls-BuiltIn, rolls-Host, rolls-Aggregate, rolls-Arithmetic, rolls-Join, rolls-Like, rolls-Logic, rolls-Compare}
-use Rattle.cr_term.specs.declared.expr.Expr.TheOpen.{Expr-F, When-F, Literal, Param, Column, Shown, Unary, Arithmetic, Join, Like, Logic, Compare, Collate, Cast, In, Between, Case, BuiltIn, Host, Aggregate, SiteId, DbVersion}
+use Rattle.std.proofs.Common.{◌≡◌, ◌∙◌, List, [], ◌++◌, Option, refl, ap, sym}
+use Rattle.std.specs.Option.{option_or, option_to_list}
+use Rattle.std.proofs.lemmas.List.Folds.{find-append}
+use Rattle.cr_term.specs.declared.expr.Expr.{Expr, out-Expr, map-Expr}
+use Rattle.cr_term.specs.declared.expr.Expr.TheOpen.{Expr-F, Literal, Param, Column, Shown, Unary, Arithmetic, Join, Like, Logic, Compare, Collate, Cast, In, Between, Case, BuiltIn, Host, Aggregate, SiteId, DbVersion}
 use Rattle.cr_term.specs.declared.expr.Expr.TheFolds.{fold-When, fold_out-Expr}
 use Rattle.cr_term.specs.declared.query.Relation.{Relation}
-use Rattle.cr_term.specs.Parts.{parts, arm, if_any}
+use Rattle.cr_term.specs.Parts.{arm}
 use Rattle.cr_questions.specs.declared.question.Question.{Question}
-use Rattle.cr_questions.specs.Questions.{Answers, denied, first_denied, question_of, questions_node, asked, asked_all}
-use Rattle.cr_questions.specs.Asked.{own_question, part_questions, arm_questions, or_first_denied}
+use Rattle.cr_questions.specs.Questions.{Answers, denied, first_denied, question_of, questions_node, asked}
+use Rattle.cr_questions.specs.Asked.{own_question, part_questions, or_first_denied}
 use Rattle.cr_questions.proofs.Firsts.{or_assoc, or_none}
-use Rattle.cr_questions.proofs.Folds.{arms_fold, rest_at}
 
 pub denied_append : (answers : Answers) (xs ys : List Question) → first_denied answers (xs ++ ys) ≡ option_or (first_denied answers xs) (first_denied answers ys)
 denied_append answers xs ys = find-append (denied answers) xs ys

@@ -3,3 +3,5 @@ pub mod Firsts
 pub mod Columns
 pub mod Collected
 pub mod Denials
+pub mod Wholes
+pub mod Selects

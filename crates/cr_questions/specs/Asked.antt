@@ -1,18 +1,22 @@
 -- Questions as they are asked, of texts and tables that stand elsewhere.
-use Rattle.std.specs.Prelude.{Bool, ◌||◌, List, [], ◌∷◌, ◌++◌, map, Option}
+use Rattle.std.specs.Prelude.{Bool, true, false, ◌||◌, List, [], ◌∷◌, ◌++◌, map, Option}
 use Rattle.std.specs.Option.{option_or}
+use Rattle.std.specs.List.{flat_map}
+use Rattle.cr_host.specs.declared.meaning.Action.TheVariants.{Read}
 use Rattle.cr_term.specs.declared.expr.Column.{Column as Field}
 use Rattle.cr_term.specs.declared.expr.When.{When}
 use Rattle.cr_term.specs.declared.expr.Expr.{Expr, out-Expr, map-Expr}
 use Rattle.cr_term.specs.declared.expr.Expr.TheOpen.{Expr-F, When-F, Column}
 use Rattle.cr_term.specs.declared.expr.Expr.TheFolds.{fold-Expr, fold-When}
+use Rattle.cr_term.specs.declared.query.Joined.{Joined as Source}
+use Rattle.cr_term.specs.declared.query.Query.{Query}
 use Rattle.cr_term.specs.declared.query.Relation.{Relation}
 use Rattle.cr_term.specs.Parts.{parts, arm, columns}
 use Rattle.cr_questions.specs.declared.question.Question.{Question}
 use Rattle.cr_questions.specs.declared.question.Asked.{Asked}
 use Rattle.cr_questions.specs.declared.sources.Sources.{Sources}
 use Rattle.cr_questions.specs.declared.sources.Sources.TheVariants.{Joined, One, Empty}
-use Rattle.cr_questions.specs.Questions.{Name, Answers, question_of, questions_node, asked, first_denied, is_read}
+use Rattle.cr_questions.specs.Questions.{Name, Answers, question_of, questions_node, asked, first_denied, is_read, ask, relations_of, exprs_of}
 
 -- the question, without where its texts stand
 abbrev pub told : Asked → Question
@@ -58,3 +62,14 @@ or_is_read tables name found fields = found || is_read tables fields name
 -- the columns in an arm of a CASE
 abbrev pub arm_columns : When → List Field
 arm_columns w = columns w.when ++ columns w.then
+
+-- ---- tables that no column is referred to of
+
+-- the question about a table, unless a column of it is referred to
+abbrev pub bare_read_of : Bool → Relation → List Question
+bare_read_of true r = []
+bare_read_of false r = ask Read r.definition.name [] ∷ []
+
+-- that about a source of a query
+abbrev pub bare_read_in : Query → Source → List Question
+bare_read_in q j = bare_read_of (is_read (relations_of q) (flat_map columns (exprs_of q)) j.relation.definition.name) j.relation

@@ -25,6 +25,22 @@ fn if_denied<'a, G: Answering>(guard: &G, question: Asked<'a>) -> Option<Asked<'
     }
 }
 
+/// What was found, else the question, if it is denied.
+#[tactic(auto, unfolding(crate::specs::Asked::or_first_denied))]
+pub(crate) fn or_question_denied<'a, G: Answering>(
+    found: Option<Asked<'a>>,
+    guard: &G,
+    question: Asked<'a>,
+) -> Option<Asked<'a>>
+    requires { G.is_faithful guard.now }
+    ensures { option_map told result ≡ or_first_denied (G.answers guard.now) (option_map told found.entry) (told question.entry ∷ []) }
+{
+    match found {
+        Some(question) => Some(question),
+        None => if_denied(guard, question),
+    }
+}
+
 // The question about an expression's own node, if it is denied.
 fn own_denial<'a, G: Answering>(
     guard: &G,
@@ -59,10 +75,10 @@ pub fn or_denied<'a, G: Answering>(
     }
 }
 
-// What was found, else the first question of several expressions that is denied.
+/// What was found, else the first question of several expressions that is denied.
 #[cycle(denied)]
 #[tactic(auto, unfolding(crate::specs::Asked::or_first_denied), using(crate::proofs::Firsts::or_assoc, crate::proofs::Firsts::or_none))]
-fn or_any_denied<'a, G: Answering>(
+pub(crate) fn or_any_denied<'a, G: Answering>(
     mut found: Option<Asked<'a>>,
     guard: &G,
     sources: Sources<'a>,

@@ -4,7 +4,9 @@
 pub mod answering;
 pub mod asked;
 pub mod denied;
+pub mod mentions;
 pub mod operands;
 pub mod question;
 pub mod reads;
+pub mod select;
 pub mod sources;

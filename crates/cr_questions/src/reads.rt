@@ -46,10 +46,15 @@ pub fn or_reads(found: bool, name: &str, sources: Sources<'_>, expr: &Expr) -> b
     or_part_reads(is_column_of(name, sources, expr), name, sources, expr)
 }
 
-// Whether it was found, or a column of that table stands in one of several expressions.
+/// Whether it was found, or a column of that table stands in one of several expressions.
 #[cycle(reads)]
 #[tactic(auto, unfolding(crate::specs::Asked::or_is_read), using(crate::proofs::Columns::or_more, crate::proofs::Columns::or_false))]
-fn or_any_reads(mut found: bool, name: &str, sources: Sources<'_>, exprs: &[Expr]) -> bool
+pub(crate) fn or_any_reads(
+    mut found: bool,
+    name: &str,
+    sources: Sources<'_>,
+    exprs: &[Expr],
+) -> bool
     ensures { result ≡ or_is_read (relations sources.entry) name.now found (flat_map columns exprs.now) }
 {
     for expr in exprs {
