@@ -26,7 +26,8 @@ use Rattle.cr_resolve.specs.declared.refusal.Refusal.{Refusal}
 use Rattle.cr_resolve.specs.declared.refusal.Refusal.TheVariants.{NoSuchTable}
 use Rattle.cr_resolve.specs.Reading.{Read, fine, refused, with, with_both, also, each, if_any}
 use Rattle.cr_resolve.specs.Known.{Known, collation}
-use Rattle.cr_resolve.specs.Scope.{Source, InSight, is_of}
+use Rattle.cr_resolve.specs.declared.scope.Source.{Source}
+use Rattle.cr_resolve.specs.Scope.{InSight, is_of}
 use Rattle.cr_resolve.specs.Expressions.{expr}
 use Rattle.cr_resolve.specs.Trees.{calls}
 use Rattle.cr_resolve.specs.Resolve.{shown_trees, on_trees, select_trees}

@@ -10,7 +10,8 @@ use Rattle.cr_questions.specs.Questions.{Name}
 use Rattle.cr_resolve.specs.declared.refusal.Refusal.TheVariants.{NoSuchTable}
 use Rattle.cr_resolve.specs.Reading.{Read, fine, refused, with, with_both}
 use Rattle.cr_resolve.specs.Known.{Known, relation_of, no_relation, or_no_table, table}
-use Rattle.cr_resolve.specs.Scope.{Source, columns_from, sight_from, in_sight}
+use Rattle.cr_resolve.specs.declared.scope.Source.{Source}
+use Rattle.cr_resolve.specs.Scope.{columns_from, sight_from, in_sight}
 use Rattle.cr_resolve.specs.Queries.{Written, sources_of}
 use Rattle.cr_language.specs.Laws.{unplaced, StandsForTheSame}
 use Rattle.cr_language.proofs.Lists.{both, any_map, take_map}

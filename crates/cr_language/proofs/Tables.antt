@@ -15,7 +15,7 @@ use Rattle.cr_term.specs.declared.query.Resolved.TheVariants as r
 use Rattle.cr_resolve.specs.declared.refusal.Refusal.{Refusal}
 use Rattle.cr_questions.specs.declared.question.Question.{Question}
 use Rattle.cr_resolve.specs.Known.{Known, table_at, module_at, relation_of, or_no_table, table}
-use Rattle.cr_resolve.specs.Scope.{Source}
+use Rattle.cr_resolve.specs.declared.scope.Source.{Source}
 use Rattle.cr_resolve.specs.Queries.{Written, written, sources_of, joined_from, named, misaggregate, distinct_order, select}
 use Rattle.cr_questions.specs.Questions.{Name, Answers, first_denied, questions, left_of, left, left_query, left_joined, relations_of}
 use Rattle.cr_resolve.specs.Resolve.{cast_outside, select_or_mark, judged, or_allowed}

@@ -26,7 +26,8 @@ use Rattle.cr_questions.specs.Questions.{Name}
 use Rattle.cr_resolve.specs.declared.refusal.Refusal.TheVariants.{NoSuchFunction, WrongArity}
 use Rattle.cr_resolve.specs.Reading.{Read, fine, refused, with, with_both, also, also_misplaced, each, if_any}
 use Rattle.cr_resolve.specs.Known.{Known, is_function, is_site_id, is_db_version, collation, collations}
-use Rattle.cr_resolve.specs.Scope.{Source, in_sight, only, told_name, is_of}
+use Rattle.cr_resolve.specs.declared.scope.Source.{Source}
+use Rattle.cr_resolve.specs.Scope.{in_sight, only, told_name, is_of}
 use Rattle.cr_resolve.specs.Trees.{calls, calls_node}
 use Rattle.cr_resolve.specs.Trees as parts
 use Rattle.cr_resolve.specs.Expressions.{Place, Reader, Arm, Pair, sign_of, binary, in_of, between_of, case_of, case_node, arm_collations, pair_of, cast_node, cast_target, built_in, built_in_kind, built_in_node, own_collations, own_call, aggregate_call, engine_call, call_by, call, node, arm, reader, expr}
