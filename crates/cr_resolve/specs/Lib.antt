@@ -6,6 +6,7 @@ pub mod Scope
 pub mod Trees
 pub mod Expressions
 pub mod Compares
+pub mod Operators
 pub mod Queries
 pub mod Writes
 pub mod Creates

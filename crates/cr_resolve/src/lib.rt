@@ -10,6 +10,7 @@ pub mod leaf;
 pub mod limits;
 pub mod naming;
 pub mod node;
+pub mod operator;
 pub mod reading;
 pub mod refusal;
 pub mod scope;
