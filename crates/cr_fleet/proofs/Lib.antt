@@ -7,3 +7,4 @@ pub mod Pulling
 pub mod Running
 pub mod Scripting
 pub mod Turning
+pub mod Names

@@ -1,4 +1,4 @@
-//! A fleet of replicas that take and pull changes.
+//! A fleet of replicas that take and pull changes and run scripts.
 
 ghost use Rattle.std.specs.Prelude.{◌≡◌, ◌⊎◌, IfOk, OnErr, position};
 ghost use Rattle.std.specs.List.{list_any, list_all, AllByRecursion};

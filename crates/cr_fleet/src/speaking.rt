@@ -1,7 +1,11 @@
 //! What a host gives a fleet, as the fleet's promises speak of it.
 
+ghost use Rattle.std.specs.Prelude.{ℕ, Bool, List};
+
 use cr_guard::guarding::Guarding;
 use cr_host::functions::Functions;
+use cr_host::meaning::HostMeaning;
+use cr_host::registry::Registry;
 
 /// Functions and collations, with the language that statements are in with them.
 pub trait Speaking: Functions {
@@ -25,6 +29,11 @@ impl<F: Functions> Speaking for F {
 
     ghost language = { λ f has. spoken (F.function_of f) (F.scalar f) (F.step f) (F.finish f) (F.order_of f) (F.orders_total f) has };
 }
+
+/// There is an answer to which names are those of a registry's functions.
+pub fn registries_have_names<H: HostMeaning>(registry: &Registry<H>)
+    ensures { (has : List ℕ → Bool) × ⟦<Registry<H> as Speaking>⟧.are_names registry.now has }
+{}
 
 /// Authorizer, policy and commit hook, with what they answer.
 pub trait Watching: Guarding {
