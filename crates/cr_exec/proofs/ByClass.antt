@@ -9,7 +9,7 @@ use Rattle.cr_scalar.specs.Host.{Host}
 use Rattle.cr_term.specs.declared.expr.Expr.{Expr}
 use Rattle.cr_term.specs.declared.query.GroupTerm.{GroupTerm}
 use Rattle.cr_bags.specs.Bags.{gather, each, single, sort, firsts}
-use Rattle.cr_query.specs.declared.fault.Fault.{Fault}
+use Rattle.cr_scalar.specs.declared.fault.EvalFault.{EvalFault}
 use Rattle.cr_query.specs.Queries.{Shown}
 use Rattle.cr_query.specs.Query.{Row, Group, Meaning, row_cmp, by_exprs, group_at, groups_of, keyed}
 use Rattle.cr_query.proofs.PlanLaws.{gather-map}
@@ -30,17 +30,17 @@ module _ (host : Host) (params : List Value) where
       both_on host params (λ m. each (λ e. m.value e d) (map there exprs)) (λ m. keyed_by m exprs c) k (k, c)
       (λ most h. ap (λ (r : Row). keyed_by (meaning most host params) exprs r) (sym is) ∙ ap (option_map (λ k. (k, d))) h ∙ ap (λ (r : Row). Some (k, r)) is) b
 
-  pub keyed_fault : (exprs : List (Bor Expr)) (d c : Row) (e : Fault) → d ≡ c → Faults host params (λ m. each (λ e. m.value e d) (map there exprs)) e → Faults host params (λ m. keyed_by m exprs c) e
+  pub keyed_fault : (exprs : List (Bor Expr)) (d c : Row) (e : EvalFault) → d ≡ c → Faults host params (λ m. each (λ e. m.value e d) (map there exprs)) e → Faults host params (λ m. keyed_by m exprs c) e
   keyed_fault exprs d c e is h =
       faults_on host params (λ m. each (λ e. m.value e d) (map there exprs)) (λ m. keyed_by m exprs c) e
       (λ most h. ap (λ (r : Row). keyed_by (meaning most host params) exprs r) (sym is) ∙ ap (option_map (λ k. (k, d))) h) h
 
-  pub answers_on : {X Y : Type 0} (f g : Stage Y) (view : X → Y) → ((most : Option ℕ) → f (meaning most host params) ≡ g (meaning most host params)) → (r : Result X Fault) → Answers host params r view f → Answers host params r view g
+  pub answers_on : {X Y : Type 0} (f g : Stage Y) (view : X → Y) → ((most : Option ℕ) → f (meaning most host params) ≡ g (meaning most host params)) → (r : Result X EvalFault) → Answers host params r view f → Answers host params r view g
   answers_on f g view k (Ok x) h = both_on host params f g (view x) (view x) (λ most e. sym (k most) ∙ e) h
   answers_on f g view k (Err e) h = faults_on host params f g e (λ most n. sym (k most) ∙ n) h
 
   pub answers_after : {X Y Z : Type 0} (p : Stage Z) (z : Z) (f g : Stage Y) (view : X → Y) → ((most : Option ℕ) → p (meaning most host params) ≡ Some z → f (meaning most host params) ≡ g (meaning most host params))
-      → IsBoth host params p z → (r : Result X Fault) → Answers host params r view f → Answers host params r view g
+      → IsBoth host params p z → (r : Result X EvalFault) → Answers host params r view f → Answers host params r view g
   answers_after p z f g view k b (Ok x) h = both_after host params p z f (view x) g (view x) (λ most e q. sym (k most e) ∙ q) b h
   answers_after p z f g view k b (Err e) h = faults_after host params p z f g e (λ most q n. sym (k most q) ∙ n) b h
 
@@ -67,7 +67,7 @@ module _ (host : Host) (params : List Value) where
     keyed_same most i = each (λ c. option_map (λ k. (k, c)) (values_same most c i)) cs
 
     module _ (having : Option Expr) (results keys : List (Bor Expr)) where
-      pub under_fault : (e : Fault) → Faults host params (λ m. each (keyed_by m exprs) cs) e → Faults host params (grouped_by gs having results keys cs) e
+      pub under_fault : (e : EvalFault) → Faults host params (λ m. each (keyed_by m exprs) cs) e → Faults host params (grouped_by gs having results keys cs) e
       under_fault e h =
           faults_on host params (λ m. each (keyed_by m exprs) cs) (grouped_by gs having results keys cs) e
           (λ most n. ap (λ o. option_and_then (gather (judges (meaning most host params) having results keys)) (option_map (groups_of (meaning most host params) (map group_term gs)) o)) (keyed_same most ∙ n)) h
@@ -86,7 +86,7 @@ module _ (host : Host) (params : List Value) where
             ∙ (λ i. gather (λ k. judges m having results keys (record { shown = k; members = map (λ p. p.1) (filter (λ p. is_eq (order_is most i k p.0)) pairs) })) (firsts (λ a b. is_eq (order_is most i a b)) (sort row_cmp (keys_through keyed i))))
             ∙ ap (gather (λ k. judges m having results keys (group_of Rs pairs k))) (sym classed))
 
-        pub under_answers : {X : Type 0} (view : X → List Shown) → IsBoth host params (λ m. each (keyed_by m exprs) cs) (map pair_of keyed) → (r : Result X Fault)
+        pub under_answers : {X : Type 0} (view : X → List Shown) → IsBoth host params (λ m. each (keyed_by m exprs) cs) (map pair_of keyed) → (r : Result X EvalFault)
             → Answers host params r view (λ m. gather (λ k. judges m having results keys (group_of Rs (map pair_of keyed) k)) classes) → Answers host params r view (grouped_by gs having results keys cs)
         under_answers view b r h =
             answers_after (λ m. each (keyed_by m exprs) cs) (map pair_of keyed) (λ m. gather (λ k. judges m having results keys (group_of Rs (map pair_of keyed) k)) classes) (grouped_by gs having results keys cs) view under_is b r h

@@ -14,11 +14,9 @@ use Rattle.cr_term.specs.declared.operator.Unary.{Unary as Sign}
 use Rattle.cr_term.specs.declared.operator.Unary.TheVariants as sign
 use Rattle.cr_term.specs.Terms.{plain as is_plain, plain_layer, plain_arm, quiet, quiet_layer}
 use Rattle.cr_scalar.specs.Compare.{compared}
-use Rattle.cr_query.specs.declared.fault.Fault.{Fault}
-use Rattle.cr_query.specs.declared.fault.Fault.TheVariants as told
 use Rattle.cr_scalar.specs.declared.fault.EvalFault.{EvalFault}
 use Rattle.cr_scalar.specs.declared.fault.EvalFault.TheVariants.{Overflow, NotANumber, NotUtf8, Host as Said, TooBig, Memory}
-use Rattle.cr_scalar.specs.Meaning.{and_then, bounded, Outcome, Meant, FaultsAs, byte_limit}
+use Rattle.cr_scalar.specs.Meaning.{and_then, bounded, Outcome, Meant, Evaluates, FaultsAs, byte_limit}
 use Rattle.cr_scalar.specs.Numbers.{truth, is_true, is_null, truth_value, unary_of}
 use Rattle.cr_scalar.specs.Host.{Host}
 use Rattle.cr_expr.specs.declared.given.Given.{Given}
@@ -31,12 +29,12 @@ use Rattle.cr_query.specs.Query.{Row, Group}
 use Rattle.cr_meaning.specs.View.{Ordered, plain}
 use Rattle.cr_meaning.specs.Meaning.{value_of, is_so, at_row, at_group}
 use Rattle.cr_exec.specs.Answers.{Faults, IsBoth, Answers}
-use Rattle.cr_exec.specs.Values.{told_as, null_wanted, null_test, HasValue, Limited}
+use Rattle.cr_exec.specs.Values.{null_wanted, null_test, HasValue, Limited}
 use Rattle.cr_exec.specs.Scopes.{in_scope, is_so_in}
 use Rattle.std.specs.Borrow.{Bor}
 use Rattle.cr_exec.specs.declared.value.Scope.{Scope}
 use Rattle.cr_exec.specs.declared.value.Scope.TheVariants as scope
-use Rattle.cr_exec.proofs.Stages.{faults_on}
+use Rattle.cr_exec.proofs.Stages.{faults_on, faults_of}
 
 abbrev unbounded : Host → Given → Setting
 unbounded host given = setting None host given
@@ -121,20 +119,25 @@ quiet_null host given x y y' op v w u b n is o a h q k d =
           ∙ ap (λ t. Ok (null_test t b)) (ap is_null (sym q) ∙ sym k) ∙ ap Ok (sym d);
     }
 
-pub limited_ok : (s : Setting) (e : Expr) (v : Value) → eval_of s e ≡ Ok v → Limited s e (Ok v)
+limited_ok : (s : Setting) (e : Expr) (v : Value) → eval_of s e ≡ Ok v → Limited s e (Ok v)
 limited_ok s e v h = (limit_law e s (λ big. let q : Ok v ≡ Err TooBig = sym h ∙ big in absurd cc) ∙ h, h)
 
 -- a fault other than that of the limit is one without
 other : (s : Setting) (e : Expr) (f : EvalFault) → eval_of s e ≡ Err f → (f ≡ TooBig → ⊥) → value_of (eval_of (unlimited s) e) ≡ None
 other s e f h ne = ap value_of (limit_law e s (λ big. ne (let q : Err f ≡ Err TooBig = sym h ∙ big in cc)) ∙ h)
 
-pub limited_err : (s : Setting) (e : Expr) (f : EvalFault) → FaultsAs (eval_of s e) f → Limited s e (Err (told_as f))
+limited_err : (s : Setting) (e : Expr) (f : EvalFault) → FaultsAs (eval_of s e) f → Limited s e (Err f)
 limited_err s e Overflow h = other s e Overflow h (λ q. absurd cc)
 limited_err s e NotANumber h = other s e NotANumber h (λ q. absurd cc)
 limited_err s e NotUtf8 h = other s e NotUtf8 h (λ q. absurd cc)
 limited_err s e (Said text) h = other s e (Said text) h (λ q. absurd cc)
 limited_err s e TooBig h = ap value_of h
 limited_err s e Memory h = tt
+
+-- a value under the limit, or its fault
+pub limited : (s : Setting) (e : Expr) (r : Result Value EvalFault) → Evaluates (eval_of s e) r → Limited s e r
+limited s e (Ok v) h = limited_ok s e v h
+limited s e (Err f) h = limited_err s e f h
 
 -- a quiet expression's value
 pub quiet_answers : (host : Host) (params : List Value) (row : Row) (e : Expr) (v : Value) → HasValue quiet (at_row None host params row) e v → IsBoth host params (λ m. m.value (plain e) row) v
@@ -146,31 +149,37 @@ quiet_answers host params row e v h = record {
   under most = ap (λ b. value_of (eval_of (at_row (cond b None most) host params row) e)) h.of_kind ∙ ap value_of h.value
 
 -- and that of another one
-pub loud_answers : (host : Host) (params : List Value) (row : Row) (e : Expr) (r : Result Value Fault) → quiet e ≡ false → Limited (at_row byte_limit host params row) e r → Answers host params r (λ v. v) (λ m. m.value (plain e) row)
+pub loud_answers : (host : Host) (params : List Value) (row : Row) (e : Expr) (r : Result Value EvalFault) → quiet e ≡ false → Limited (at_row byte_limit host params row) e r → Answers host params r (λ v. v) (λ m. m.value (plain e) row)
 loud_answers host params row e r loud = by r
   where
     at : (most : Option ℕ) → value_of (eval_of (at_row (cond (quiet e) None most) host params row) e) ≡ value_of (eval_of (at_row most host params row) e)
     at most = ap (λ b. value_of (eval_of (at_row (cond b None most) host params row) e)) loud
 
-    by : (r : Result Value Fault) → Limited (at_row byte_limit host params row) e r → Answers host params r (λ v. v) (λ m. m.value (plain e) row)
+    by : (r : Result Value EvalFault) → Limited (at_row byte_limit host params row) e r → Answers host params r (λ v. v) (λ m. m.value (plain e) row)
     by (Ok v) h = record { exact = at None ∙ ap value_of h.0; sized = at byte_limit ∙ ap value_of h.1 }
-    by (Err told.Evaluation) h = at None ∙ h
-    by (Err told.TooBig) h = at byte_limit ∙ h
-    by (Err told.Memory) h = tt
+    by (Err Overflow) h = at None ∙ h
+    by (Err NotANumber) h = at None ∙ h
+    by (Err NotUtf8) h = at None ∙ h
+    by (Err (Said text)) h = at None ∙ h
+    by (Err TooBig) h = at byte_limit ∙ h
+    by (Err Memory) h = tt
 
 pub row_quiet : (host : Host) (params : List Value) (row : Row) (e : Expr) (o : Option Value) (v w : Value) → MatchOption o (quiet e ≡ false) (λ v. HasValue quiet (at_row None host params row) e v) → o ≡ Some v → w ≡ v → IsBoth host params (λ m. m.value (plain e) row) w
 row_quiet host params row e None v w h is made = absurd cc
 row_quiet host params row e (Some u) v w h is made = quiet_answers host params row e w (subst (HasValue quiet (at_row None host params row) e) (let q : u ≡ w = cc in q) h)
 
-pub row_loud : (host : Host) (params : List Value) (row : Row) (e : Expr) (o : Option Value) (r : Result Value Fault) → MatchOption o (quiet e ≡ false) (λ v. HasValue quiet (at_row None host params row) e v) → o ≡ None → Limited (at_row byte_limit host params row) e r → Answers host params r (λ v. v) (λ m. m.value (plain e) row)
+pub row_loud : (host : Host) (params : List Value) (row : Row) (e : Expr) (o : Option Value) (r : Result Value EvalFault) → MatchOption o (quiet e ≡ false) (λ v. HasValue quiet (at_row None host params row) e v) → o ≡ None → Limited (at_row byte_limit host params row) e r → Answers host params r (λ v. v) (λ m. m.value (plain e) row)
 row_loud host params row e None r h is l = loud_answers host params row e r h l
 row_loud host params row e (Some u) r h is l = absurd cc
 
-pub group_answers : (host : Host) (params : List Value) (g : Group) (e : Expr) (r : Result Value Fault) → Limited (at_group byte_limit host params g) e r → Answers host params r (λ v. v) (λ m. m.over (plain e) g)
+pub group_answers : (host : Host) (params : List Value) (g : Group) (e : Expr) (r : Result Value EvalFault) → Limited (at_group byte_limit host params g) e r → Answers host params r (λ v. v) (λ m. m.over (plain e) g)
 group_answers host params g e (Ok v) h = record { exact = ap value_of h.0; sized = ap value_of h.1 }
-group_answers host params g e (Err told.Evaluation) h = h
-group_answers host params g e (Err told.TooBig) h = h
-group_answers host params g e (Err told.Memory) h = tt
+group_answers host params g e (Err Overflow) h = h
+group_answers host params g e (Err NotANumber) h = h
+group_answers host params g e (Err NotUtf8) h = h
+group_answers host params g e (Err (Said text)) h = h
+group_answers host params g e (Err TooBig) h = h
+group_answers host params g e (Err Memory) h = tt
 
 is_so_known : (o : Outcome (Option Bool)) (t : Option Bool) → o ≡ Ok t → is_so o ≡ Some (is_true t)
 is_so_known o None h = ap is_so h
@@ -184,14 +193,15 @@ so_known host params s e v t b h = record {
   sized = ap (option_and_then (λ w. is_so (truth w))) b.sized ∙ is_so_known (truth v) t (sym h);
 }
 
-pub so_unknown : (host : Host) (params : List Value) (s : Scope) (e : Ordered) (v : Value) (f : EvalFault) → IsBoth host params (λ m. in_scope m s e) v → Err f ≡ truth v → Faults host params (λ m. is_so_in m s e) told.Evaluation
-so_unknown host params s e v f b h = ap (option_and_then (λ w. is_so (truth w))) b.exact ∙ ap is_so (sym h)
+pub so_unknown : (host : Host) (params : List Value) (s : Scope) (e : Ordered) (v : Value) (f : EvalFault) → IsBoth host params (λ m. in_scope m s e) v → Err f ≡ truth v → Faults host params (λ m. is_so_in m s e) f
+so_unknown host params s e v f b h = faults_of host params (λ m. is_so_in m s e) f
+    (ap (option_and_then (λ w. is_so (truth w))) b.exact ∙ ap is_so (sym h)) (ap (option_and_then (λ w. is_so (truth w))) b.sized ∙ ap is_so (sym h))
 
-pub so_faults : (host : Host) (params : List Value) (s : Scope) (e : Ordered) (f : Fault) → Faults host params (λ m. in_scope m s e) f → Faults host params (λ m. is_so_in m s e) f
+pub so_faults : (host : Host) (params : List Value) (s : Scope) (e : Ordered) (f : EvalFault) → Faults host params (λ m. in_scope m s e) f → Faults host params (λ m. is_so_in m s e) f
 so_faults host params s e f h = faults_on host params (λ m. in_scope m s e) (λ m. is_so_in m s e) f (λ most k. ap (option_and_then (λ w. is_so (truth w))) k) h
 
-pub in_row : (host : Host) (params : List Value) (s : Scope) (row : Bor (List Value)) (e : Expr) (r : Result Value Fault) → s ≡ scope.Row row → Answers host params r (λ v. v) (λ m. m.value (plain e) row.now) → Answers host params r (λ v. v) (λ m. in_scope m s (plain e))
+pub in_row : (host : Host) (params : List Value) (s : Scope) (row : Bor (List Value)) (e : Expr) (r : Result Value EvalFault) → s ≡ scope.Row row → Answers host params r (λ v. v) (λ m. m.value (plain e) row.now) → Answers host params r (λ v. v) (λ m. in_scope m s (plain e))
 in_row host params s row e r is h = subst (λ t. Answers host params r (λ v. v) (λ m. in_scope m t (plain e))) (sym is) h
 
-pub in_group : (host : Host) (params : List Value) (s : Scope) (shown : Bor (List Value)) (members : Bor (List (List Value))) (e : Expr) (r : Result Value Fault) → s ≡ scope.Group shown members → Limited (at_group byte_limit host params (record { shown = shown.now; members = members.now })) e r → Answers host params r (λ v. v) (λ m. in_scope m s (plain e))
+pub in_group : (host : Host) (params : List Value) (s : Scope) (shown : Bor (List Value)) (members : Bor (List (List Value))) (e : Expr) (r : Result Value EvalFault) → s ≡ scope.Group shown members → Limited (at_group byte_limit host params (record { shown = shown.now; members = members.now })) e r → Answers host params r (λ v. v) (λ m. in_scope m s (plain e))
 in_group host params s shown members e r is h = subst (λ t. Answers host params r (λ v. v) (λ m. in_scope m t (plain e))) (sym is) (group_answers host params (record { shown = shown.now; members = members.now }) e r h)

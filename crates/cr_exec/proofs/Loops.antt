@@ -3,7 +3,7 @@ use Rattle.std.proofs.Common.{◌≡◌, ◌∙◌, ℕ, ◌+◌, ◌<◌, ◌�
 use Rattle.std.proofs.lemmas.List.{drop_all}
 use Rattle.cr_value.specs.declared.value.Value.{Value}
 use Rattle.cr_scalar.specs.Host.{Host}
-use Rattle.cr_query.specs.declared.fault.Fault.{Fault}
+use Rattle.cr_scalar.specs.declared.fault.EvalFault.{EvalFault}
 use Rattle.cr_query.specs.Query.{Meaning}
 use Rattle.cr_bags.specs.Bags.{joins, gather, single}
 use Rattle.cr_meaning.specs.View.{Ordered}
@@ -45,7 +45,7 @@ module _ {X Y : Type 0} (host : Host) (params : List Value) (f : Meaning Ordered
       gives_next host params (λ m. behind old (f m x)) new (left_behind old) (left_after new) whole
       (λ most k. step old new (f (meaning most host params) x) (gather (f (meaning most host params)) (drop (i + 1) xs)) k ∙ sym (cut old (meaning most host params) x h e)) b g
 
-  pub gather_fails : (x : X) (old : List Y) (e : Fault) → i < length xs → x ≡ get_or xs i x → Faults host params (λ m. f m x) e
+  pub gather_fails : (x : X) (old : List Y) (e : EvalFault) → i < length xs → x ≡ get_or xs i x → Faults host params (λ m. f m x) e
       → Gives host params (left_behind old) whole → Faults host params whole e
   gather_fails x old e h is b g =
       gives_faults host params (left_behind old) whole e g
@@ -64,7 +64,7 @@ module _ {X Y : Type 0} (host : Host) (params : List Value) (f : Meaning Ordered
 pub one_behind : {Y : Type 0} (host : Host) (params : List Value) (f : Stage Y) (y : Y) (old new : List Y) → new ≡ old ++ y ∷ [] → IsBoth host params f y → IsBoth host params (λ m. behind old (option_map single (f m))) new
 one_behind host params f y old new is b = both_on host params f (λ m. behind old (option_map single (f m))) y new (λ most k. ap (λ o. behind old (option_map single o)) k ∙ ap (λ l. Some l) (sym is)) b
 
-pub none_single : {Y : Type 0} (host : Host) (params : List Value) (f : Stage Y) (e : Fault) → Faults host params f e → Faults host params (λ m. option_map single (f m)) e
+pub none_single : {Y : Type 0} (host : Host) (params : List Value) (f : Stage Y) (e : EvalFault) → Faults host params f e → Faults host params (λ m. option_map single (f m)) e
 none_single host params f e h = faults_on host params f (λ m. option_map single (f m)) e (λ most k. ap (option_map single) k) h
 
 -- before the first

@@ -8,7 +8,7 @@ use Rattle.cr_term.specs.declared.expr.Expr.{Expr}
 use Rattle.cr_term.specs.declared.query.Query.{Query as Resolved}
 use Rattle.cr_expr.specs.Eval.{eval_of}
 use Rattle.cr_bags.specs.Bags.{gather, each, single}
-use Rattle.cr_query.specs.declared.fault.Fault.{Fault}
+use Rattle.cr_scalar.specs.declared.fault.EvalFault.{EvalFault}
 use Rattle.cr_query.specs.Queries.{Shown}
 use Rattle.cr_query.specs.Query.{Row, groups, has, pair, shows, shown, shown_groups, joined, finished, answer}
 use Rattle.cr_query.proofs.PlanLaws.{gather-map}
@@ -42,23 +42,23 @@ module _ (host : Host) (params : List Value) (q : Resolved) where
         (λ i. each (λ c. shows_same most (λ x. value_of (eval_of (at_row (limit_of most x) host params c) x)) i) cs)
         ∙ sym (ap (λ b. cond b (shown_groups m (query q) cs) (each (λ c. shows m (query q) (λ e. m.value e c)) cs)) not_grouped)
 
-    pub grouped_shown : {X : Type 0} (view : X → List Shown) → q.is_grouped ≡ true → (cs : List Row) (r : Result X Fault)
+    pub grouped_shown : {X : Type 0} (view : X → List Shown) → q.is_grouped ≡ true → (cs : List Row) (r : Result X EvalFault)
         → Answers host params r view (λ m. option_and_then (gather (λ g. judged_by m (λ e. m.over e g) q.having results keys)) (groups m (map group_term q.groups) cs)) → Answers host params r view (λ m. shown m (query q) cs)
     grouped_shown view is cs r h = answers_on host params (λ m. option_and_then (gather (λ g. judged_by m (λ e. m.over e g) q.having results keys)) (groups m (map group_term q.groups) cs)) (λ m. shown m (query q) cs) view (grouped_is is cs) r h
 
-    pub plain_shown : {X : Type 0} (view : X → List Shown) → q.is_grouped ≡ false → (cs : List Row) (r : Result X Fault)
+    pub plain_shown : {X : Type 0} (view : X → List Shown) → q.is_grouped ≡ false → (cs : List Row) (r : Result X EvalFault)
         → Answers host params r view (λ m. each (λ c. shows_by (λ e. m.value e c) results keys) cs) → Answers host params r view (λ m. shown m (query q) cs)
     plain_shown view is cs r h = answers_on host params (λ m. each (λ c. shows_by (λ e. m.value e c) results keys) cs) (λ m. shown m (query q) cs) view (plain_is is cs) r h
 
   -- ---- the answer
 
   module _ (tables : List (List Row)) where
-    pub answer_joined_fault : (e : Fault) → Faults host params (λ m. joined m (query q) tables) e → Faults host params (λ m. answer m (query q) tables) e
+    pub answer_joined_fault : (e : EvalFault) → Faults host params (λ m. joined m (query q) tables) e → Faults host params (λ m. answer m (query q) tables) e
     answer_joined_fault e h =
         faults_on host params (λ m. joined m (query q) tables) (λ m. answer m (query q) tables) e
         (λ most k. ap (λ o. option_map (finished (meaning most host params) (query q)) (option_and_then (shown (meaning most host params) (query q)) o)) k) h
 
-    pub answer_shown_fault : (cs ds : List Row) (e : Fault) → ds ≡ cs → IsBoth host params (λ m. joined m (query q) tables) cs → Faults host params (λ m. shown m (query q) ds) e → Faults host params (λ m. answer m (query q) tables) e
+    pub answer_shown_fault : (cs ds : List Row) (e : EvalFault) → ds ≡ cs → IsBoth host params (λ m. joined m (query q) tables) cs → Faults host params (λ m. shown m (query q) ds) e → Faults host params (λ m. answer m (query q) tables) e
     answer_shown_fault cs ds e is b h =
         faults_after host params (λ m. joined m (query q) tables) cs (λ m. shown m (query q) ds) (λ m. answer m (query q) tables) e
         (λ most j k. ap (λ o. option_map (finished (meaning most host params) (query q)) (option_and_then (shown (meaning most host params) (query q)) o)) j

@@ -3,8 +3,8 @@ use Rattle.std.proofs.Common.{◌≡◌, ℕ, List, Option, Some, None, ◌∙�
 use Rattle.cr_value.specs.declared.value.Value.{Value}
 use Rattle.cr_scalar.specs.Meaning.{byte_limit}
 use Rattle.cr_scalar.specs.Host.{Host}
-use Rattle.cr_query.specs.declared.fault.Fault.{Fault}
-use Rattle.cr_query.specs.declared.fault.Fault.TheVariants.{Memory, Evaluation, TooBig}
+use Rattle.cr_scalar.specs.declared.fault.EvalFault.{EvalFault}
+use Rattle.cr_scalar.specs.declared.fault.EvalFault.TheVariants.{Overflow, NotANumber, NotUtf8, Host as Said, TooBig, Memory}
 use Rattle.cr_meaning.specs.Meaning.{meaning, exact, sized}
 use Rattle.cr_exec.specs.Answers.{Stage, Faults, IsBoth}
 
@@ -14,9 +14,21 @@ pub record Gives {Y : Type 0} (host : Host) (params : List Value) (rest whole : 
   pub sized : rest (sized host params) ≡ whole (sized host params)
 
 module _ (host : Host) (params : List Value) where
+  -- what is a fault under both meanings is each fault
+  pub faults_of : {Y : Type 0} (f : Stage Y) (e : EvalFault) → f (exact host params) ≡ None → f (sized host params) ≡ None → Faults host params f e
+  faults_of f Overflow h k = h
+  faults_of f NotANumber h k = h
+  faults_of f NotUtf8 h k = h
+  faults_of f (Said text) h k = h
+  faults_of f TooBig h k = k
+  faults_of f Memory h k = tt
+
   -- a fault of a part is one of the whole
-  pub faults_on : {Y Z : Type 0} (f : Stage Y) (g : Stage Z) (e : Fault) → ((most : Option ℕ) → f (meaning most host params) ≡ None → g (meaning most host params) ≡ None) → Faults host params f e → Faults host params g e
-  faults_on f g Evaluation k h = k None h
+  pub faults_on : {Y Z : Type 0} (f : Stage Y) (g : Stage Z) (e : EvalFault) → ((most : Option ℕ) → f (meaning most host params) ≡ None → g (meaning most host params) ≡ None) → Faults host params f e → Faults host params g e
+  faults_on f g Overflow k h = k None h
+  faults_on f g NotANumber k h = k None h
+  faults_on f g NotUtf8 k h = k None h
+  faults_on f g (Said text) k h = k None h
   faults_on f g TooBig k h = k byte_limit h
   faults_on f g Memory k h = tt
 
@@ -25,8 +37,11 @@ module _ (host : Host) (params : List Value) where
   both_on f g y z k h = record { exact = k None h.exact; sized = k byte_limit h.sized }
 
   -- a fault of a part behind one that is known
-  pub faults_after : {X Y Z : Type 0} (p : Stage X) (x : X) (f : Stage Y) (g : Stage Z) (e : Fault) → ((most : Option ℕ) → p (meaning most host params) ≡ Some x → f (meaning most host params) ≡ None → g (meaning most host params) ≡ None) → IsBoth host params p x → Faults host params f e → Faults host params g e
-  faults_after p x f g Evaluation k b h = k None b.exact h
+  pub faults_after : {X Y Z : Type 0} (p : Stage X) (x : X) (f : Stage Y) (g : Stage Z) (e : EvalFault) → ((most : Option ℕ) → p (meaning most host params) ≡ Some x → f (meaning most host params) ≡ None → g (meaning most host params) ≡ None) → IsBoth host params p x → Faults host params f e → Faults host params g e
+  faults_after p x f g Overflow k b h = k None b.exact h
+  faults_after p x f g NotANumber k b h = k None b.exact h
+  faults_after p x f g NotUtf8 k b h = k None b.exact h
+  faults_after p x f g (Said text) k b h = k None b.exact h
   faults_after p x f g TooBig k b h = k byte_limit b.sized h
   faults_after p x f g Memory k b h = tt
 
@@ -39,8 +54,11 @@ module _ (host : Host) (params : List Value) where
   pub gives_all : {Y : Type 0} (f g : Stage Y) → ((most : Option ℕ) → f (meaning most host params) ≡ g (meaning most host params)) → Gives host params f g
   gives_all f g k = record { exact = k None; sized = k byte_limit }
 
-  pub gives_faults : {Y : Type 0} (rest whole : Stage Y) (e : Fault) → Gives host params rest whole → Faults host params rest e → Faults host params whole e
-  gives_faults rest whole Evaluation g h = sym g.exact ∙ h
+  pub gives_faults : {Y : Type 0} (rest whole : Stage Y) (e : EvalFault) → Gives host params rest whole → Faults host params rest e → Faults host params whole e
+  gives_faults rest whole Overflow g h = sym g.exact ∙ h
+  gives_faults rest whole NotANumber g h = sym g.exact ∙ h
+  gives_faults rest whole NotUtf8 g h = sym g.exact ∙ h
+  gives_faults rest whole (Said text) g h = sym g.exact ∙ h
   gives_faults rest whole TooBig g h = sym g.sized ∙ h
   gives_faults rest whole Memory g h = tt
 

@@ -9,7 +9,7 @@ use Rattle.cr_term.specs.declared.expr.Expr.{Expr}
 use Rattle.cr_term.specs.declared.query.Query.{Query as Resolved}
 use Rattle.cr_term.specs.declared.query.Joined.{Joined}
 use Rattle.cr_bags.specs.Bags.{joins, gather, those, single}
-use Rattle.cr_query.specs.declared.fault.Fault.{Fault}
+use Rattle.cr_scalar.specs.declared.fault.EvalFault.{EvalFault}
 use Rattle.cr_query.specs.Query.{Row, Meaning, all_true, holds, nulls, or_padded, with_rows, joined_with, combined, joined}
 use Rattle.cr_query.proofs.PlanLaws.{joins-nil_right, gather_gather, gather-map}
 use Rattle.cr_query.proofs.JoinLaws.{combined-parts}
@@ -91,11 +91,11 @@ module _ (most : Option ℕ) (host : Host) (params : List Value) (terms : List O
 
 module _ (host : Host) (params : List Value) where
   adds_after : {X Y : Type 0} (p : Stage Y) (y : Y) (f g : Stage (List X)) → ((most : Option ℕ) → p (meaning most host params) ≡ Some y → f (meaning most host params) ≡ g (meaning most host params))
-      → IsBoth host params p y → (old new : List X) (r : Result (Unit {0}) Fault) → Adds host params f old new r → Adds host params g old new r
+      → IsBoth host params p y → (old new : List X) (r : Result (Unit {0}) EvalFault) → Adds host params f old new r → Adds host params g old new r
   adds_after p y f g k b old new (Ok u) h = both_after host params p y (λ m. behind old (f m)) new (λ m. behind old (g m)) new (λ most hp hf. ap (behind old) (sym (k most hp)) ∙ hf) b h
   adds_after p y f g k b old new (Err e) h = faults_after host params p y f g e (λ most hp hf. sym (k most hp) ∙ hf) b h
 
-  pub adds_on : {X : Type 0} (f g : Stage (List X)) → ((most : Option ℕ) → f (meaning most host params) ≡ g (meaning most host params)) → (old new : List X) (r : Result (Unit {0}) Fault) → Adds host params f old new r → Adds host params g old new r
+  pub adds_on : {X : Type 0} (f g : Stage (List X)) → ((most : Option ℕ) → f (meaning most host params) ≡ g (meaning most host params)) → (old new : List X) (r : Result (Unit {0}) EvalFault) → Adds host params f old new r → Adds host params g old new r
   adds_on f g k old new (Ok u) h = both_on host params (λ m. behind old (f m)) (λ m. behind old (g m)) new new (λ most hf. ap (behind old) (sym (k most)) ∙ hf) h
   adds_on f g k old new (Err e) h = faults_on host params f g e (λ most hf. sym (k most) ∙ hf) h
 
@@ -105,7 +105,7 @@ module _ (host : Host) (params : List Value) where
     abbrev pad : List Row → List Row
     pad = or_padded (nulls (length j.relation.definition.columns)) c
 
-    pub left_fault : (e : Fault) → Faults host params (λ m. those (all_true m (map there ts)) (with_rows c rows)) e → Faults host params (λ m. left_with m j rows c) e
+    pub left_fault : (e : EvalFault) → Faults host params (λ m. those (all_true m (map there ts)) (with_rows c rows)) e → Faults host params (λ m. left_with m j rows c) e
     left_fault e h =
         faults_on host params (λ m. those (all_true m (map there ts)) (with_rows c rows)) (λ m. left_with m j rows c) e
         (λ most k. ap (λ (es : List Ordered). option_map pad (those (all_true (meaning most host params) es) (with_rows c rows))) (sym same) ∙ ap (option_map pad) k) h
@@ -127,13 +127,13 @@ module _ (host : Host) (params : List Value) where
     apart : (most : Option ℕ) → split (meaning most host params) ≡ whole (meaning most host params)
     apart most i = tail (meaning most host params) terms (sym first i) (sym table i) c
 
-    pub rest_inner : j.is_left ≡ false → (old new : List Row) (r : Result (Unit {0}) Fault) → Adds host params (λ m. gather (tail m terms js' tables') (with_rows c rows)) old new r → Adds host params (λ m. tail m terms js tables c) old new r
+    pub rest_inner : j.is_left ≡ false → (old new : List Row) (r : Result (Unit {0}) EvalFault) → Adds host params (λ m. gather (tail m terms js' tables') (with_rows c rows)) old new r → Adds host params (λ m. tail m terms js tables c) old new r
     rest_inner l old new r h = adds_on (λ m. gather (tail m terms js' tables') (with_rows c rows)) whole (λ most. sym (tail_inner most host params terms j js' rows tables' c l) ∙ apart most) old new r h
 
-    pub rest_left : j.is_left ≡ true → (cs : List Row) → IsBoth host params (λ m. left_with m j rows c) cs → (old new : List Row) (r : Result (Unit {0}) Fault) → Adds host params (λ m. gather (tail m terms js' tables') (with_rows [] cs)) old new r → Adds host params (λ m. tail m terms js tables c) old new r
+    pub rest_left : j.is_left ≡ true → (cs : List Row) → IsBoth host params (λ m. left_with m j rows c) cs → (old new : List Row) (r : Result (Unit {0}) EvalFault) → Adds host params (λ m. gather (tail m terms js' tables') (with_rows [] cs)) old new r → Adds host params (λ m. tail m terms js tables c) old new r
     rest_left l cs b old new r h = adds_after (λ m. left_with m j rows c) cs (λ m. gather (tail m terms js' tables') (with_rows [] cs)) whole (λ most k. sym (tail_left most host params terms j js' rows tables' c cs l k) ∙ apart most) b old new r h
 
-    pub rest_fault : j.is_left ≡ true → (e : Fault) → Faults host params (λ m. left_with m j rows c) e → Faults host params (λ m. tail m terms js tables c) e
+    pub rest_fault : j.is_left ≡ true → (e : EvalFault) → Faults host params (λ m. left_with m j rows c) e → Faults host params (λ m. tail m terms js tables c) e
     rest_fault l e h = faults_on host params (λ m. left_with m j rows c) whole e (λ most k. sym (apart most) ∙ tail_fault most host params terms j js' rows tables' c l k) h
 
   -- ---- one row after another
@@ -148,7 +148,7 @@ module _ (host : Host) (params : List Value) where
     pub each_starts : Gives host params (λ m. behind first (gather (each_row m) rows)) all_rows
     each_starts = gives_all host params (λ m. behind first (gather (each_row m) rows)) all_rows (λ most. ap (behind first) (sym (gather-map (λ r. c ++ r) (tail (meaning most host params) terms js tables) rows)))
 
-    pub each_fails : (i : ℕ) (x : Row) (old : List Row) (e : Fault) → i < length rows → x ≡ get_or rows i x → Faults host params (λ m. each_row m x) e
+    pub each_fails : (i : ℕ) (x : Row) (old : List Row) (e : EvalFault) → i < length rows → x ≡ get_or rows i x → Faults host params (λ m. each_row m x) e
         → Gives host params (λ m. behind old (gather (each_row m) (drop i rows))) all_rows → Faults host params (λ m. gather (tail m terms js tables) (with_rows c rows)) e
     each_fails i x old e h is f g =
         faults_on host params all_rows (λ m. gather (tail m terms js tables) (with_rows c rows)) e (λ most k. behind_none first _ k)
@@ -160,7 +160,7 @@ module _ (host : Host) (params : List Value) where
     from_is : (most : Option ℕ) → tail (meaning most host params) (map there ts) js tables [] ≡ joined (meaning most host params) (query q) tables
     from_is most i = tail (meaning most host params) (same i) (all i) tables []
 
-    pub joined_fault : (e : Fault) → Faults host params (λ m. tail m (map there ts) js tables []) e → Faults host params (λ m. joined m (query q) tables) e
+    pub joined_fault : (e : EvalFault) → Faults host params (λ m. tail m (map there ts) js tables []) e → Faults host params (λ m. joined m (query q) tables) e
     joined_fault e h = faults_on host params (λ m. tail m (map there ts) js tables []) (λ m. joined m (query q) tables) e (λ most k. sym (from_is most) ∙ k) h
 
     pub joined_both : (old new : List Row) → old ≡ [] → IsBoth host params (λ m. behind old (tail m (map there ts) js tables [])) new → IsBoth host params (λ m. joined m (query q) tables) new

@@ -10,7 +10,7 @@ use Rattle.cr_value.specs.declared.value.Value.{Value}
 use Rattle.cr_scalar.specs.Host.{Host}
 use Rattle.cr_term.specs.declared.expr.Expr.{Expr}
 use Rattle.cr_term.specs.declared.query.Joined.{Joined}
-use Rattle.cr_query.specs.declared.fault.Fault.{Fault}
+use Rattle.cr_scalar.specs.declared.fault.EvalFault.{EvalFault}
 use Rattle.cr_query.specs.Query.{Row, Meaning, is_true, and_so, all_true}
 use Rattle.cr_meaning.specs.View.{Ordered, plain, inner_terms}
 use Rattle.cr_meaning.specs.Meaning.{meaning}
@@ -89,7 +89,7 @@ module _ (host : Host) (params : List Value) (terms : List (Bor Expr)) (i : ℕ)
       gives_both host params rest_true whole_true false g
       (both_on host params (λ m. is_true m (there x) c) rest_true false false (λ most k. decided (meaning most host params) x (Some false) h is k) b)
 
-  pub true_fails : (x : Bor Expr) (e : Fault) → i < length terms → x ≡ get_or terms i x → Faults host params (λ m. is_true m (there x) c) e
+  pub true_fails : (x : Bor Expr) (e : EvalFault) → i < length terms → x ≡ get_or terms i x → Faults host params (λ m. is_true m (there x) c) e
       → Gives host params rest_true whole_true → Faults host params whole_true e
   true_fails x e h is b g =
       gives_faults host params rest_true whole_true e g

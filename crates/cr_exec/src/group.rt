@@ -17,7 +17,7 @@ use crate::value::{Scope, is_so_in, values_in};
 use cr_expr::given::Hosted;
 use cr_host::functions::Functions;
 use cr_lattice::table::Row;
-use cr_query::fault::Fault;
+use cr_scalar::fault::EvalFault;
 use cr_term::expr::Expr;
 use cr_value::value::Value;
 use std::alloc::{AllocError, Global};
@@ -36,7 +36,7 @@ fn has<F: Functions>(
     scope: Scope<'_>,
     functions: &F,
     params: &[Value],
-) -> Result<bool, Fault>
+) -> Result<bool, EvalFault>
     requires { F.is_faithful functions.now }
     ensures { Answers (⟦<F as Hosted>⟧.means functions.now) params.now result (λ b. b) (λ m. has m (option_map plain having.now) (in_scope m scope.entry)) }
 {
@@ -56,7 +56,7 @@ pub(crate) fn judge<F: Functions>(
     scope: Scope<'_>,
     functions: &F,
     params: &[Value],
-) -> Result<(), Fault>
+) -> Result<(), EvalFault>
     requires { F.is_faithful functions.now }
     ensures { Adds (⟦<F as Hosted>⟧.means functions.now) params.now (λ m. judged_by m (in_scope m scope.entry) having.now results.now keys.now) (map shown_of out.old.items) (map shown_of out.new.items) result }
 {
@@ -76,7 +76,7 @@ fn key_of<F: Functions>(
     combination: &[Value],
     functions: &F,
     params: &[Value],
-) -> Result<Row, Fault>
+) -> Result<Row, EvalFault>
     requires { F.is_faithful functions.now }
     ensures { Answers (⟦<F as Hosted>⟧.means functions.now) params.now result (λ r. r) (λ m. each (λ e. m.value e combination.now) (map there exprs.now)) }
 {
@@ -90,7 +90,7 @@ pub fn with_keys<'a, F: Functions>(
     combinations: &'a [Row],
     functions: &F,
     params: &[Value],
-) -> Result<Vec<Keyed<'a>>, Fault>
+) -> Result<Vec<Keyed<'a>>, EvalFault>
     requires { F.is_faithful functions.now }
     ensures { Answers (⟦<F as Hosted>⟧.means functions.now) params.now result (λ v. map pair_of v.items) (λ m. each (keyed_by m exprs.now) combinations.now) }
 {

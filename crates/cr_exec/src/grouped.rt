@@ -18,7 +18,7 @@ use crate::value::Scope;
 use cr_expr::given::Hosted;
 use cr_host::functions::Functions;
 use cr_lattice::table::Row;
-use cr_query::fault::Fault;
+use cr_scalar::fault::EvalFault;
 use cr_term::expr::Expr;
 use cr_term::query::GroupTerm;
 use cr_value::value::Value;
@@ -36,7 +36,7 @@ fn show_class<F: Functions>(
     class: &[Value],
     functions: &F,
     params: &[Value],
-) -> Result<(), Fault>
+) -> Result<(), EvalFault>
     requires { F.is_faithful functions.now }
     ensures { Adds (⟦<F as Hosted>⟧.means functions.now) params.now (λ m. judged_by m (λ e. m.over e (group_of (map (held_order (F.order_at functions.now)) senses.now) (map pair_of keyed.now) class.now)) having.now results.now keys.now) (map shown_of out.old.items) (map shown_of out.new.items) result }
 {
@@ -56,7 +56,7 @@ fn show_classes<F: Functions>(
     classes: &[Row],
     functions: &F,
     params: &[Value],
-) -> Result<Vec<Shown>, Fault>
+) -> Result<Vec<Shown>, EvalFault>
     requires { F.is_faithful functions.now }
     ensures { Answers (⟦<F as Hosted>⟧.means functions.now) params.now result (λ v. map shown_of v.items) (λ m. gather (λ k. judged_by m (λ e. m.over e (group_of (map (held_order (F.order_at functions.now)) senses.now) (map pair_of keyed.now) k)) having.now results.now keys.now) classes.now) }
 {
@@ -91,7 +91,7 @@ fn show_under<F: Functions>(
     combinations: &[Row],
     functions: &F,
     params: &[Value],
-) -> Result<Vec<Shown>, Fault>
+) -> Result<Vec<Shown>, EvalFault>
     requires { F.is_faithful functions.now }
     ensures { Answers (⟦<F as Hosted>⟧.means functions.now) params.now result (λ v. map shown_of v.items) (λ m. option_and_then (gather (λ g. judged_by m (λ e. m.over e g) having.now results.now keys.now)) (option_map (groups_of m (map group_term terms.now)) (each (keyed m (map group_term terms.now)) combinations.now))) }
 {
@@ -116,7 +116,7 @@ fn show_all<F: Functions>(
     combinations: &[Row],
     functions: &F,
     params: &[Value],
-) -> Result<Vec<Shown>, Fault>
+) -> Result<Vec<Shown>, EvalFault>
     requires { F.is_faithful functions.now }
     ensures { Answers (⟦<F as Hosted>⟧.means functions.now) params.now result (λ v. map shown_of v.items) (λ m. judged_by m (λ e. m.over e (record { shown = []; members = combinations.now })) having.now results.now keys.now) }
 {
@@ -132,8 +132,8 @@ fn show_all<F: Functions>(
 /// order them. Without terms there is one group.
 ///
 /// # Errors
-/// `Evaluation` where an expression has no value, or HAVING one that is no number; `TooBig` where a value on the way is
-/// over 1,000,000 bytes; `Memory`.
+/// The fault of an expression that has no value, and `NotANumber` where HAVING has one that is no number; `TooBig` where a
+/// value on the way is over 1,000,000 bytes; `Memory`.
 pub fn show_groups<F: Functions>(
     alloc: Global,
     terms: &[GroupTerm],
@@ -143,7 +143,7 @@ pub fn show_groups<F: Functions>(
     combinations: &[Row],
     functions: &F,
     params: &[Value],
-) -> Result<Vec<Shown>, Fault>
+) -> Result<Vec<Shown>, EvalFault>
     requires { F.is_faithful functions.now }
     ensures { Answers (⟦<F as Hosted>⟧.means functions.now) params.now result (λ v. map shown_of v.items) (λ m. option_and_then (gather (λ g. judged_by m (λ e. m.over e g) having.now results.now keys.now)) (groups m (map group_term terms.now) combinations.now)) }
 {

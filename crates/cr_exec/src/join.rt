@@ -14,7 +14,7 @@ use crate::value::{Scope, is_so_in};
 use cr_expr::given::Hosted;
 use cr_host::functions::Functions;
 use cr_lattice::table::{Items, Row};
-use cr_query::fault::Fault;
+use cr_scalar::fault::EvalFault;
 use cr_term::expr::Expr;
 use cr_term::query::{Joined, Query};
 use cr_value::value::Value;
@@ -101,7 +101,7 @@ fn all_true<F: Functions>(
     combination: &[Value],
     functions: &F,
     params: &[Value],
-) -> Result<bool, Fault>
+) -> Result<bool, EvalFault>
     requires { F.is_faithful functions.now }
     ensures { Answers (⟦<F as Hosted>⟧.means functions.now) params.now result (λ b. b) (λ m. all_true m (map there terms.now) combination.now) }
 {
@@ -122,7 +122,7 @@ fn keep<F: Functions>(
     combination: &[Value],
     functions: &F,
     params: &[Value],
-) -> Result<(), Fault>
+) -> Result<(), EvalFault>
     requires { F.is_faithful functions.now }
     ensures { Adds (⟦<F as Hosted>⟧.means functions.now) params.now (λ m. those (all_true m (map there terms.now)) (single combination.now)) out.old.items out.new.items result }
 {
@@ -139,8 +139,8 @@ fn keep<F: Functions>(
 /// are. The first term that is not true ends the test of a combination, so the terms come with the quiet ones first.
 ///
 /// # Errors
-/// `Evaluation` where a term that is tested has no value, or one that is no number; `TooBig` where a value on the way is
-/// over 1,000,000 bytes; `Memory`.
+/// The fault of a term that is tested and has no value, and `NotANumber` where it has one that is no number; `TooBig` where a
+/// value on the way is over 1,000,000 bytes; `Memory`.
 pub fn matching<F: Functions>(
     alloc: Global,
     terms: &[&Expr],
@@ -148,7 +148,7 @@ pub fn matching<F: Functions>(
     rows: &[Row],
     functions: &F,
     params: &[Value],
-) -> Result<Vec<Row>, Fault>
+) -> Result<Vec<Row>, EvalFault>
     requires { F.is_faithful functions.now }
     ensures { Answers (⟦<F as Hosted>⟧.means functions.now) params.now result (λ v. v.items) (λ m. those (all_true m (map there terms.now)) (with_rows combination.now rows.now)) }
 {
@@ -204,7 +204,7 @@ fn left_joined<F: Functions>(
     combination: &[Value],
     functions: &F,
     params: &[Value],
-) -> Result<Vec<Row>, Fault>
+) -> Result<Vec<Row>, EvalFault>
     requires { F.is_faithful functions.now }
     ensures { Answers (⟦<F as Hosted>⟧.means functions.now) params.now result (λ v. v.items) (λ m. left_with m join.now rows.now combination.now) }
 {
@@ -233,7 +233,7 @@ fn join_rest<F: Functions>(
     combination: &[Value],
     functions: &F,
     params: &[Value],
-) -> Result<(), Fault>
+) -> Result<(), EvalFault>
     requires { F.is_faithful functions.now }
     ensures { Adds (⟦<F as Hosted>⟧.means functions.now) params.now (λ m. tail m (map there terms.now) joined.now tables.now combination.now) out.old.items out.new.items result }
 {
@@ -284,7 +284,7 @@ fn join_each<F: Functions>(
     rows: &[Row],
     functions: &F,
     params: &[Value],
-) -> Result<(), Fault>
+) -> Result<(), EvalFault>
     requires { F.is_faithful functions.now }
     ensures { Adds (⟦<F as Hosted>⟧.means functions.now) params.now (λ m. gather (tail m (map there terms.now) joined.now tables.now) (with_rows combination.now rows.now)) out.old.items out.new.items result }
 {
@@ -315,7 +315,7 @@ pub fn joined<F: Functions>(
     tables: &[Items<Row>],
     functions: &F,
     params: &[Value],
-) -> Result<Vec<Row>, Fault>
+) -> Result<Vec<Row>, EvalFault>
     requires { F.is_faithful functions.now }
     ensures { Answers (⟦<F as Hosted>⟧.means functions.now) params.now result (λ v. v.items) (λ m. joined m (view.query query.now) tables.now) }
 {

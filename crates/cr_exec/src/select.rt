@@ -15,7 +15,7 @@ use crate::show::{Shown, show_each};
 use cr_expr::given::Hosted;
 use cr_host::functions::Functions;
 use cr_lattice::table::{Items, Row};
-use cr_query::fault::Fault;
+use cr_scalar::fault::EvalFault;
 use cr_term::expr::Expr;
 use cr_term::query::{OrderTerm, Query, ResultColumn};
 use cr_value::value::Value;
@@ -50,7 +50,7 @@ fn show_asked<F: Functions>(
     combinations: &[Row],
     functions: &F,
     params: &[Value],
-) -> Result<Vec<Shown>, Fault>
+) -> Result<Vec<Shown>, EvalFault>
     requires { F.is_faithful functions.now }
     ensures { Answers (⟦<F as Hosted>⟧.means functions.now) params.now result (λ v. map shown_of v.items) (λ m. shown m (view.query query.now) combinations.now) }
 {
@@ -80,15 +80,15 @@ fn show_asked<F: Functions>(
 /// a limit hides no fault.
 ///
 /// # Errors
-/// `Evaluation` where the answer has none without a limit on values, `TooBig` where it has none with the limit of
-/// 1,000,000 bytes; `Memory`.
+/// The fault of an expression, where there is no answer without a limit on values; `TooBig` where there is none with the
+/// limit of 1,000,000 bytes; `Memory`.
 pub fn select<F: Functions>(
     alloc: Global,
     query: &Query,
     tables: &[Items<Row>],
     functions: &F,
     params: &[Value],
-) -> Result<Vec<Row>, Fault>
+) -> Result<Vec<Row>, EvalFault>
     requires { F.is_faithful functions.now }
     ensures { Answers (⟦<F as Hosted>⟧.means functions.now) params.now result (λ v. v.items) (λ m. answer m (view.query query.now) tables.now) }
 {

@@ -12,7 +12,7 @@ use crate::value::{Scope, values_in};
 use cr_expr::given::Hosted;
 use cr_host::functions::Functions;
 use cr_lattice::table::Row;
-use cr_query::fault::Fault;
+use cr_scalar::fault::EvalFault;
 use cr_term::expr::Expr;
 use cr_value::value::Value;
 use std::alloc::Global;
@@ -32,7 +32,7 @@ pub(crate) fn show<F: Functions>(
     scope: Scope<'_>,
     functions: &F,
     params: &[Value],
-) -> Result<Shown, Fault>
+) -> Result<Shown, EvalFault>
     requires { F.is_faithful functions.now }
     ensures { Answers (⟦<F as Hosted>⟧.means functions.now) params.now result shown_of (λ m. pair (each (in_scope m scope.entry) (map there results.now)) (each (in_scope m scope.entry) (map there keys.now))) }
 {
@@ -44,7 +44,7 @@ pub(crate) fn show<F: Functions>(
 /// What each combination shows: the values of results, and those of the terms that order it.
 ///
 /// # Errors
-/// `Evaluation` where an expression has no value; `TooBig` where a value on the way is over 1,000,000 bytes; `Memory`.
+/// The fault of an expression that has no value; `TooBig` where a value on the way is over 1,000,000 bytes; `Memory`.
 pub fn show_each<F: Functions>(
     alloc: Global,
     results: &[&Expr],
@@ -52,7 +52,7 @@ pub fn show_each<F: Functions>(
     combinations: &[Row],
     functions: &F,
     params: &[Value],
-) -> Result<Vec<Shown>, Fault>
+) -> Result<Vec<Shown>, EvalFault>
     requires { F.is_faithful functions.now }
     ensures { Answers (⟦<F as Hosted>⟧.means functions.now) params.now result (λ v. map shown_of v.items) (λ m. each (λ c. pair (each (λ e. m.value e c) (map there results.now)) (each (λ e. m.value e c) (map there keys.now))) combinations.now) }
 {

@@ -10,7 +10,7 @@ ghost use Rattle.cr_expr.specs.Setting.{setting};
 ghost use Rattle.cr_expr.specs.Eval.{eval_of};
 ghost use Rattle.cr_meaning.specs.View as view;
 ghost use Rattle.cr_exec.specs.Answers.{Answers};
-ghost use Rattle.cr_exec.specs.Values.{told_as, null_wanted, null_test, Limited, HasValue};
+ghost use Rattle.cr_exec.specs.Values.{null_wanted, null_test, Limited, HasValue};
 ghost use Rattle.cr_exec.specs.Scopes.{in_scope, is_so_in, there};
 
 use crate::push::push;
@@ -18,7 +18,6 @@ use cr_expr::eval::eval;
 use cr_expr::given::{Given, Hosted};
 use cr_host::functions::Functions;
 use cr_lattice::table::{Items, Row};
-use cr_query::fault::Fault;
 use cr_scalar::compare::{compare, is_null};
 use cr_scalar::fault::EvalFault;
 use cr_scalar::number::{is_true, truth, truth_value};
@@ -35,17 +34,6 @@ pub enum Scope<'a> {
     Row(&'a [Value]),
     /// A group: the values that it shows for its terms, and its combinations.
     Group(&'a [Value], &'a [Row]),
-}
-
-// What a query tells of a fault.
-fn told_as(fault: EvalFault) -> Fault
-    ensures { result ≡ told_as fault }
-{
-    match fault {
-        EvalFault::TooBig => Fault::TooBig,
-        EvalFault::Memory => Fault::Memory,
-        _ => Fault::Evaluation,
-    }
 }
 
 // The value at a place, NULL where there is none.
@@ -134,14 +122,11 @@ fn limited_value<'a, F: Functions>(
     expr: &'a Expr,
     given: &Given<'a>,
     functions: &F,
-) -> Result<Operand<'a>, Fault>
+) -> Result<Operand<'a>, EvalFault>
     requires { F.is_faithful functions.now }
     ensures { Limited (setting byte_limit (⟦<F as Hosted>⟧.means functions.now) given.now) expr.now result }
 {
-    match eval(alloc, expr, given, functions) {
-        Ok(value) => Ok(value),
-        Err(fault) => Err(told_as(fault)),
-    }
+    eval(alloc, expr, given, functions)
 }
 
 // The value of an expression over a combination; no limit stands for a quiet one.
@@ -151,7 +136,7 @@ fn row_value<'a, F: Functions>(
     row: &'a [Value],
     functions: &F,
     params: &'a [Value],
-) -> Result<Operand<'a>, Fault>
+) -> Result<Operand<'a>, EvalFault>
     requires { F.is_faithful functions.now }
     ensures { Answers (⟦<F as Hosted>⟧.means functions.now) params.now result (λ v. v) (λ m. m.value (view.plain expr.now) row.now) }
 {
@@ -168,15 +153,15 @@ fn row_value<'a, F: Functions>(
     }
 }
 
-/// The value of an expression over a combination or a group. `Evaluation` where it has none, `TooBig` where a value on
-/// the way is over 1,000,000 bytes; that limit passes over a quiet expression of a combination.
+/// The value of an expression over a combination or a group, or its fault where it has none; `TooBig` where a value on the
+/// way is over 1,000,000 bytes. That limit passes over a quiet expression of a combination.
 pub fn value_in<'a, F: Functions>(
     alloc: Global,
     expr: &'a Expr,
     scope: Scope<'a>,
     functions: &F,
     params: &'a [Value],
-) -> Result<Operand<'a>, Fault>
+) -> Result<Operand<'a>, EvalFault>
     requires { F.is_faithful functions.now }
     ensures { Answers (⟦<F as Hosted>⟧.means functions.now) params.now result (λ v. v) (λ m. in_scope m scope.entry (view.plain expr.now)) }
 {
@@ -194,22 +179,22 @@ pub fn value_in<'a, F: Functions>(
     }
 }
 
-/// Whether an expression is known to be true over a combination or a group. Faults as its value does, and `Evaluation`
-/// where the value is no number.
+/// Whether an expression is known to be true over a combination or a group. Faults as its value does, and with
+/// `NotANumber` where the value is no number.
 pub fn is_so_in<'a, F: Functions>(
     alloc: Global,
     expr: &'a Expr,
     scope: Scope<'a>,
     functions: &F,
     params: &'a [Value],
-) -> Result<bool, Fault>
+) -> Result<bool, EvalFault>
     requires { F.is_faithful functions.now }
     ensures { Answers (⟦<F as Hosted>⟧.means functions.now) params.now result (λ b. b) (λ m. is_so_in m scope.entry (view.plain expr.now)) }
 {
     let value = value_in(alloc, expr, scope, functions, params)?;
     match truth(value.get()) {
         Ok(known) => Ok(is_true(known)),
-        Err(_) => Err(Fault::Evaluation),
+        Err(fault) => Err(fault),
     }
 }
 
@@ -220,7 +205,7 @@ pub fn values_in<'a, F: Functions>(
     scope: Scope<'a>,
     functions: &F,
     params: &'a [Value],
-) -> Result<Row, Fault>
+) -> Result<Row, EvalFault>
     requires { F.is_faithful functions.now }
     ensures { Answers (⟦<F as Hosted>⟧.means functions.now) params.now result (λ r. r) (λ m. each (in_scope m scope.entry) (map there exprs.now)) }
 {

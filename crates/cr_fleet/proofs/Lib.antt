@@ -7,4 +7,3 @@ pub mod Pulling
 pub mod Running
 pub mod Scripting
 pub mod Turning
-pub mod Names

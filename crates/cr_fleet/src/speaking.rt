@@ -4,8 +4,6 @@ ghost use Rattle.std.specs.Prelude.{ℕ, Bool, List};
 
 use cr_guard::guarding::Guarding;
 use cr_host::functions::Functions;
-use cr_host::meaning::HostMeaning;
-use cr_host::registry::Registry;
 
 /// Functions and collations, with the language that statements are in with them.
 pub trait Speaking: Functions {
@@ -22,17 +20,17 @@ pub trait Speaking: Functions {
 }
 
 impl<F: Functions> Speaking for F {
-    ghost use Rattle.cr_language.specs.Engines.{AreNames};
+    ghost use Rattle.std.specs.Prelude.{◌≡◌};
     ghost use Rattle.cr_fleet.specs.Speaking.{spoken};
 
-    ghost are_names = { λ f has. AreNames (F.function_of f) has };
+    ghost are_names = { λ f has. has ≡ F.names_function f };
 
     ghost language = { λ f has. spoken (F.function_of f) (F.scalar f) (F.step f) (F.finish f) (F.order_of f) (F.orders_total f) has };
 }
 
-/// There is an answer to which names are those of a registry's functions.
-pub fn registries_have_names<H: HostMeaning>(registry: &Registry<H>)
-    ensures { (has : List ℕ → Bool) × ⟦<Registry<H> as Speaking>⟧.are_names registry.now has }
+/// There is an answer to which names are those of functions.
+pub fn functions_have_names<F: Functions>(functions: &F)
+    ensures { (has : List ℕ → Bool) × ⟦<F as Speaking>⟧.are_names functions.now has }
 {}
 
 /// Authorizer, policy and commit hook, with what they answer.

@@ -1,6 +1,7 @@
 -- What a registry lists, and how its entries are found. Source: this project's own rules.
 use Rattle.std.specs.Prelude.{◌≡◌, ℕ, ◌&&◌, ◌==◌, not, List, [], ◌∷◌, Bool, true, false, if◌then◌else◌, Option, Some, None, Result, Ok, Err, map, filter, slice_get}
 use Rattle.std.specs.Option.{option_map}
+use Rattle.std.specs.List.{list_any}
 use Rattle.std.specs.Str.{bytes_eq}
 use Rattle.std.specs.declared.cmp.Ordering.{Ordering}
 use Rattle.cr_value.specs.Bytes.{bytes_cmp}
@@ -119,6 +120,10 @@ is_key name arity key = bytes_eq (folded name) key.name.bytes.items && same_arit
 
 abbrev pub is_collation_key : List ℕ → FoldedName → Bool
 is_collation_key name key = bytes_eq (folded name) key.bytes.items
+
+-- a function has that name, for some count of arguments
+abbrev pub names_function : List ℕ → List Listed → Bool
+names_function name ls = list_any (λ l. bytes_eq (folded name) l.name) ls
 
 -- a name is refused just where it may not be registered
 abbrev pub RefusesBadNames : {T : Type 0} → Bool → Result T AddFault → Type 0

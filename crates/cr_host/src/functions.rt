@@ -48,7 +48,7 @@ impl<H: HostMeaning> Answering for Collating<H> {
 /// Functions and collations that are found by name, the ASCII letters in either case. What stands above them knows them
 /// by this alone, and hands on the fact `is_faithful` of those that it is given.
 pub trait Functions {
-    ghost use Rattle.std.specs.Prelude.{◌≡◌, ◌↔◌, ℕ, List, Result, Option, Some, IsTrue, IsSome};
+    ghost use Rattle.std.specs.Prelude.{◌≡◌, ◌↔◌, ℕ, Bool, List, Result, Option, Some, IsTrue, IsSome};
     ghost use Rattle.std.specs.declared.cmp.Ordering.{Ordering};
     ghost use Rattle.std.specs.Cmp.{IsTotalOrder};
     ghost use Rattle.cr_value.specs.declared.value.Value.{Value};
@@ -66,6 +66,9 @@ pub trait Functions {
 
     /// The function of a name for calls of that many arguments.
     ghost function_of: { Self → List ℕ → ℕ → Option Definition };
+
+    /// Whether a function has that name, whatever its count of arguments.
+    ghost names_function: { Self → List ℕ → Bool };
 
     /// What a scalar function gives, or the text of its fault.
     ghost scalar: { Self → ℕ → List Value → Result Value (List ℕ) };
@@ -94,7 +97,8 @@ pub trait Functions {
 
     /// Whether the host has a function of that name, for calls of some number of arguments.
     fn has_function(&self, name: &str) -> bool
-        ensures { IsTrue result ↔ ((count : ℕ) × IsSome (function_of self.now name.now count)) };
+        ensures value { result ≡ names_function self.now name.now }
+        ensures names { IsTrue result ↔ ((count : ℕ) × IsSome (function_of self.now name.now count)) };
 
     /// The value of a scalar function; `None` where there is no such scalar function. Want of memory is answered only
     /// where a closure of it answers that.
@@ -162,7 +166,7 @@ pub trait Functions {
 impl<H: HostMeaning> Functions for Registry<H> {
     ghost use Rattle.std.specs.List.{AllByRecursion};
     ghost use Rattle.cr_host.specs.Meets.{AnswersAs, StepsAs, FinishesAs, ComparesAs, NeverLacks, NeverLacksAt};
-    ghost use Rattle.cr_host.specs.Registry.{AnswersBy, definition, functions, orders, listed, collations, function_for, order_for, order_at};
+    ghost use Rattle.cr_host.specs.Registry.{AnswersBy, definition, functions, orders, listed, collations, function_for, names_function, order_for, order_at};
     ghost use Rattle.cr_host.specs.Orders.{order_for_total, order_at_total, found_order_total};
 
     ghost is_faithful = { λ r. AllByRecursion (AnswersBy
@@ -175,6 +179,8 @@ impl<H: HostMeaning> Functions for Registry<H> {
         (λ a. NeverLacksAt (StepFn.post a.step) × NeverLacks (FinishFn.post a.finish)) f) (functions r) };
 
     ghost function_of = { λ r name count. function_for name count (listed r) };
+
+    ghost names_function = { λ r name. names_function name (listed r) };
 
     ghost scalar = { λ r. H.scalar };
 
@@ -241,7 +247,7 @@ impl<H: HostMeaning> Functions for Registry<H> {
 pub struct BuiltIns;
 
 impl Functions for BuiltIns {
-    ghost use Rattle.std.specs.Prelude.{None, Err, []};
+    ghost use Rattle.std.specs.Prelude.{None, Err, [], false};
     ghost use Rattle.cr_host.specs.Registry.{order_for};
     ghost use Rattle.cr_host.specs.Orders.{order_for_total, found_order_total, built_in_only, built_in_only_total};
 
@@ -250,6 +256,8 @@ impl Functions for BuiltIns {
     ghost never_lacks = { λ s d. Unit {0} };
 
     ghost function_of = { λ s name count. None };
+
+    ghost names_function = { λ s name. false };
 
     ghost scalar = { λ s n args. Err [] };
 

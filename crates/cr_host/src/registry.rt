@@ -7,7 +7,7 @@ ghost use Rattle.std.specs.Str.{bytes_eq};
 ghost use Rattle.indexmap.specs.IndexMap.{keys};
 ghost use Rattle.cr_host.specs.Names.{folded, arity_of, is_function_name, is_collation_name};
 ghost use Rattle.cr_host.specs.Meets.{AnswersAs, StepsAs, FinishesAs, ComparesAs, NeverLacks, NeverLacksAt};
-ghost use Rattle.cr_host.specs.Registry.{listed, collations, definition, is_key, is_collation_key, entry_at, number_at, with_entry, without_entry, function_for, with_collation, order_at, RefusesBadNames};
+ghost use Rattle.cr_host.specs.Registry.{listed, collations, definition, is_key, is_collation_key, entry_at, number_at, with_entry, without_entry, function_for, with_collation, order_at, names_function, RefusesBadNames};
 ghost use Rattle.cr_host.specs.declared.function.Definition.{Definition};
 ghost use Rattle.cr_host.specs.declared.function.Definition.TheVariants.{Scalar as ScalarOf, Aggregate as AggregateOf};
 
@@ -248,7 +248,8 @@ impl<H: HostMeaning> Registry<H> {
 
     /// Whether there is a function under that name, its ASCII letters in either case, whatever its count.
     pub(crate) fn names_function(&self, name: &str) -> bool
-        ensures { IsTrue result ↔ ((count : ℕ) × IsSome (function_for name.now count (listed self.now))) }
+        ensures value { result ≡ names_function name.now (listed self.now) }
+        ensures names { IsTrue result ↔ ((count : ℕ) × IsSome (function_for name.now count (listed self.now))) }
     {
         has_name(&self.functions, name)
     }

@@ -30,7 +30,8 @@ use Rattle.cr_resolve.specs.declared.scope.Source.{Source}
 use Rattle.cr_resolve.specs.Scope.{in_sight, only, told_name, is_of}
 use Rattle.cr_resolve.specs.Trees.{calls, calls_node}
 use Rattle.cr_resolve.specs.Trees as parts
-use Rattle.cr_resolve.specs.Expressions.{Place, Reader, Arm, Pair, sign_of, binary, in_of, between_of, case_of, case_node, arm_collations, pair_of, cast_node, cast_target, built_in, built_in_kind, built_in_node, own_collations, own_call, aggregate_call, engine_call, call_by, call, node, arm, reader, expr}
+use Rattle.cr_resolve.specs.declared.case.Pair.{Pair}
+use Rattle.cr_resolve.specs.Expressions.{Place, Reader, Arm, sign_of, binary, in_of, between_of, case_of, case_node, arm_collations, pair_of, cast_node, cast_target, built_in, built_in_kind, built_in_node, own_collations, own_call, aggregate_call, engine_call, call_by, call, node, arm, reader, expr}
 use Rattle.cr_language.specs.Laws.{asks}
 use Rattle.cr_language.proofs.Lists.{both, three, all_left, all_right, length_map}
 

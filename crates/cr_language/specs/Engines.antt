@@ -1,5 +1,5 @@
 -- A host's functions and collations as the engine of a language. Source: this project's own.
-use Rattle.std.specs.Prelude.{◌≡◌, ◌↔◌, ℕ, Bool, List, Option, Some, None, Result, IsTrue, IsSome, refl}
+use Rattle.std.specs.Prelude.{◌≡◌, ℕ, Bool, List, Option, Some, None, Result, refl}
 use Rattle.std.specs.Option.{is_some}
 use Rattle.std.specs.Cmp.{IsTotalOrder}
 use Rattle.std.specs.declared.cmp.Ordering.{Ordering}
@@ -25,10 +25,6 @@ total_in order_of total name (Some order) e = total name order e
 -- where a name has none, texts are compared by their bytes
 pub total_or : (order_of : OrderOf) → AreTotal order_of → (name : Name) → IsTotalOrder (orders order_of name)
 total_or order_of total name = total_in order_of total name (order_of name) refl
-
--- a name is told to be a function's where a function of some count of arguments has it
-abbrev pub AreNames : (Name → ℕ → Option Definition) → (Name → Bool) → Type 0
-AreNames function_of has = (name : Name) → IsTrue (has name) ↔ ((count : ℕ) × IsSome (function_of name count))
 
 abbrev pub engine : (Name → ℕ → Option Definition) → (ℕ → List Value → Result Value (List ℕ)) → (ℕ → Value → List Value → Result Value (List ℕ)) → (ℕ → Value → Result Value (List ℕ))
     → (order_of : OrderOf) → AreTotal order_of → (Name → Bool) → Engine

@@ -24,7 +24,7 @@ unfolding or_first_denied
 denied_more answers found xs ys = or_assoc found (first_denied answers xs) (first_denied answers ys) ∙ ap (option_or found) (sym (denied_append answers xs ys))
 
 -- the question about a node does not turn on what its parts come to
-same_question : {A C B D : Type 0} (f : A → B) (g : C → D) (tables : List Relation) (y : Expr-F A C) → question_of tables (map-Expr A C B D f g y) ≡ question_of tables y
+pub same_question : {A C B D : Type 0} (f : A → B) (g : C → D) (tables : List Relation) (y : Expr-F A C) → question_of tables (map-Expr A C B D f g y) ≡ question_of tables y
 same_question f g tables (Literal v) = refl
 same_question f g tables (Param n) = refl
 same_question f g tables (Column c) = refl
