@@ -18,11 +18,11 @@ use Rattle.cr_resolve.specs.Compares.{Compares}
 use Rattle.cr_resolve.specs.Operators.{operation_of, combine, Operates}
 
 -- what an operation reads of two operands
-abbrev by_operation : Known → Operation → Read Expr → Read Expr → Read Expr
+abbrev pub by_operation : Known → Operation → Read Expr → Read Expr → Read Expr
 by_operation known (Comparison c) x y = compared known c x y
 by_operation known (Combination c) x y = with_both (combine c) x y
 
-same : (known : Known) (o : Operator) (x y : Read Expr) → by_operation known (operation_of o) x y ≡ binary known o x y
+pub same : (known : Known) (o : Operator) (x y : Read Expr) → by_operation known (operation_of o) x y ≡ binary known o x y
 same known op.Or x y = refl
 same known op.And x y = refl
 same known op.Equal x y = refl

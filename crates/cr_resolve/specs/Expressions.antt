@@ -38,6 +38,7 @@ use Rattle.cr_resolve.specs.declared.refusal.Refusal.TheVariants.{NoSuchFunction
 use Rattle.cr_resolve.specs.Reading.{Read, fine, refused, with, with_both, also, also_misplaced, each, if_any}
 use Rattle.cr_resolve.specs.Known.{Known, is_function, is_site_id, is_db_version, collation, collations}
 use Rattle.cr_resolve.specs.Scope.{Source, column}
+pub use Rattle.cr_resolve.specs.declared.case.Pair.{Pair}
 
 -- where an expression stands: the columns in sight, and whether an aggregate may stand there
 pub record Place : Type 0 where
@@ -125,11 +126,6 @@ abbrev pub between_of : Known → Bool → Read Expr → Read Expr → Read Expr
 between_of known negated x low high =
     also (λ z. collation known (collation_of (x.made ∷ low.made ∷ [])) ++ collation known (collation_of (x.made ∷ high.made ∷ [])))
     (with_both (λ f h. f h) (with_both (between_node negated) x low) high)
-
--- an arm's two expressions
-pub record Pair : Type 0 where
-  pub when : Expr
-  pub gives : Expr
 
 abbrev pub arm_node : Option Expr → Pair → When
 arm_node None p = record { meeting = no_meeting; when = p.when; then = p.gives }

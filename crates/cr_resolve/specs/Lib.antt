@@ -1,12 +1,14 @@
 pub mod Reading
 pub mod Told
 pub mod Known
-pub mod Offer
 pub mod Scope
 pub mod Trees
 pub mod Expressions
 pub mod Compares
+pub mod Cases
 pub mod Operators
+pub mod Calls
+pub mod Answered
 pub mod Queries
 pub mod Writes
 pub mod Creates

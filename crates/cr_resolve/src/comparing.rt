@@ -2,7 +2,7 @@
 
 ghost use Rattle.std.specs.Prelude.{◌≡◌, IfOk};
 ghost use Rattle.cr_term.specs.Nodes as e;
-ghost use Rattle.cr_resolve.specs.Compares.{Meets, Compares, MeetsItem, IsAmong};
+ghost use Rattle.cr_resolve.specs.Compares.{Meets, Compares, MeetsItem, IsAmong, MeetsBounds, IsBetween};
 ghost use Rattle.cr_resolve.specs.Reading.{with_both};
 ghost use Rattle.cr_resolve.specs.Told.{told};
 
@@ -123,4 +123,76 @@ pub fn among<K: Naming>(
 {
     let meeting = meet_item(alloc, known, &operand.made)?;
     Ok(membership(alloc, is_negated, meeting, operand, items)?)
+}
+
+// How an operand meets two bounds.
+#[derive(Drop)]
+struct Meetings {
+    low: Meeting,
+    high: Meeting,
+}
+
+// How an operand meets two bounds, the first bound before the second.
+#[tactic(auto, using(crate::proofs::Within::no_memory, crate::proofs::Within::low_refused, crate::proofs::Within::high_refused, crate::proofs::Within::met))]
+fn meet_bounds<K: Naming>(
+    alloc: Global,
+    known: &K,
+    operand: &Expr,
+    low: &Expr,
+    high: &Expr,
+) -> Result<Meetings, Refusal>
+    ensures { MeetsBounds (K.known known.now) operand.now low.now high.now result }
+{
+    let low = meet(alloc, known, operand, low)?;
+    let high = meet(alloc, known, operand, high)?;
+    Ok(Meetings { low, high })
+}
+
+// BETWEEN, with how its operand meets each bound.
+fn within(
+    is_negated: bool,
+    meetings: Meetings,
+    operand: Made<Boxed<Expr>>,
+    low: Made<Boxed<Expr>>,
+    high: Made<Boxed<Expr>>,
+) -> Made<Expr>
+    ensures { told result ≡ with_both (λ f h. f h) (with_both (e.Between is_negated meetings.low meetings.high) (told operand) (told low)) (told high) }
+{
+    let is_misplaced = (operand.is_misplaced || low.is_misplaced) || high.is_misplaced;
+    Made {
+        made: Expr::Between(
+            is_negated,
+            meetings.low,
+            meetings.high,
+            operand.made,
+            low.made,
+            high.made,
+        ),
+        is_misplaced,
+    }
+}
+
+/// An operand between two bounds, or not.
+///
+/// # Errors
+/// `NoSuchCollation` of the first bound where there is no collation of the name that it and the operand bring; `Memory`.
+#[tactic(auto, using(crate::proofs::Within::memory, crate::proofs::Within::refused, crate::proofs::Within::made))]
+pub fn between<K: Naming>(
+    alloc: Global,
+    known: &K,
+    is_negated: bool,
+    operand: Made<Boxed<Expr>>,
+    low: Made<Boxed<Expr>>,
+    high: Made<Boxed<Expr>>,
+) -> Result<Made<Expr>, Refusal>
+    ensures { IsBetween (K.known known.now) is_negated operand low high result }
+{
+    let meetings = meet_bounds(
+        alloc,
+        known,
+        operand.made.get(),
+        low.made.get(),
+        high.made.get(),
+    )?;
+    Ok(within(is_negated, meetings, operand, low, high))
 }

@@ -3,7 +3,10 @@
 //! operators are resolved to.
 #![tactic(auto)]
 
+pub mod call;
+pub mod case;
 pub mod comparing;
+pub mod expressions;
 pub mod from;
 pub mod known;
 pub mod leaf;

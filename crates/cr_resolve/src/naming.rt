@@ -2,8 +2,6 @@
 
 use cr_host::function::Definition;
 use cr_host::functions::Functions;
-use cr_host::meaning::HostMeaning;
-use cr_host::registry::Registry;
 use cr_lattice::catalog::Catalog;
 
 /// What a statement may name: tables and modules, functions and collations.
@@ -33,21 +31,19 @@ pub trait Naming {
 
 /// A replica's catalog, with the functions and collations of its host.
 #[derive(Drop)]
-pub struct Offer<'a, H: HostMeaning> {
+pub struct Offer<'a, F> {
     pub catalog: &'a Catalog,
-    pub registry: &'a Registry<H>,
+    pub functions: &'a F,
 }
 
-impl<H: HostMeaning> Naming for Offer<'_, H> {
+impl<F: Functions> Naming for Offer<'_, F> {
     ghost use Rattle.std.specs.Option.{is_some};
-    ghost use Rattle.cr_host.specs.Registry.{listed, collations, function_for, order_for};
-    ghost use Rattle.cr_resolve.specs.Offer.{names_function};
 
     ghost known = { λ o. record {
       catalog = o.catalog.now;
-      function_of = λ name count. function_for name count (listed o.registry.now);
-      has_function = λ name. names_function name (listed o.registry.now);
-      has_collation = λ name. is_some (order_for H.order name (collations o.registry.now));
+      function_of = F.function_of o.functions.now;
+      has_function = F.names_function o.functions.now;
+      has_collation = λ name. is_some (F.order_of o.functions.now name);
     } };
 
     fn catalog(&self) -> &Catalog {
@@ -55,14 +51,14 @@ impl<H: HostMeaning> Naming for Offer<'_, H> {
     }
 
     fn definition(&self, name: &str, count: usize) -> Option<Definition> {
-        self.registry.definition(name, count)
+        self.functions.definition(name, count)
     }
 
     fn has_function(&self, name: &str) -> bool {
-        self.registry.has_function(name)
+        self.functions.has_function(name)
     }
 
     fn has_collation(&self, name: &str) -> bool {
-        self.registry.has_collation(name)
+        self.functions.has_collation(name)
     }
 }

@@ -1,0 +1,6 @@
+pub mod Tests
+pub mod Outputs
+pub mod Joins
+pub mod Aggregates
+pub mod Terms
+pub mod Named
