@@ -69,8 +69,20 @@ unfolding doubled
 doubled_more [] x = refl
 doubled_more (y ∷ ys) x = doubled_step (y == 39) y ys x refl (doubled_more ys x)
 
-pub rows_more : (rs : List (List Value)) (r : List Value) → flat_map row_line (rs ++ r ∷ []) ≡ flat_map row_line rs ++ row_line r
-rows_more rs r = flat_map-append row_line rs (r ∷ []) ∙ ap (λ l. flat_map row_line rs ++ l) (append-nil (row_line r))
+pub each_more : {X : Type 0} (f : X → List ℕ) (xs : List X) (x : X) → flat_map f (xs ++ x ∷ []) ≡ flat_map f xs ++ f x
+each_more f xs x = flat_map-append f xs (x ∷ []) ∙ ap (λ l. flat_map f xs ++ l) (append-nil (f x))
+
+pub bars_four : (a b c d : Value) → behind_bars (a ∷ b ∷ c ∷ d ∷ []) ≡ (124 ∷ literal a) ++ ((124 ∷ literal b) ++ ((124 ∷ literal c) ++ (124 ∷ literal d)))
+unfolding behind_bars
+bars_four a b c d = rw (append-nil (literal d)) refl
+
+bars_both : (vs ws : List Value) → behind_bars (vs ++ ws) ≡ behind_bars vs ++ behind_bars ws
+unfolding behind_bars
+bars_both [] ws = refl
+bars_both (v ∷ vs) ws = ap (λ l. 124 ∷ literal v ++ l) (bars_both vs ws) ∙ sym (append_assoc (124 ∷ literal v) (behind_bars vs) (behind_bars ws))
+
+pub row_of_parts : (v : Value) (vs ws : List Value) → row_line (v ∷ (vs ++ ws)) ≡ (literal v ++ (behind_bars vs ++ behind_bars ws)) ++ 10 ∷ []
+row_of_parts v vs ws = ap (λ l. (literal v ++ l) ++ 10 ∷ []) (bars_both vs ws)
 
 -- nothing of nothing
 pub no_digits : (t : List ℕ) → encode_with t [] ≡ []

@@ -1,5 +1,5 @@
 -- What a line asks of a fleet. Source: this project's own line format.
-use Rattle.std.specs.Prelude.{ℕ, Bool, true, false, List, Option, Some, None, Result, Ok, Err, codes, if◌then◌else◌}
+use Rattle.std.specs.Prelude.{ℕ, ℤ, pos, negsuc, Bool, true, false, List, Option, Some, None, Result, Ok, Err, codes, if◌then◌else◌}
 use Rattle.std.specs.Option.{option_map}
 use Rattle.std.specs.Str.{bytes_eq}
 use Rattle.hex.specs.Hex.{decode_sized}
@@ -9,8 +9,11 @@ use Rattle.cr_value.specs.declared.value.Value.TheVariants.{Null, Int, Text, Blo
 use Rattle.cr_value.specs.Unpacking.{◌>>=◌}
 use Rattle.cr_value.specs.Reading.{literal_at}
 use Rattle.cr_replica.specs.declared.change_row.ChangeRow.{ChangeRow}
-use Rattle.cr_session.specs.declared.command.Command.{Command}
-use Rattle.cr_session.specs.declared.command.Command.TheVariants.{Open, Use, Take, Rows, Pull}
+use Rattle.cr_world.specs.declared.command.Command.{Command}
+use Rattle.cr_world.specs.declared.command.Command.TheVariants.{Open, Use, Take, Rows, Changes, Pull, Policy}
+use Rattle.cr_host.specs.declared.meaning.Auth.{Auth}
+use Rattle.cr_host.specs.declared.meaning.Auth.TheVariants as auth
+use Rattle.cr_guard.specs.declared.policy.PolicyRule.TheVariants.{Read, MaxChanges}
 use Rattle.cr_shell.specs.Words.{has_space, split_at_space, behind, is_empty, folded}
 use Rattle.cr_shell.specs.TableLine.{table_of}
 
@@ -81,6 +84,34 @@ open_of bytes = do
 abbrev pub word_of : List ℕ → Option (List ℕ)
 word_of bytes = if has_space bytes then None else Some bytes
 
+abbrev pub int_in : Value → Option ℤ
+int_in (Int n) = Some n
+int_in Null = None
+int_in (Text t) = None
+int_in (Blob b) = None
+
+-- an integer, and nothing behind it
+unfoldable pub integer_of : List ℕ → Option ℤ
+integer_of bytes = literal_at bytes >>= λ x. if is_empty x.1 then int_in x.0 else None
+
+-- a rule of the policy: what READ of a column answers, by the names of its table and of itself
+unfoldable pub rule_of : Auth → List ℕ → Option Command
+rule_of answer bytes = do
+  words ← split_at_space bytes
+  column ← word_of words.1
+  Some (Policy (Read (record { table = folded words.0; column = folded column; answer = answer })))
+
+-- not below 0
+abbrev pub most_of : ℤ → Option ℕ
+most_of (pos n) = Some n
+most_of (negsuc n) = None
+
+-- how many changes a commit may have, `off` for as many as there are
+unfoldable pub veto_of : List ℕ → Option Command
+veto_of bytes =
+    if bytes_eq bytes (codes "off") then Some (Policy (MaxChanges None))
+    else (integer_of bytes >>= λ n. option_map (λ most. Policy (MaxChanges (Some most))) (most_of n))
+
 unfoldable pub command_in : List ℕ → List ℕ → Option Command
 command_in word bytes =
     if bytes_eq word (codes ".open") then open_of bytes
@@ -88,7 +119,12 @@ command_in word bytes =
     else if bytes_eq word (codes ".table") then table_of bytes
     else if bytes_eq word (codes ".take") then option_map Take (row_of bytes)
     else if bytes_eq word (codes ".rows") then option_map (λ name. Rows (folded name)) (word_of bytes)
+    else if bytes_eq word (codes ".changes") then option_map Changes (integer_of bytes)
     else if bytes_eq word (codes ".pull") then option_map Pull (word_of bytes)
+    else if bytes_eq word (codes ".deny") then rule_of auth.Deny bytes
+    else if bytes_eq word (codes ".ignore") then rule_of auth.Ignore bytes
+    else if bytes_eq word (codes ".allow") then rule_of auth.Ok bytes
+    else if bytes_eq word (codes ".veto") then veto_of bytes
     else None
 
 -- the command that the line is, if it is one

@@ -1,21 +1,18 @@
--- What a fleet's replies are printed as. Source: this project's own; rows as SQL literals joined by bars, a refusal as a
--- line of its code, its name and its details.
-use Rattle.std.specs.Prelude.{◌≡◌, ◌≢◌, Bool, true, false, ℕ, List, [], ◌∷◌, ◌++◌, codes, decimal, Option}
+-- What a fleet's replies are printed as. Source: this project's own; rows and changes as SQL literals joined by bars, changes
+-- in the columns of cr-sqlite's `crsql_changes`.
+use Rattle.std.specs.Prelude.{◌≡◌, ◌≢◌, Bool, true, false, ℕ, List, [], ◌∷◌, ◌++◌, Option}
 use Rattle.std.specs.List.{flat_map}
 use Rattle.std.specs.Io.KnownBytes.{Appends}
 use Rattle.cr_value.specs.declared.value.Value.{Value}
-use Rattle.cr_value.specs.Literal.{literal, text_literal}
-use Rattle.cr_lattice.specs.declared.check.BadChange.{BadChange}
-use Rattle.cr_lattice.specs.declared.check.BadChange.TheVariants as bad
-use Rattle.cr_session.specs.declared.command.FleetReply.{FleetReply}
-use Rattle.cr_session.specs.declared.command.FleetReply.TheVariants.{Done, Rows, Refused}
-use Rattle.cr_session.specs.declared.refusal.OutOfProfile.{OutOfProfile as Outside}
-use Rattle.cr_session.specs.declared.refusal.OutOfProfile.TheVariants as out
-use Rattle.cr_session.specs.declared.refusal.Limit.{Limit as Limited}
-use Rattle.cr_session.specs.declared.refusal.Limit.TheVariants as limit
-use Rattle.cr_session.specs.declared.refusal.Refusal.{Refusal}
-use Rattle.cr_session.specs.declared.refusal.Refusal.TheVariants.{OutOfProfile, NoSuchTable, AmbiguousColumn, NoSuchCollation, TableExists, NoDefault, VersionLimit, BadChange as Bad, Limit, Store, Memory, BadName, NoReplica, SameSite, Command}
-use Rattle.cr_session.specs.Refusals.{code_of, title_of}
+use Rattle.cr_value.specs.declared.value.Value.TheVariants.{Int, Text, Blob}
+use Rattle.cr_value.specs.Literal.{literal}
+use Rattle.cr_lattice.specs.declared.stamped.Stamped.{Stamped}
+use Rattle.cr_world.specs.declared.command.FleetReply.{FleetReply}
+use Rattle.cr_world.specs.declared.command.FleetReply.TheVariants.{Script, Rows, Changes, Done, Refused}
+use Rattle.cr_world.specs.declared.command.Reply.{Reply}
+use Rattle.cr_world.specs.declared.command.Reply.TheVariants as statement
+use Rattle.cr_world.specs.declared.refusal.Refusal.{Refusal}
+use Rattle.cr_shell.specs.Refusing.{refusal_line, refusal_told}
 
 -- known bytes grow by a front of these, and not by all of them
 abbrev pub AppendsPart : Option (List ℕ) → Option (List ℕ) → List ℕ → Type 0
@@ -40,56 +37,33 @@ abbrev pub row_line : List Value → List ℕ
 row_line [] = 10 ∷ []
 row_line (v ∷ vs) = literal v ++ behind_bars vs ++ 10 ∷ []
 
--- ---- refusals
+-- a change as a row: its table, the key, the column, what that holds and its version, the version of the commit at which it
+-- came in, who made it, the causal length, and its place in that commit
+abbrev pub change_row : Stamped → List Value
+change_row s =
+    Text s.change.table ∷ Blob s.change.pk ∷ Text s.change.cid ∷ s.change.val ∷ Int s.change.col_version
+    ∷ Int s.version ∷ Blob s.change.site ∷ Int s.change.cl ∷ Int s.seq ∷ []
 
-abbrev pub outside_word : Outside → List ℕ
-outside_word out.Real = codes "REAL"
-outside_word out.PrimaryKey = codes "PRIMARY KEY"
-outside_word out.Collate = codes "COLLATE"
-outside_word out.RowCid = codes "-1"
-outside_word out.Default = codes "DEFAULT"
+abbrev pub change_line : Stamped → List ℕ
+change_line s = row_line (change_row s)
 
-abbrev pub limit_word : Limited → List ℕ
-limit_word limit.Columns = codes "Columns"
-limit_word limit.KeyColumns = codes "KeyColumns"
-limit_word limit.Replicas = codes "Replicas"
+-- ---- replies
 
-abbrev pub reason_word : BadChange → List ℕ
-reason_word bad.Shape = codes "Shape"
-reason_word bad.Size = codes "Size"
-reason_word bad.Table = codes "Table"
-reason_word bad.Key = codes "Key"
-reason_word bad.Cid = codes "Cid"
-reason_word bad.Length = codes "Length"
+-- what a statement shows, a line for each row
+abbrev pub reply_lines : Reply → List ℕ
+reply_lines (statement.Rows rows) = flat_map row_line rows
+reply_lines statement.Done = []
 
--- what follows a refusal's name: a word, or a name as a literal
-abbrev pub details : Refusal → List ℕ
-details (OutOfProfile what) = 32 ∷ outside_word what
-details (NoSuchTable name) = 32 ∷ text_literal name
-details (AmbiguousColumn name) = 32 ∷ text_literal name
-details (NoSuchCollation name) = 32 ∷ text_literal name
-details (TableExists name) = 32 ∷ text_literal name
-details (NoDefault name) = codes " NoDefault " ++ text_literal name
-details VersionLimit = []
-details (Bad reason) = 32 ∷ reason_word reason
-details (Limit which) = 32 ∷ limit_word which
-details (Store f) = []
-details Memory = []
-details (BadName name) = 32 ∷ text_literal name
-details NoReplica = []
-details SameSite = []
-details Command = []
+-- what its statements show, and then the refusal, if there is one
+abbrev pub script_lines : List Reply → Option Refusal → List ℕ
+script_lines replies refusal = flat_map reply_lines replies ++ refusal_told refusal
 
-abbrev pub refusal_head : Refusal → List ℕ
-refusal_head r = codes "error " ++ decimal (code_of r) ++ 32 ∷ title_of r
-
-abbrev pub refusal_line : Refusal → List ℕ
-refusal_line r = refusal_head r ++ details r ++ 10 ∷ []
-
--- a reply: a line for each row, a line for a refusal, nothing where there is no more to tell
+-- a reply: a line for each row or change, a line for a refusal, nothing where there is no more to tell
 abbrev pub printed : FleetReply → List ℕ
-printed Done = []
+printed (Script x) = script_lines x.replies x.refusal
 printed (Rows rows) = flat_map row_line rows
+printed (Changes changes) = flat_map change_line changes
+printed Done = []
 printed (Refused r) = refusal_line r
 
 -- the replies one after another

@@ -3,14 +3,14 @@ use Rattle.std.specs.Prelude.{◌≡◌, ◌≢◌, ◌⊎◌, ℕ, Bool, true, 
 use Rattle.std.specs.List.{flat_map, list_all, AllByRecursion}
 use Rattle.std.specs.Io.KnownBytes.{Consumes, IsAtEnd}
 use Rattle.cr_cells.specs.Holding.{Holding}
-use Rattle.cr_session.specs.declared.command.Command.{Command}
-use Rattle.cr_session.specs.declared.command.FleetReply.{FleetReply}
-use Rattle.cr_session.specs.declared.command.FleetReply.TheVariants.{Done, Refused}
-use Rattle.cr_session.specs.declared.refusal.Refusal.TheVariants as refusal
-use Rattle.cr_session.specs.Answers.{AreAnswered}
-use Rattle.cr_session.specs.World.{World}
-use Rattle.cr_session.specs.Fleets.{FleetOf, AreClean, IsUnharmed, Shows}
-use Rattle.cr_session.specs.Run.{Run, world_after, Converges}
+use Rattle.cr_world.specs.declared.command.Command.{Command}
+use Rattle.cr_world.specs.declared.command.FleetReply.{FleetReply}
+use Rattle.cr_world.specs.declared.command.FleetReply.TheVariants.{Done, Refused}
+use Rattle.cr_world.specs.declared.refusal.Refusal.TheVariants as refusal
+use Rattle.cr_world.specs.declared.refusal.Limit.TheVariants as limit
+use Rattle.cr_world.specs.Language.{Language}
+use Rattle.cr_world.specs.World.{Closures}
+use Rattle.cr_shell.specs.Running.{Standing, Ruled, RanAs}
 use Rattle.cr_shell.specs.declared.serving.Line.{Line}
 use Rattle.cr_shell.specs.declared.serving.Next.{Next}
 use Rattle.cr_shell.specs.declared.serving.Next.TheVariants as next
@@ -20,8 +20,8 @@ use Rattle.cr_shell.specs.declared.serving.ServeFault.{ServeFault}
 use Rattle.cr_shell.specs.declared.serving.ServeFault.TheVariants as fault
 use Rattle.cr_shell.specs.Printing.{Prints, output_of}
 use Rattle.cr_shell.specs.declared.asking.Asked.{Asked}
-use Rattle.cr_shell.specs.declared.asking.Asked.TheVariants.{Nothing, Quit, NoCommand, Asks}
-use Rattle.cr_shell.specs.Asking.{asked}
+use Rattle.cr_shell.specs.declared.asking.Asked.TheVariants.{Nothing, Quit, NoCommand, TooLong, Asks}
+use Rattle.cr_shell.specs.Asking.{asked, asked_at_end}
 
 -- ---- lines
 
@@ -33,29 +33,43 @@ ended lines = flat_map (λ l. l ++ 10 ∷ []) lines
 abbrev pub IsLine : List ℕ → Type 0
 IsLine line = list_all (λ c. not (c == 10)) line ≡ true
 
+-- what is heard: a line, or the end of the input
+pub data Entry : Type 0 where
+  AtLine : List ℕ → Entry
+  AtEnd : Entry
+
+-- what it asks where this is gathered, and what is gathered then
+abbrev pub asks : List ℕ → Entry → Asked × List ℕ
+asks gathered (AtLine line) = asked gathered line
+asks gathered AtEnd = asked_at_end gathered
+
 -- ---- turns
 
--- a line, the command that was run for it, if there was one, and the reply
+-- what was heard, the command that was run for it, if there was one, the reply, and what is gathered then
 pub record Turn : Type 0 where
-  pub line : List ℕ
+  pub entry : Entry
   pub command : Option Command
   pub reply : FleetReply
+  pub gathered : List ℕ
 
--- the reply to a line for which no command is run
+-- the reply where no command is run
 abbrev pub own_reply : Asked → Option FleetReply
 own_reply Nothing = Some Done
 own_reply NoCommand = Some (Refused refusal.Command)
+own_reply TooLong = Some (Refused (refusal.Limit limit.Script))
 own_reply Quit = None
 own_reply (Asks c) = None
 
--- The command is the one that the line asks for; none is run for a line that memory does not suffice for, and that is
--- told.
-abbrev pub IsFor : Asked → Option Command → FleetReply → Type 0
-IsFor asked None reply = (reply ≡ Refused refusal.Memory) ⊎ (own_reply asked ≡ Some reply)
-IsFor asked (Some c) reply = asked ≡ Asks c
+-- The command is the one that is asked for. None is run where memory does not suffice to know what is asked: that is told,
+-- and what is gathered is dropped.
+abbrev pub IsFor : Asked × List ℕ → Option Command → FleetReply → List ℕ → Type 0
+IsFor a None reply gathered = ((reply ≡ Refused refusal.Memory) × (gathered ≡ [])) ⊎ ((own_reply a.0 ≡ Some reply) × (gathered ≡ a.1))
+IsFor a (Some c) reply gathered = (a.0 ≡ Asks c) × (gathered ≡ a.1)
 
-abbrev pub IsTurn : Turn → Type 0
-IsTurn t = IsFor (asked t.line) t.command t.reply
+-- one turn after another, where this is gathered before them and this after them
+abbrev pub AreTurns : List ℕ → List Turn → List ℕ → Type 0
+AreTurns before [] after = after ≡ before
+AreTurns before (t ∷ ts) after = IsFor (asks before t.entry) t.command t.reply t.gathered × AreTurns t.gathered ts after
 
 abbrev pub with_command : Option Command → List Command → List Command
 with_command None cs = cs
@@ -75,57 +89,25 @@ abbrev pub replies : List Turn → List FleetReply
 replies [] = []
 replies (t ∷ ts) = with_reply t.command t.reply (replies ts)
 
--- Lines were heard: each has its turn, the commands ran as a run of the fleet with these replies, which converges, and what
--- is written is what they are printed as. Where each store was clean and no command's reply tells of want, each is clean
--- then; a line for which there is no memory runs no command.
-pub record Heard {W C : Type 0} (contents : W → Option (List ℕ)) (is_clean : C → Type 0) (holding : C → Holding) (w0 w1 : W × Bool) (f0 f1 : FleetOf C) (lines : List (List ℕ)) : Type 0 where
-  pub turns : List Turn
-  pub lines_are : map (λ t. t.line) turns ≡ lines
-  pub are_for : AllByRecursion IsTurn turns
-  pub was_clean : AreClean is_clean f1 → AreClean is_clean f0
-  pub stays_clean : AreClean is_clean f0 → AreAnswered (replies turns) → AreClean is_clean f1
-  pub ran : IsUnharmed is_clean f0 (replies turns) f1 → (w : World) → Shows holding w f0 → Run w (commands turns) (replies turns) × Shows holding (world_after w (commands turns) (replies turns)) f1
-  pub converges : IsUnharmed is_clean f0 (replies turns) f1 → (w : World) → Shows holding w f0 → Converges w (commands turns) (replies turns)
-  pub written : Prints contents w0 w1 (output_of (map (λ t. t.reply) turns))
-
--- a line as far as it was read, lost where there was no memory for it
+-- a line as far as it was read; it is lost where there was no memory for one of its bytes
 abbrev pub IsKept : Line → List ℕ → Type 0
-IsKept line bytes = (line.is_lost ≡ true) ⊎ (line.bytes.items ≡ bytes)
-
--- A line was answered, or ends the run.
-abbrev pub Replies : {C : Type 0} → (C → Type 0) → (C → Holding) → FleetOf C → List ℕ → Option FleetReply → FleetOf C → Type 0
-Replies is_clean holding f0 line None f1 = (asked line ≡ Quit) × (f1 ≡ f0)
-Replies is_clean holding f0 line (Some reply) f1 = (command : Option Command) × IsFor (asked line) command reply × (AreClean is_clean f1 → AreClean is_clean f0)
-    × (AreClean is_clean f0 → AreAnswered (with_reply command reply []) → AreClean is_clean f1)
-    × (AreClean is_clean f1 → (w : World) → Shows holding w f0 → Run w (with_command command []) (with_reply command reply []) × Shows holding (world_after w (with_command command []) (with_reply command reply [])) f1)
-
--- a line was heard, or ends the run
-abbrev pub Hears : {W C : Type 0} → (W → Option (List ℕ)) → (C → Type 0) → (C → Holding) → W × Bool → W × Bool → FleetOf C → FleetOf C → List ℕ → Bool → Type 0
-Hears contents is_clean holding w0 w1 f0 f1 line true = Heard contents is_clean holding w0 w1 f0 f1 (line ∷ [])
-Hears contents is_clean holding w0 w1 f0 f1 line false = (asked line ≡ Quit) × (w1 ≡ w0) × (f1 ≡ f0)
+IsKept line bytes = ((line.is_lost ≡ true) × (bytes ≢ [])) ⊎ ((line.is_lost ≡ false) × (line.bytes.items ≡ bytes))
 
 -- how a line is with a byte more
 abbrev pub IsPushed : Line → Line → ℕ → Type 0
-IsPushed old new byte = (new.is_lost ≡ true) ⊎ ((old.is_lost ≡ false) × (new.bytes.items ≡ old.bytes.items ++ byte ∷ []))
+IsPushed old new byte = (new.is_lost ≡ true) ⊎ ((old.is_lost ≡ false) × (new.is_lost ≡ false) × (new.bytes.items ≡ old.bytes.items ++ byte ∷ []))
 
 abbrev pub IsNewLine : Line → Type 0
 IsNewLine line = (line.bytes.items ≡ []) × (line.is_lost ≡ false)
 
--- A byte was taken: it belongs to the line; or, a line feed, it ends the line, which is heard, or ends the run.
-abbrev pub Takes : {W C : Type 0} → (W → Option (List ℕ)) → (C → Type 0) → (C → Holding) → W × Bool → W × Bool → FleetOf C → FleetOf C → Line → Line → ℕ → Next → Type 0
-Takes contents is_clean holding w0 w1 f0 f1 old new byte next.Goes =
-    ((byte ≢ 10) × (w1 ≡ w0) × (f1 ≡ f0) × IsPushed old new byte)
-    ⊎ ((byte ≡ 10) × ((b : List ℕ) → IsKept old b → Heard contents is_clean holding w0 w1 f0 f1 (b ∷ [])) × IsNewLine new × (w1.1 ≡ false))
-Takes contents is_clean holding w0 w1 f0 f1 old new byte next.Quits = (byte ≡ 10) × ((b : List ℕ) → IsKept old b → (asked b ≡ Quit) × (w1 ≡ w0) × (f1 ≡ f0))
-Takes contents is_clean holding w0 w1 f0 f1 old new byte next.Fails =
-    (byte ≡ 10) × ((b : List ℕ) → IsKept old b → Heard contents is_clean holding w0 w1 f0 f1 (b ∷ [])) × IsNewLine new × (w1.1 ≡ true)
+abbrev pub IsEmpty : List ℕ → Bool → Type 0
+IsEmpty bytes true = bytes ≡ []
+IsEmpty bytes false = bytes ≢ []
 
--- how a run ends with its last line
-abbrev pub Ends : {W C : Type 0} → (W → Option (List ℕ)) → (C → Type 0) → (C → Holding) → W × Bool → W × Bool → FleetOf C → FleetOf C → List ℕ → Result End ServeFault → Type 0
-Ends contents is_clean holding w0 w1 f0 f1 line (Ok end.Quit) = (asked line ≡ Quit) × (w1 ≡ w0) × (f1 ≡ f0)
-Ends contents is_clean holding w0 w1 f0 f1 line (Ok end.Input) = Heard contents is_clean holding w0 w1 f0 f1 (line ∷ []) × (w1.1 ≡ false)
-Ends contents is_clean holding w0 w1 f0 f1 line (Err fault.Read) = ⊥
-Ends contents is_clean holding w0 w1 f0 f1 line (Err fault.Write) = Heard contents is_clean holding w0 w1 f0 f1 (line ∷ []) × (w1.1 ≡ true)
+-- the unfinished line, unless it is empty
+abbrev pub last_line : List ℕ → List (List ℕ)
+last_line [] = []
+last_line (c ∷ cs) = (c ∷ cs) ∷ []
 
 -- ---- all that is served
 
@@ -135,15 +117,15 @@ input_limit = 16000000
 
 -- the input is these lines, of which the last may end without a line feed where nothing is left of the input
 abbrev pub IsAllOf : List ℕ → Option (List ℕ) → List (List ℕ) → Type 0
-IsAllOf input left lines = (input ≡ ended lines) ⊎ ((before : List (List ℕ)) × (last : List ℕ) × (lines ≡ before ++ last ∷ []) × (input ≡ ended before ++ last) × IsAtEnd left)
+IsAllOf input left lines = (input ≡ ended lines) ⊎ ((before : List (List ℕ)) × (last : List ℕ) × (last ≢ []) × (lines ≡ before ++ last ∷ []) × (input ≡ ended before ++ last) × IsAtEnd left)
 
 -- How the input that was read is made of the lines that were heard: they are all of it, and nothing is left; all but
--- `.quit` at its end; all but the unfinished line before a reader's fault.
-abbrev pub IsCut : Result End ServeFault → List ℕ → Option (List ℕ) → List (List ℕ) → Type 0
-IsCut (Ok end.Input) input left lines = IsAllOf input left lines × IsAtEnd left
-IsCut (Ok end.Quit) input left lines = (last : List ℕ) × IsLine last × (asked last ≡ Quit) × IsAllOf input left (lines ++ last ∷ [])
-IsCut (Err fault.Read) input left lines = (rest : List ℕ) × IsLine rest × (input ≡ ended lines ++ rest)
-IsCut (Err fault.Write) input left lines = IsAllOf input left lines
+-- `.quit` at its end; all but the unfinished line before a reader's fault. The end is heard where it is come to.
+abbrev pub IsCut : Result End ServeFault → List ℕ → Option (List ℕ) → List (List ℕ) → List Entry → List ℕ → Type 0
+IsCut (Ok end.Input) input left lines entries gathered = IsAllOf input left lines × IsAtEnd left × (entries ≡ map AtLine lines ++ AtEnd ∷ [])
+IsCut (Ok end.Quit) input left lines entries gathered = (last : List ℕ) × IsLine last × ((asked gathered last).0 ≡ Quit) × IsAllOf input left (lines ++ last ∷ []) × (entries ≡ map AtLine lines)
+IsCut (Err fault.Read) input left lines entries gathered = (rest : List ℕ) × IsLine rest × (input ≡ ended lines ++ rest) × (entries ≡ map AtLine lines)
+IsCut (Err fault.Write) input left lines entries gathered = IsAllOf input left lines × ((entries ≡ map AtLine lines) ⊎ (IsAtEnd left × (entries ≡ map AtLine lines ++ AtEnd ∷ [])))
 
 -- A fault is told with its cause: the writer failed, or the reader failed or the input reached its limit; without one all
 -- was written.
@@ -152,30 +134,90 @@ IsCaused (Ok e) input read_failed write_failed = write_failed ≡ false
 IsCaused (Err fault.Read) input read_failed write_failed = ((read_failed ≡ true) ⊎ (length input ≡ input_limit)) × (write_failed ≡ false)
 IsCaused (Err fault.Write) input read_failed write_failed = write_failed ≡ true
 
--- the last line that was heard is the one at which the writer failed
-pub record FailedLast {W C : Type 0} (contents : W → Option (List ℕ)) (is_clean : C → Type 0) (holding : C → Holding) (w0 w1 : W × Bool) (f0 f1 : FleetOf C) (lines : List (List ℕ)) : Type 0 where
-  pub before : List (List ℕ)
-  pub last : List ℕ
-  pub lines_are : lines ≡ before ++ last ∷ []
-  pub writer : W × Bool
-  pub fleet : FleetOf C
-  pub heard_before : Heard contents is_clean holding w0 writer f0 fleet before
-  pub had_not_failed : writer.1 ≡ false
-  pub heard_last : Heard contents is_clean holding writer w1 fleet f1 (last ∷ [])
-
--- once the writer has failed no line more is heard
+-- once the writer has failed nothing more is heard
 abbrev pub Stops : Result End ServeFault → Type 0 → Type 0
 Stops (Ok e) failed_last = Unit {0}
 Stops (Err fault.Read) failed_last = Unit {0}
 Stops (Err fault.Write) failed_last = failed_last
 
-pub record Serves {R W C : Type 0} (remaining : R → Option (List ℕ)) (contents : W → Option (List ℕ)) (is_clean : C → Type 0) (holding : C → Holding)
-    (result : Result End ServeFault) (r0 r1 : R × Bool) (w0 w1 : W × Bool) (f0 f1 : FleetOf C) : Type 0 where
-  pub input : List ℕ
-  pub lines : List (List ℕ)
-  pub read : Consumes (remaining r0.0) (remaining r1.0) input
-  pub cut : IsCut result input (remaining r1.0) lines
-  pub are_lines : AllByRecursion IsLine lines
-  pub heard : Heard contents is_clean holding w0 w1 f0 f1 lines
-  pub caused : IsCaused result input r1.1 w1.1
-  pub stops : Stops result (FailedLast contents is_clean holding w0 w1 f0 f1 lines)
+-- ---- what is heard, over a writer, a fleet, and what the host gives it
+
+-- what is heard ends the run
+abbrev pub Quits : {C : Type 0} → Standing C → Standing C → Entry → Type 0
+Quits s0 s1 entry = ((asks s0.2 entry).0 ≡ Quit) × (s1.0 ≡ s0.0) × (s1.1 ≡ s0.1)
+
+module _ {S E C : Type 0} (are_names : (List ℕ → Bool) → Type 0) (language : (List ℕ → Bool) → Language S E) (k : Closures) (is_clean : C → Type 0) (holding : C → Holding) where
+  -- it was answered, or ends the run
+  abbrev pub Replies : Standing C → Entry → Option FleetReply → Standing C → Type 0
+  Replies s0 entry None s1 = Quits s0 s1 entry
+  Replies s0 entry (Some reply) s1 = (command : Option Command) × IsFor (asks s0.2 entry) command reply s1.2 × RanAs are_names language k is_clean holding s0 s1 (with_command command []) (with_reply command reply [])
+
+module _ {S E W C : Type 0} (contents : W → Option (List ℕ)) (are_names : (List ℕ → Bool) → Type 0) (language : (List ℕ → Bool) → Language S E) (k : Closures) (is_clean : C → Type 0) (holding : C → Holding) where
+  -- Lines were heard, and maybe the end: each has its turn, the commands ran with these replies, and what is written is what
+  -- they are printed as.
+  pub record Heard (w0 w1 : W × Bool) (s0 s1 : Standing C) (entries : List Entry) : Type 0 where
+    pub turns : List Turn
+    pub entries_are : map (λ t. t.entry) turns ≡ entries
+    pub are_for : AreTurns s0.2 turns s1.2
+    pub ran : RanAs are_names language k is_clean holding s0 s1 (commands turns) (replies turns)
+    pub written : Prints contents w0 w1 (output_of (map (λ t. t.reply) turns))
+
+  -- it was heard, or ends the run
+  abbrev pub Hears : W × Bool → W × Bool → Standing C → Standing C → Entry → Bool → Type 0
+  Hears w0 w1 s0 s1 entry true = Heard w0 w1 s0 s1 (entry ∷ [])
+  Hears w0 w1 s0 s1 entry false = Quits s0 s1 entry × (w1 ≡ w0)
+
+  -- A line was heard, at which the writer may have failed, or ends the run.
+  abbrev pub HearsLine : W × Bool → W × Bool → Standing C → Standing C → List ℕ → Next → Type 0
+  HearsLine w0 w1 s0 s1 line next.Goes = Heard w0 w1 s0 s1 (AtLine line ∷ []) × (w1.1 ≡ false)
+  HearsLine w0 w1 s0 s1 line next.Fails = Heard w0 w1 s0 s1 (AtLine line ∷ []) × (w1.1 ≡ true)
+  HearsLine w0 w1 s0 s1 line next.Quits = Quits s0 s1 (AtLine line) × (w1 ≡ w0)
+
+  -- the same of the unfinished line at the end of the input, unless it is empty
+  abbrev pub HearsUnfinished : W × Bool → W × Bool → Standing C → Standing C → List ℕ → Next → Type 0
+  HearsUnfinished w0 w1 s0 s1 line next.Goes = Heard w0 w1 s0 s1 (map AtLine (last_line line)) × (w1.1 ≡ false)
+  HearsUnfinished w0 w1 s0 s1 line next.Fails = (line ≢ []) × HearsLine w0 w1 s0 s1 line next.Fails
+  HearsUnfinished w0 w1 s0 s1 line next.Quits = (line ≢ []) × HearsLine w0 w1 s0 s1 line next.Quits
+
+  -- A byte was taken: it belongs to the line; or, a line feed, it ends the line.
+  abbrev pub Takes : W × Bool → W × Bool → Standing C → Standing C → Line → Line → ℕ → Next → Type 0
+  Takes w0 w1 s0 s1 old new byte result =
+      ((result ≡ next.Goes) × (byte ≢ 10) × (w1 ≡ w0) × (s1 ≡ s0) × IsPushed old new byte)
+      ⊎ ((byte ≡ 10) × IsNewLine new × ((b : List ℕ) → IsKept old b → HearsLine w0 w1 s0 s1 b result))
+
+  -- the last that was heard is what the writer failed at
+  pub record FailedLast (w0 w1 : W × Bool) (s0 s1 : Standing C) (entries : List Entry) : Type 0 where
+    pub before : List Entry
+    pub last : Entry
+    pub entries_are : entries ≡ before ++ last ∷ []
+    pub writer : W × Bool
+    pub standing : Standing C
+    pub heard_before : Heard w0 writer s0 standing before
+    pub had_not_failed : writer.1 ≡ false
+    pub heard_last : Heard writer w1 standing s1 (last ∷ [])
+
+  -- What was heard at the end, and that the writer failed there: at the unfinished line, or at what was gathered.
+  abbrev pub FailsAtEnd : W × Bool → W × Bool → Standing C → Standing C → List ℕ → Type 0
+  FailsAtEnd w0 w1 s0 s1 line =
+      ((line ≢ []) × Heard w0 w1 s0 s1 (AtLine line ∷ []))
+      ⊎ ((writer : W × Bool) × (standing : Standing C) × Heard w0 writer s0 standing (map AtLine (last_line line)) × (writer.1 ≡ false) × Heard writer w1 standing s1 (AtEnd ∷ []))
+
+  -- How a run ends with the unfinished line, which is heard unless it is empty; then the end is heard.
+  abbrev pub Ends : W × Bool → W × Bool → Standing C → Standing C → List ℕ → Result End ServeFault → Type 0
+  Ends w0 w1 s0 s1 line (Ok end.Quit) = (line ≢ []) × Quits s0 s1 (AtLine line) × (w1 ≡ w0)
+  Ends w0 w1 s0 s1 line (Ok end.Input) = Heard w0 w1 s0 s1 (map AtLine (last_line line) ++ AtEnd ∷ []) × (w1.1 ≡ false)
+  Ends w0 w1 s0 s1 line (Err fault.Read) = ⊥
+  Ends w0 w1 s0 s1 line (Err fault.Write) = FailsAtEnd w0 w1 s0 s1 line × (w1.1 ≡ true)
+
+  -- nothing is gathered before
+  pub record Serves {R : Type 0} (remaining : R → Option (List ℕ)) (result : Result End ServeFault) (r0 r1 : R × Bool) (w0 w1 : W × Bool) (f0 f1 : Ruled C) : Type 0 where
+    pub input : List ℕ
+    pub lines : List (List ℕ)
+    pub entries : List Entry
+    pub gathered : List ℕ
+    pub read : Consumes (remaining r0.0) (remaining r1.0) input
+    pub cut : IsCut result input (remaining r1.0) lines entries gathered
+    pub are_lines : AllByRecursion IsLine lines
+    pub heard : Heard w0 w1 (f0.0, f0.1, []) (f1.0, f1.1, gathered) entries
+    pub caused : IsCaused result input r1.1 w1.1
+    pub stops : Stops result (FailedLast w0 w1 (f0.0, f0.1, []) (f1.0, f1.1, gathered) entries)

@@ -10,10 +10,10 @@ use Rattle.cr_value.specs.declared.affinity.Affinity.TheVariants.{Blob}
 use Rattle.cr_value.specs.Affinity.{affinity_of_type}
 use Rattle.cr_value.specs.Unpacking.{◌>>=◌}
 use Rattle.cr_value.specs.Reading.{literal_at}
-use Rattle.cr_session.specs.declared.command.Command.{Command}
-use Rattle.cr_session.specs.declared.command.Command.TheVariants.{Define}
-use Rattle.cr_session.specs.declared.command.Declaration.{Declaration}
-use Rattle.cr_session.specs.declared.command.Declaration.TheVariants.{Real, Table}
+use Rattle.cr_world.specs.declared.command.Command.{Command}
+use Rattle.cr_world.specs.declared.command.Command.TheVariants.{Define}
+use Rattle.cr_world.specs.declared.command.Declaration.{Declaration}
+use Rattle.cr_world.specs.declared.command.Declaration.TheVariants.{Real, Table}
 use Rattle.cr_shell.specs.declared.table_line.Marks.{Marks}
 use Rattle.cr_shell.specs.declared.table_line.Column.{Column}
 use Rattle.cr_shell.specs.Words.{split_at_space, behind, is_empty, folded}

@@ -3,7 +3,9 @@
 
 pub mod asking;
 pub mod line;
+mod literals;
 pub mod printing;
+mod refusing;
 pub mod serving;
 mod table_line;
 pub mod watched;

@@ -1,21 +1,23 @@
 //! What a line asks of a fleet.
 
 ghost use Rattle.std.specs.Prelude.{◌≡◌, drop, IfOk, IfSome};
-ghost use Rattle.cr_session.specs.Answers.{IsReady};
+ghost use Rattle.cr_shell.specs.Ready.{MayRun};
 ghost use Rattle.std.specs.Option.{option_map};
 ghost use Rattle.hex.specs.Hex.{decode_sized};
 ghost use Rattle.cr_value.specs.Reading.{literal_at};
-ghost use Rattle.cr_session.specs.declared.command.Command.TheVariants.{Use, Rows, Pull, Take};
+ghost use Rattle.cr_world.specs.declared.command.Command.TheVariants.{Use, Rows, Changes, Pull, Take};
 ghost use Rattle.cr_shell.specs.Words.{folded};
-ghost use Rattle.cr_shell.specs.Lines.{barred, is_int, integer_behind_bar, cell_of, content_of, origin_of, row_of, site_in, open_of, word_of, command_in, command_of};
+ghost use Rattle.cr_shell.specs.Lines.{barred, is_int, integer_behind_bar, cell_of, content_of, origin_of, row_of, site_in, open_of, word_of, integer_of, most_of, rule_of, veto_of, command_in, command_of};
 
 use crate::table_line::table_of;
 use crate::words::{behind_from, folded, has_space, is_at_end, literal_from, split_at_space};
+use cr_guard::action::Auth;
+use cr_guard::policy::{PolicyRule, ReadRule};
 use cr_lattice::change::Site;
 use cr_replica::change_row::ChangeRow;
-use cr_session::command::Command;
 use cr_value::text::Text;
 use cr_value::value::Value;
+use cr_world::command::Command;
 use hex::FromHex;
 use std::alloc::{AllocError, Global};
 
@@ -130,7 +132,7 @@ fn site_of(digits: &str) -> Option<Site>
 #[tactic(auto, unfolding(crate::specs::Lines::open_of))]
 fn open_of(alloc: Global, text: &str) -> Result<Option<Command>, AllocError>
     ensures value { IfOk result (λ command. command ≡ open_of text.now) }
-    ensures ready { IfOk result (λ command. IfSome command IsReady) }
+    ensures ready { IfOk result (λ command. IfSome command MayRun) }
 {
     let Some((name, digits)) = split_at_space(text) else {
         return Ok(None);
@@ -152,14 +154,14 @@ fn word_of(alloc: Global, text: &str) -> Result<Option<Text>, AllocError>
 
 fn use_of(alloc: Global, text: &str) -> Result<Option<Command>, AllocError>
     ensures value { IfOk result (λ command. command ≡ option_map Use (word_of text.now)) }
-    ensures ready { IfOk result (λ command. IfSome command IsReady) }
+    ensures ready { IfOk result (λ command. IfSome command MayRun) }
 {
     Ok(word_of(alloc, text)?.map(Command::Use))
 }
 
 fn rows_of(alloc: Global, text: &str) -> Result<Option<Command>, AllocError>
     ensures value { IfOk result (λ command. command ≡ option_map (λ name. Rows (folded name)) (word_of text.now)) }
-    ensures ready { IfOk result (λ command. IfSome command IsReady) }
+    ensures ready { IfOk result (λ command. IfSome command MayRun) }
 {
     let Some(name) = word_of(alloc, text)? else {
         return Ok(None);
@@ -169,14 +171,82 @@ fn rows_of(alloc: Global, text: &str) -> Result<Option<Command>, AllocError>
 
 fn pull_of(alloc: Global, text: &str) -> Result<Option<Command>, AllocError>
     ensures value { IfOk result (λ command. command ≡ option_map Pull (word_of text.now)) }
-    ensures ready { IfOk result (λ command. IfSome command IsReady) }
+    ensures ready { IfOk result (λ command. IfSome command MayRun) }
 {
     Ok(word_of(alloc, text)?.map(Command::Pull))
 }
 
+#[tactic(auto, unfolding(crate::specs::Lines::integer_of))]
+fn integer_of(alloc: Global, text: &str) -> Result<Option<i64>, AllocError>
+    ensures { IfOk result (λ number. number ≡ integer_of text.now) }
+{
+    let Some((Value::Int(number), end)) = literal_from(alloc, text, 0)? else {
+        return Ok(None);
+    };
+    if !is_at_end(text, end) {
+        return Ok(None);
+    }
+    Ok(Some(number))
+}
+
+fn changes_of(alloc: Global, text: &str) -> Result<Option<Command>, AllocError>
+    ensures value { IfOk result (λ command. command ≡ option_map Changes (integer_of text.now)) }
+    ensures ready { IfOk result (λ command. IfSome command MayRun) }
+{
+    Ok(integer_of(alloc, text)?.map(Command::Changes))
+}
+
+// The rule of a policy that a table and a column are.
+#[tactic(auto, unfolding(crate::specs::Lines::rule_of))]
+fn rule_of(alloc: Global, text: &str, answer: Auth) -> Result<Option<Command>, AllocError>
+    ensures value { IfOk result (λ command. command ≡ rule_of answer text.now) }
+    ensures ready { IfOk result (λ command. IfSome command MayRun) }
+{
+    let Some((table, column)) = split_at_space(text) else {
+        return Ok(None);
+    };
+    if has_space(column) {
+        return Ok(None);
+    }
+    let table = folded(alloc, table)?;
+    let column = folded(alloc, column)?;
+    Ok(Some(Command::Policy(PolicyRule::Read(ReadRule {
+        table,
+        column,
+        answer,
+    }))))
+}
+
+fn most_of(number: i64) -> Option<u64>
+    ensures { result ≡ most_of number }
+{
+    if number < 0 {
+        return None;
+    }
+    Some(number as u64)
+}
+
+// How many changes a commit may have.
+#[tactic(auto, unfolding(crate::specs::Lines::veto_of))]
+fn veto_of(alloc: Global, text: &str) -> Result<Option<Command>, AllocError>
+    ensures value { IfOk result (λ command. command ≡ veto_of text.now) }
+    ensures ready { IfOk result (λ command. IfSome command MayRun) }
+{
+    if text == "off" {
+        return Ok(Some(Command::Policy(PolicyRule::MaxChanges(None))));
+    }
+    let Some(number) = integer_of(alloc, text)? else {
+        return Ok(None);
+    };
+    let Some(most) = most_of(number) else {
+        return Ok(None);
+    };
+    Ok(Some(Command::Policy(PolicyRule::MaxChanges(Some(most)))))
+}
+
 fn take_of(alloc: Global, text: &str) -> Result<Option<Command>, AllocError>
     ensures value { IfOk result (λ command. command ≡ option_map Take (row_of text.now)) }
-    ensures ready { IfOk result (λ command. IfSome command IsReady) }
+    ensures ready { IfOk result (λ command. IfSome command MayRun) }
 {
     Ok(row_of(alloc, text)?.map(Command::Take))
 }
@@ -184,7 +254,7 @@ fn take_of(alloc: Global, text: &str) -> Result<Option<Command>, AllocError>
 #[tactic(auto, unfolding(crate::specs::Lines::command_in))]
 fn command_in(alloc: Global, word: &str, text: &str) -> Result<Option<Command>, AllocError>
     ensures value { IfOk result (λ command. command ≡ command_in word.now text.now) }
-    ensures ready { IfOk result (λ command. IfSome command IsReady) }
+    ensures ready { IfOk result (λ command. IfSome command MayRun) }
 {
     match word {
         ".open" => open_of(alloc, text),
@@ -192,7 +262,12 @@ fn command_in(alloc: Global, word: &str, text: &str) -> Result<Option<Command>, 
         ".table" => table_of(alloc, text),
         ".take" => take_of(alloc, text),
         ".rows" => rows_of(alloc, text),
+        ".changes" => changes_of(alloc, text),
         ".pull" => pull_of(alloc, text),
+        ".deny" => rule_of(alloc, text, Auth::Deny),
+        ".ignore" => rule_of(alloc, text, Auth::Ignore),
+        ".allow" => rule_of(alloc, text, Auth::Ok),
+        ".veto" => veto_of(alloc, text),
         _ => Ok(None),
     }
 }
@@ -204,7 +279,7 @@ fn command_in(alloc: Global, word: &str, text: &str) -> Result<Option<Command>, 
 #[tactic(auto, unfolding(crate::specs::Lines::command_of))]
 pub fn command_of(alloc: Global, line: &str) -> Result<Option<Command>, AllocError>
     ensures value { IfOk result (λ command. command ≡ command_of line.now) }
-    ensures ready { IfOk result (λ command. IfSome command IsReady) }
+    ensures ready { IfOk result (λ command. IfSome command MayRun) }
 {
     let Some((word, text)) = split_at_space(line) else {
         return Ok(None);

@@ -1,16 +1,19 @@
 //! Lines from a reader, replies to a writer.
 
-ghost use Rattle.std.specs.Prelude.{◌≡◌, ℕ, List, false, IfOk};
+ghost use Rattle.std.specs.Prelude.{◌≡◌, ℕ, List, [], true, false, IfOk};
 ghost use Rattle.cr_shell.specs.Asking.{asked, AsksReady};
-ghost use Rattle.cr_shell.specs.Serving.{IsKept, IsNewLine, IsPushed, Replies, Hears, Takes, Ends, Serves};
+ghost use Rattle.cr_shell.specs.Serving.{Entry, asks, IsKept, IsNewLine, IsPushed, IsEmpty, Replies, Hears, HearsLine, HearsUnfinished, Takes, Ends, Serves};
 
-use crate::asking::{Asked, parse_line};
+use crate::asking::{Asked, Gathered};
 use crate::printing::print_reply;
 use crate::watched::{Failed, Watched};
 use cr_cells::store::NewCells;
-use cr_session::command::FleetReply;
-use cr_session::fleet::Fleet;
-use cr_session::refusal::Refusal;
+use cr_fleet::fleet::Fleet;
+use cr_fleet::speaking::{Speaking, Watching};
+use cr_guard::guarding::Guarding;
+use cr_host::functions::Functions;
+use cr_world::command::FleetReply;
+use cr_world::refusal::{Limit, Refusal};
 use std::alloc::{AllocError, Global};
 use std::io::{Read, Write};
 
@@ -76,41 +79,94 @@ impl Line {
         self.is_lost = false;
     }
 
-    // What the line asks, unless memory doesn't suffice.
-    fn parse(&self, alloc: Global) -> Result<Asked, AllocError>
-        ensures value { IfOk result (λ it. (self.now.is_lost ≡ false) × (it ≡ asked self.now.bytes.items)) }
-        ensures ready { IfOk result AsksReady }
+    fn is_empty(&self) -> bool
+        ensures { (bytes : List ℕ) → IsKept self.now bytes → IsEmpty bytes result }
     {
-        if self.is_lost {
-            return Err(AllocError);
-        }
-        parse_line(alloc, &self.bytes)
+        !self.is_lost && self.bytes.is_empty()
     }
 }
 
-// The reply to a line, `None` where it ends the run.
-fn answer<C: NewCells>(alloc: Global, fleet: &mut Fleet<C>, line: &Line) -> Option<FleetReply>
-    ensures { (bytes : List ℕ) → IsKept line.now bytes → Replies C.is_clean C.holding fleet.old bytes result fleet.new }
+// What was read and isn't run yet: the line, and what is gathered of those before it.
+#[derive(Drop)]
+struct Input {
+    line: Line,
+    gathered: Gathered,
+}
+
+impl Input {
+    fn new(alloc: Global) -> Input
+        ensures line { IsNewLine result.line }
+        ensures gathered { result.gathered ≡ [] }
+    {
+        Input {
+            line: Line::new(alloc),
+            gathered: Gathered::new(alloc),
+        }
+    }
+
+    // What the line asks, unless memory doesn't suffice; the next line is empty then.
+    fn ask(&mut self, alloc: Global) -> Result<Asked, AllocError>
+        ensures value { IfOk result (λ it. (self.old.line.is_lost ≡ false) × ((it, self.new.gathered) ≡ asked self.old.gathered self.old.line.bytes.items)) }
+        ensures ready { IfOk result AsksReady }
+        ensures line { IsNewLine self.new.line }
+    {
+        let request = if self.line.is_lost {
+            Err(AllocError)
+        } else {
+            self.gathered.ask(alloc, &self.line.bytes)
+        };
+        self.line.clear();
+        request
+    }
+}
+
+// The reply to what is asked, `None` where it ends the run; where memory did not suffice, what is gathered is dropped.
+fn answer<C: NewCells, F: Functions, G: Guarding>(
+    alloc: Global,
+    fleet: &mut Fleet<C>,
+    functions: &F,
+    guard: &mut G,
+    gathered: &mut Gathered,
+    request: Result<Asked, AllocError>,
+) -> Option<FleetReply>
+    requires guard { G.is_faithful guard.old }
+    requires ready { IfOk request AsksReady }
+    ensures replies { (entry : Entry) (before : List ℕ) → IfOk request (λ it. (it, gathered.old) ≡ asks before entry)
+        → Replies (⟦<F as Speaking>⟧.are_names functions.now) (⟦<F as Speaking>⟧.language functions.now) (⟦<G as Watching>⟧.closures guard.old) C.is_clean C.holding (fleet.old, G.rules guard.old, before) entry result (fleet.new, G.rules guard.new, gathered.new) }
+    ensures closures { ⟦<G as Watching>⟧.closures guard.new ≡ ⟦<G as Watching>⟧.closures guard.old }
+    ensures faithful { G.is_faithful guard.new }
 {
-    match line.parse(alloc) {
+    match request {
         Ok(Asked::Nothing) => Some(FleetReply::Done),
         Ok(Asked::Quit) => None,
         Ok(Asked::NoCommand) => Some(FleetReply::Refused(Refusal::Command)),
-        Ok(Asked::Asks(command)) => Some(fleet.step(alloc, &command)),
-        Err(AllocError) => Some(FleetReply::Refused(Refusal::Memory)),
+        Ok(Asked::TooLong) => Some(FleetReply::Refused(Refusal::Limit(Limit::Script))),
+        Ok(Asked::Asks(command)) => Some(fleet.step(alloc, functions, guard, &command)),
+        Err(AllocError) => {
+            gathered.clear();
+            Some(FleetReply::Refused(Refusal::Memory))
+        }
     }
 }
 
-// Answers a line; false where it ends the run.
-fn hear<W: Write, C: NewCells>(
+// Answers what is asked; false where it ends the run.
+fn hear<W: Write, C: NewCells, F: Functions, G: Guarding>(
     alloc: Global,
     writer: &mut Watched<W>,
     fleet: &mut Fleet<C>,
-    line: &Line,
+    functions: &F,
+    guard: &mut G,
+    gathered: &mut Gathered,
+    request: Result<Asked, AllocError>,
 ) -> bool
-    ensures { (bytes : List ℕ) → IsKept line.now bytes → Hears W.contents C.is_clean C.holding writer.old writer.new fleet.old fleet.new bytes result }
+    requires guard { G.is_faithful guard.old }
+    requires ready { IfOk request AsksReady }
+    ensures hears { (entry : Entry) (before : List ℕ) → IfOk request (λ it. (it, gathered.old) ≡ asks before entry)
+        → Hears W.contents (⟦<F as Speaking>⟧.are_names functions.now) (⟦<F as Speaking>⟧.language functions.now) (⟦<G as Watching>⟧.closures guard.old) C.is_clean C.holding writer.old writer.new (fleet.old, G.rules guard.old, before) (fleet.new, G.rules guard.new, gathered.new) entry result }
+    ensures closures { ⟦<G as Watching>⟧.closures guard.new ≡ ⟦<G as Watching>⟧.closures guard.old }
+    ensures faithful { G.is_faithful guard.new }
 {
-    match answer(alloc, fleet, line) {
+    match answer(alloc, fleet, functions, guard, gathered, request) {
         Some(reply) => {
             print_reply(writer, &reply);
             true
@@ -119,23 +175,32 @@ fn hear<W: Write, C: NewCells>(
     }
 }
 
-// Takes a byte, and at a line feed the line that it ends.
-fn take_byte<W: Write, C: NewCells>(
+// Answers the line.
+fn hear_line<W: Write, C: NewCells, F: Functions, G: Guarding>(
     alloc: Global,
     writer: &mut Watched<W>,
     fleet: &mut Fleet<C>,
-    line: &mut Line,
-    byte: u8,
+    functions: &F,
+    guard: &mut G,
+    input: &mut Input,
 ) -> Next
-    ensures { Takes W.contents C.is_clean C.holding writer.old writer.new fleet.old fleet.new line.old line.new byte result }
+    requires guard { G.is_faithful guard.old }
+    ensures hears { (bytes : List ℕ) → IsKept input.old.line bytes
+        → HearsLine W.contents (⟦<F as Speaking>⟧.are_names functions.now) (⟦<F as Speaking>⟧.language functions.now) (⟦<G as Watching>⟧.closures guard.old) C.is_clean C.holding writer.old writer.new (fleet.old, G.rules guard.old, input.old.gathered) (fleet.new, G.rules guard.new, input.new.gathered) bytes result }
+    ensures line { IsNewLine input.new.line }
+    ensures closures { ⟦<G as Watching>⟧.closures guard.new ≡ ⟦<G as Watching>⟧.closures guard.old }
+    ensures faithful { G.is_faithful guard.new }
 {
-    if byte != b'\n' {
-        line.push(byte);
-        return Next::Goes;
-    }
-    let goes_on = hear(alloc, writer, fleet, line);
-    line.clear();
-    if !goes_on {
+    let request = input.ask(alloc);
+    if !hear(
+        alloc,
+        writer,
+        fleet,
+        functions,
+        guard,
+        &mut input.gathered,
+        request,
+    ) {
         return Next::Quits;
     }
     if writer.failed() {
@@ -144,47 +209,118 @@ fn take_byte<W: Write, C: NewCells>(
     Next::Goes
 }
 
-// Answers what stands behind the last line feed.
-fn hear_last<W: Write, C: NewCells>(
+// Takes a byte, and at a line feed the line that it ends.
+fn take_byte<W: Write, C: NewCells, F: Functions, G: Guarding>(
     alloc: Global,
     writer: &mut Watched<W>,
     fleet: &mut Fleet<C>,
-    line: &Line,
-) -> Result<End, ServeFault>
-    ensures { (bytes : List ℕ) → IsKept line.now bytes → Ends W.contents C.is_clean C.holding writer.old writer.new fleet.old fleet.new bytes result }
+    functions: &F,
+    guard: &mut G,
+    input: &mut Input,
+    byte: u8,
+) -> Next
+    requires guard { G.is_faithful guard.old }
+    ensures takes { Takes W.contents (⟦<F as Speaking>⟧.are_names functions.now) (⟦<F as Speaking>⟧.language functions.now) (⟦<G as Watching>⟧.closures guard.old) C.is_clean C.holding writer.old writer.new (fleet.old, G.rules guard.old, input.old.gathered) (fleet.new, G.rules guard.new, input.new.gathered) input.old.line input.new.line byte result }
+    ensures closures { ⟦<G as Watching>⟧.closures guard.new ≡ ⟦<G as Watching>⟧.closures guard.old }
+    ensures faithful { G.is_faithful guard.new }
 {
-    if !hear(alloc, writer, fleet, line) {
-        return Ok(End::Quit);
+    if byte != b'\n' {
+        input.line.push(byte);
+        return Next::Goes;
     }
+    hear_line(alloc, writer, fleet, functions, guard, input)
+}
+
+// Answers what stands behind the last line feed, if anything does.
+fn hear_unfinished<W: Write, C: NewCells, F: Functions, G: Guarding>(
+    alloc: Global,
+    writer: &mut Watched<W>,
+    fleet: &mut Fleet<C>,
+    functions: &F,
+    guard: &mut G,
+    input: &mut Input,
+) -> Next
+    requires guard { G.is_faithful guard.old }
+    requires writer { writer.old.1 ≡ false }
+    ensures hears { (bytes : List ℕ) → IsKept input.old.line bytes
+        → HearsUnfinished W.contents (⟦<F as Speaking>⟧.are_names functions.now) (⟦<F as Speaking>⟧.language functions.now) (⟦<G as Watching>⟧.closures guard.old) C.is_clean C.holding writer.old writer.new (fleet.old, G.rules guard.old, input.old.gathered) (fleet.new, G.rules guard.new, input.new.gathered) bytes result }
+    ensures closures { ⟦<G as Watching>⟧.closures guard.new ≡ ⟦<G as Watching>⟧.closures guard.old }
+    ensures faithful { G.is_faithful guard.new }
+{
+    if input.line.is_empty() {
+        return Next::Goes;
+    }
+    hear_line(alloc, writer, fleet, functions, guard, input)
+}
+
+// Answers what stands behind the last line feed, and the end of the input.
+fn hear_last<W: Write, C: NewCells, F: Functions, G: Guarding>(
+    alloc: Global,
+    writer: &mut Watched<W>,
+    fleet: &mut Fleet<C>,
+    functions: &F,
+    guard: &mut G,
+    input: &mut Input,
+) -> Result<End, ServeFault>
+    requires guard { G.is_faithful guard.old }
+    requires writer { writer.old.1 ≡ false }
+    ensures ends { (bytes : List ℕ) → IsKept input.old.line bytes
+        → Ends W.contents (⟦<F as Speaking>⟧.are_names functions.now) (⟦<F as Speaking>⟧.language functions.now) (⟦<G as Watching>⟧.closures guard.old) C.is_clean C.holding writer.old writer.new (fleet.old, G.rules guard.old, input.old.gathered) (fleet.new, G.rules guard.new, input.new.gathered) bytes result }
+    ensures closures { ⟦<G as Watching>⟧.closures guard.new ≡ ⟦<G as Watching>⟧.closures guard.old }
+    ensures faithful { G.is_faithful guard.new }
+{
+    match hear_unfinished(alloc, writer, fleet, functions, guard, input) {
+        Next::Goes => {}
+        Next::Quits => return Ok(End::Quit),
+        Next::Fails => return Err(ServeFault::Write),
+    }
+    let request = input.gathered.ask_rest(alloc);
+    hear(
+        alloc,
+        writer,
+        fleet,
+        functions,
+        guard,
+        &mut input.gathered,
+        request,
+    );
     if writer.failed() {
         return Err(ServeFault::Write);
     }
     Ok(End::Input)
 }
 
-/// Runs the commands of the lines that it reads, up to `.quit` or the end, and prints the replies.
+/// Runs the commands and the SQL of the lines that it reads, up to `.quit` or the end, and prints the replies. A line that
+/// begins with `.` is a command; the others are SQL, which is run once a line's `;` is its last token, or the input ends. The
+/// host gives functions and collations, and an authorizer, a policy and a commit hook.
 ///
 /// # Errors
-/// `Read` where the reader failed or the input reached 16,000,000 bytes; an unfinished line isn't run then. `Write` where
-/// the writer failed: then a front of the replies was written, not all of them, and no line was heard after the one that they failed at.
-pub fn serve<R: Read, W: Write, C: NewCells>(
+/// `Read` where the reader failed or the input reached 16,000,000 bytes; an unfinished line isn't run then, nor SQL that no
+/// `;` has ended. `Write` where the writer failed: then a front of the replies was written, not all of them, and nothing was
+/// heard after the line, or the end of the input, that they failed at.
+pub fn serve<R: Read, W: Write, C: NewCells, F: Functions, G: Guarding>(
     alloc: Global,
     reader: &mut Watched<R>,
     writer: &mut Watched<W>,
     fleet: &mut Fleet<C>,
+    functions: &F,
+    guard: &mut G,
 ) -> Result<End, ServeFault>
     requires reader { reader.old.1 ≡ false }
     requires writer { writer.old.1 ≡ false }
-    ensures { Serves R.remaining W.contents C.is_clean C.holding result reader.old reader.new writer.old writer.new fleet.old fleet.new }
+    requires guard { G.is_faithful guard.old }
+    ensures serves { Serves W.contents (⟦<F as Speaking>⟧.are_names functions.now) (⟦<F as Speaking>⟧.language functions.now) (⟦<G as Watching>⟧.closures guard.old) C.is_clean C.holding R.remaining result reader.old reader.new writer.old writer.new (fleet.old, G.rules guard.old) (fleet.new, G.rules guard.new) }
+    ensures closures { ⟦<G as Watching>⟧.closures guard.new ≡ ⟦<G as Watching>⟧.closures guard.old }
+    ensures faithful { G.is_faithful guard.new }
 {
-    let mut line = Line::new(alloc);
+    let mut input = Input::new(alloc);
     for _ in 0..INPUT_LIMIT {
         let byte = match reader.read_byte() {
             Ok(Some(byte)) => byte,
-            Ok(None) => return hear_last(alloc, writer, fleet, &line),
+            Ok(None) => return hear_last(alloc, writer, fleet, functions, guard, &mut input),
             Err(Failed) => return Err(ServeFault::Read),
         };
-        match take_byte(alloc, writer, fleet, &mut line, byte) {
+        match take_byte(alloc, writer, fleet, functions, guard, &mut input, byte) {
             Next::Goes => {}
             Next::Quits => return Ok(End::Quit),
             Next::Fails => return Err(ServeFault::Write),

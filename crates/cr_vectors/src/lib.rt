@@ -7,13 +7,13 @@ mod cells;
 #[cfg(test)]
 mod disk;
 #[cfg(test)]
+mod fleet;
+#[cfg(test)]
 mod guard;
 #[cfg(test)]
 mod host;
 #[cfg(test)]
 mod replica;
-#[cfg(test)]
-mod session;
 #[cfg(test)]
 mod shell;
 #[cfg(test)]

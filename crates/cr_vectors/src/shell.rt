@@ -1,7 +1,9 @@
 //! Readers and writers that fail while lines are served.
 
 use cr_cells::plain::PlainCells;
-use cr_session::fleet::Fleet;
+use cr_fleet::fleet::Fleet;
+use cr_guard::policy::Policy;
+use cr_host::functions::BuiltIns;
 use cr_shell::serving::{End, ServeFault, serve};
 use cr_shell::watched::Watched;
 use std::alloc::{AllocError, Global};
@@ -32,7 +34,15 @@ fn run<R: Read + Drop, W: Write + Drop>(
     let mut reader = Watched::new(reader);
     let mut writer = Watched::new(writer);
     let mut fleet = Fleet::<PlainCells>::new(alloc);
-    serve(alloc, &mut reader, &mut writer, &mut fleet)
+    let mut policy = Policy::new(alloc);
+    serve(
+        alloc,
+        &mut reader,
+        &mut writer,
+        &mut fleet,
+        &BuiltIns,
+        &mut policy,
+    )
 }
 
 // Whether a writer with room for so many bytes fails, and has a front of what is wanted.
@@ -82,4 +92,27 @@ fn a_reader_that_fails_is_told(rt: HostRuntime) {
     for place in 0..=TAKEN_AND_PULLED.len() {
         assert!(rt; fails_at(rt.alloc(), place));
     }
+}
+
+// Whether that is all that is printed, up to the end of the input.
+fn prints(alloc: Global, input: &[u8], wanted: &str) -> bool {
+    let mut printed = Vec::new(alloc);
+    let ended = run(alloc, input, &mut printed);
+    ended == Ok(End::Input) && printed.as_slice() == wanted.as_bytes()
+}
+
+#[test]
+fn sql_over_the_limit_is_dropped(rt: HostRuntime) -> Result<(), Fail> {
+    let alloc = rt.alloc();
+    let mut input = "x".repeat(alloc, 999_999)?;
+    input.push_str("\n;\n.frob\n;\n")?;
+    let wanted = "error 1 Limit Script\nerror 1 Command\nerror 1 NoReplica\n";
+    assert!(rt; prints(alloc, input.as_bytes(), wanted));
+    Ok(())
+}
+
+#[test]
+fn a_line_that_is_no_text_drops_sql(rt: HostRuntime) {
+    let wanted = "error 1 Command\nerror 1 Command\n";
+    assert!(rt; prints(rt.alloc(), b"SELECT\n\xFF;\n.frob\n", wanted));
 }

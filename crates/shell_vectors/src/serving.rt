@@ -1,7 +1,9 @@
 //! Whole inputs of the shell.
 
+use cr_fleet::fleet::Fleet;
+use cr_guard::policy::Policy;
+use cr_host::functions::BuiltIns;
 use cr_memory::MemoryCells;
-use cr_session::fleet::Fleet;
 use cr_shell::serving::{End, ServeFault, serve};
 use cr_shell::watched::Watched;
 use std::alloc::Global;
@@ -22,7 +24,15 @@ pub(crate) fn print_served<W: Write>(alloc: Global, input: &[u8], out: &mut W) -
     let mut reader = Watched::new(input);
     let mut writer = Watched::new(&mut printed);
     let mut fleet = Fleet::<MemoryCells>::new(alloc);
-    let end = serve(alloc, &mut reader, &mut writer, &mut fleet);
+    let mut policy = Policy::new(alloc);
+    let end = serve(
+        alloc,
+        &mut reader,
+        &mut writer,
+        &mut fleet,
+        &BuiltIns,
+        &mut policy,
+    );
     out.write_all(&printed)?;
     writeln!(out, "{}", end_word(end))
 }

@@ -1,5 +1,0 @@
-use Rattle.cr_shell.proofs.PrintLemmas.{prints_more}
-use Rattle.cr_shell.proofs.printing.print_no_default.Goals as goal
-
-pub returns : goal.returns
-returns g c = prints_more g.W.Write.contents _ _ _ _ _ c.write_all.ensures c.print_text.ensures
