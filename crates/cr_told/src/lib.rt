@@ -5,6 +5,7 @@
 #![tactic(auto)]
 
 pub mod error;
+pub mod expansion;
 pub mod lines;
 pub mod reading;
 pub mod writing;

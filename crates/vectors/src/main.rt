@@ -6,17 +6,17 @@
 #![tactic(auto)]
 
 mod changes;
-mod expansion;
 mod values;
 
 use cr_told::error::ToldError;
+use cr_told::expansion::expanded;
 use cr_told::lines::next_line;
 use std::alloc::Global;
 use std::io::{self, BufReader, BufWriter, Write};
 
 // What a call of that name answers.
 fn answer(alloc: Global, call: &str, given: &str) -> Result<String, ToldError> {
-    let given = expansion::expanded(alloc, given)?;
+    let given = expanded(alloc, given)?;
     let given = given.as_str();
     if let Some(answer) = values::answer(alloc, call, given)? {
         return Ok(answer);

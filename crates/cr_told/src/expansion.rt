@@ -1,6 +1,7 @@
-//! What a case's text stands for.
+//! What the text of a case stands for. In it `{N*TEXT}` stands for the text N times, and `\n`, `\0`, `\t`, `\v`, `\\` for what
+//! they are in Rust.
 
-use cr_told::error::ToldError;
+use crate::error::ToldError;
 use std::alloc::{AllocError, Global};
 
 // The number of times, the text, and what follows, where a repetition begins after its brace.
@@ -67,6 +68,6 @@ fn repeated(alloc: Global, text: &str) -> Result<String, AllocError> {
 }
 
 /// The text that a case is given.
-pub(crate) fn expanded(alloc: Global, text: &str) -> Result<String, ToldError> {
+pub fn expanded(alloc: Global, text: &str) -> Result<String, ToldError> {
     unescaped(alloc, repeated(alloc, text)?)
 }
