@@ -5,3 +5,7 @@ pub mod Joins
 pub mod Found
 pub mod Collated
 pub mod Readings
+pub mod Anew
+pub mod InGroup
+pub mod Bare
+pub mod Nodes

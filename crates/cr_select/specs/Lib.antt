@@ -4,3 +4,4 @@ pub mod Joins
 pub mod Aggregates
 pub mod Terms
 pub mod Named
+pub mod Placed

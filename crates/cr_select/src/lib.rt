@@ -1,4 +1,4 @@
-//! Parts of a SELECT once their names are resolved: result columns, joined tables, terms of GROUP BY and ORDER BY.
+//! Parts of a SELECT once their names are resolved: result columns, joined tables, terms of GROUP BY and ORDER BY, groups.
 #![tactic(auto)]
 
 pub mod aggregates;
@@ -6,5 +6,6 @@ pub mod joined;
 pub mod named;
 pub mod outputs;
 pub mod parts;
+pub mod placed;
 pub mod same;
 pub mod terms;
