@@ -2,3 +2,4 @@ pub mod Definition
 pub mod Taking
 pub mod Showing
 pub mod ChangeRow
+pub mod Snapshots

@@ -4,4 +4,5 @@
 pub mod change_row;
 pub mod definition;
 pub mod replica;
+pub mod snapshot;
 mod sorting;

@@ -4,6 +4,7 @@ ghost use Rattle.std.specs.Prelude.{◌≡◌, IfOk};
 ghost use Rattle.cr_cells.specs.Holding.{changes_of};
 
 use crate::definition::{DefineError, accept};
+use crate::snapshot::{Snapshot, copied_changes};
 use crate::sorting::in_order;
 use cr_cells::marks::Mark;
 use cr_cells::newly::newly_kept;
@@ -140,6 +141,7 @@ impl<C: Cells> Replica<C> {
     ghost use Rattle.cr_replica.specs.declared.replica.TakeError.TheVariants.{SameSite};
     ghost use Rattle.cr_replica.specs.Taking.{Stands, IsReady, Prepares, PreparesPull, CommitsAll, IsOffer};
     ghost use Rattle.cr_replica.specs.Showing.{Shows};
+    ghost use Rattle.cr_replica.specs.Snapshots.{IsSnapshot};
 
     /// A replica over the store, which may hold something already.
     pub fn new(cells: C) -> Replica<C>
@@ -321,6 +323,35 @@ impl<C: Cells> Replica<C> {
         let kept = merge(alloc, &changes, &[])?;
         let rows = in_order(rows(alloc, &kept, &table.definition)?)?;
         Ok(Items::new(rows))
+    }
+
+    /// What the replica holds, for statements that are answered without asking its store again.
+    ///
+    /// # Errors
+    /// `Memory`, or `Store(Refused)`.
+    pub fn snapshot(&mut self, alloc: Global) -> Result<Snapshot, CellsError>
+        ensures was_honest { C.is_honest self.new → C.is_honest self.old }
+        ensures was_clean { C.is_clean self.new → C.is_clean self.old }
+        ensures stays_clean { C.is_honest self.new → C.is_clean self.old → UnlessWant is_want result (C.is_clean self.new) }
+        ensures reads { C.is_clean self.new → Reads (C.holding self.old) (C.holding self.new) result (IsSnapshot (C.holding self.old)) }
+    {
+        let tables = match self.cells.tables(alloc) {
+            Ok(tables) => tables,
+            Err(error) => return Err(error),
+        };
+        let cells = match self.cells.since(alloc, 0) {
+            Ok(cells) => cells,
+            Err(error) => return Err(error),
+        };
+        let changes = copied_changes(alloc, &cells)?;
+        let kept = merge(alloc, &changes, &[])?;
+        Ok(Snapshot {
+            tables: Items::new(tables),
+            site: self.cells.site(),
+            version: self.cells.db_version(),
+            cells: Items::new(cells),
+            kept: Items::new(kept),
+        })
     }
 
     /// The kept changes that are stamped above a version, by version, then by place.

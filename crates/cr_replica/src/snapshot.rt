@@ -1,0 +1,34 @@
+//! What a replica holds at a moment.
+
+ghost use Rattle.std.specs.Prelude.{◌≡◌, map, IfOk};
+
+use cr_lattice::change::{Change, Site};
+use cr_lattice::stamped::Stamped;
+use cr_lattice::table::{Items, Table};
+use std::alloc::{AllocError, Global};
+
+/// What a replica holds at a moment, but for the marks of its peers.
+#[derive(Debug, Drop)]
+pub struct Snapshot {
+    /// The tables in the order in which they came.
+    pub tables: Items<Table>,
+    /// The replica's own site.
+    pub site: Site,
+    /// How many commits changed a kept change.
+    pub version: i64,
+    /// The kept changes with their stamps, by version, then by place.
+    pub cells: Items<Stamped>,
+    /// The kept changes, in the order of changes.
+    pub kept: Items<Change>,
+}
+
+/// The changes of the cells, in memory of their own.
+pub(crate) fn copied_changes(alloc: Global, cells: &[Stamped]) -> Result<Vec<Change>, AllocError>
+    ensures { IfOk result (λ changes. changes.items ≡ map (λ s. s.change) cells.now) }
+{
+    let mut changes = Vec::new(alloc);
+    for cell in cells {
+        changes.push(cell.change.copy(alloc)?)?;
+    }
+    Ok(changes)
+}
