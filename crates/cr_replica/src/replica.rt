@@ -127,13 +127,13 @@ impl<C: Drop> Model for Replica<C> {
 }
 
 impl<C: Cells> Replica<C> {
-    ghost use Rattle.std.specs.Prelude.{◌≡◌, ◌≤ℤ◌, ◌++◌, pos, List, find, true, Err, OnOk, IfOk};
+    ghost use Rattle.std.specs.Prelude.{◌≡◌, ◌≤ℤ◌, ◌++◌, pos, List, find, false, true, Err, OnOk, IfOk};
     ghost use Rattle.std.specs.Option.{ForSome, is_some};
     ghost use Rattle.cr_lattice.specs.declared.change.Change.{Change};
-    ghost use Rattle.cr_cells.specs.Tables.{is_named, has_folded_names};
+    ghost use Rattle.cr_cells.specs.Tables.{IsNewTable, has_folded_names, is_markable, is_named, with_replicated, with_table};
     ghost use Rattle.cr_cells.specs.Holding.{Holding, IsSound, since, changes_of};
     ghost use Rattle.cr_cells.specs.Marks.{seen_of};
-    ghost use Rattle.cr_cells.specs.Calls.{Reads, is_want, UnlessWant};
+    ghost use Rattle.cr_cells.specs.Calls.{Defines, Reads, is_want, UnlessWant};
     ghost use Rattle.cr_replica.specs.Definition.{DefinesTable};
     ghost use Rattle.cr_replica.specs.Definition as definitions;
     ghost use Rattle.cr_replica.specs.Taking as takings;
@@ -184,6 +184,37 @@ impl<C: Cells> Replica<C> {
             Ok(()) => Ok(()),
             Err(error) => Err(DefineError::from(error)),
         }
+    }
+
+    /// Adds a table that is not replicated. Its names are in ASCII lower case, it fits the profile, and its name is new.
+    ///
+    /// # Errors
+    /// `Memory`, or `Store(Refused)`; then nothing is changed.
+    pub fn add_table(&mut self, alloc: Global, def: &TableDef) -> Result<(), CellsError>
+        requires { C.is_clean self.old → IsNewTable (C.holding self.old).tables def.now }
+        ensures was_honest { C.is_honest self.new → C.is_honest self.old }
+        ensures was_clean { C.is_clean self.new → C.is_clean self.old }
+        ensures stays_clean { C.is_honest self.new → C.is_clean self.old → UnlessWant is_want result (C.is_clean self.new) }
+        ensures defines { C.is_clean self.new → Defines (C.holding self.old) (C.holding self.new) result
+            (record (C.holding self.old) { tables = with_table (C.holding self.old).tables def.now false }) }
+    {
+        self.cells.add_table(alloc, def)
+    }
+
+    /// Makes the table of that name replicated. It is there, and each of its columns outside the key that wants a value has a
+    /// default. On a replicated table it changes nothing.
+    ///
+    /// # Errors
+    /// `Memory`, or `Store(Refused)`; then nothing is changed.
+    pub fn mark_crr(&mut self, alloc: Global, name: &str) -> Result<(), CellsError>
+        requires { C.is_clean self.old → is_markable name.now (C.holding self.old).tables ≡ true }
+        ensures was_honest { C.is_honest self.new → C.is_honest self.old }
+        ensures was_clean { C.is_clean self.new → C.is_clean self.old }
+        ensures stays_clean { C.is_honest self.new → C.is_clean self.old → UnlessWant is_want result (C.is_clean self.new) }
+        ensures defines { C.is_clean self.new → Defines (C.holding self.old) (C.holding self.new) result
+            (record (C.holding self.old) { tables = with_replicated name.now (C.holding self.old).tables }) }
+    {
+        self.cells.mark_crr(alloc, name)
     }
 
     /// The first step of a taking: whether these changes may be taken, and what their commit would bring in. Nothing is

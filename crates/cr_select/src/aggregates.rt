@@ -25,7 +25,7 @@ fn is_aggregate(expr: &Expr) -> bool
 /// Whether it was found, or an aggregate stands in an expression.
 #[cycle(aggregates)]
 #[tactic(auto, unfolding(crate::specs::Aggregates::or_any), using(crate::proofs::Found::node_any))]
-pub(crate) fn or_aggregates(found: bool, expr: &Expr) -> bool
+pub fn or_aggregates(found: bool, expr: &Expr) -> bool
     ensures { result ≡ or_any found (aggregates expr.now) }
 {
     if found {

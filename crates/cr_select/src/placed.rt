@@ -30,7 +30,7 @@ fn term_place(terms: &[GroupTerm], expr: &Expr) -> Option<usize>
 /// memory.
 #[cycle(bare)]
 #[tactic(auto, unfolding(crate::specs::Placed::or_bare), using(crate::proofs::Bare::term_bare, crate::proofs::Bare::other_bare))]
-pub(crate) fn or_bare(found: bool, terms: &[GroupTerm], expr: &Expr) -> bool
+pub fn or_bare(found: bool, terms: &[GroupTerm], expr: &Expr) -> bool
     ensures { result ≡ or_bare found (bares (exprs_of terms.now) expr.now) }
 {
     if found {

@@ -1,0 +1,3 @@
+pub mod Drafted
+pub mod Defined
+pub mod Repeats

@@ -1,0 +1,7 @@
+pub mod Puts
+pub mod Tests
+pub mod Lengths
+pub mod Keys
+pub mod Sets
+pub mod Written
+pub mod Widths

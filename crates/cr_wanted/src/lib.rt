@@ -1,0 +1,16 @@
+//! The rows that INSERT, UPDATE and DELETE want of a table, over lists of rows, and what stands against them.
+#![tactic(auto)]
+
+pub mod by_key;
+pub mod delete;
+mod exprs;
+pub mod insert;
+pub mod judged;
+pub mod keyed;
+pub mod laws;
+pub mod long;
+pub mod nulls;
+mod push;
+pub mod put;
+mod terms;
+pub mod update;
