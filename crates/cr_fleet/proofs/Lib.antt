@@ -7,3 +7,5 @@ pub mod Pulling
 pub mod Running
 pub mod Scripting
 pub mod Turning
+pub mod Selecting
+pub mod Converging

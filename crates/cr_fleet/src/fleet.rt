@@ -92,7 +92,7 @@ impl<C: NewCells> Fleet<C> {
     ghost use Rattle.cr_world.specs.Language.{Language};
     ghost use Rattle.cr_world.specs.World.{World, Closures};
     ghost use Rattle.cr_fleet.specs.Sessions.{is_own};
-    ghost use Rattle.cr_world.specs.Headline.{RowsConverge};
+    ghost use Rattle.cr_world.specs.Headline.{Converges, RowsConverge};
     ghost use Rattle.cr_world.specs.Run.{Run, world_after};
     ghost use Rattle.cr_fleet.specs.Fleets.{Steps, AreClean, IsUnharmed, Shows, reply_of, is_free_name, is_carried_out};
 
@@ -177,7 +177,8 @@ impl<C: NewCells> Fleet<C> {
         guard: &G,
         command: &Command,
     ) -> FleetReply
-        requires faithful { G.is_faithful guard.now }
+        requires functions { F.is_faithful functions.now }
+        requires guard { G.is_faithful guard.now }
         requires ready { IsReady command.now }
         requires own { is_own command.now ≡ true }
         ensures { (has : List ℕ → Bool) → ⟦<F as Speaking>⟧.are_names functions.now has
@@ -232,7 +233,8 @@ impl<C: NewCells> Fleet<C> {
         guard: &mut G,
         command: &Command,
     ) -> FleetReply
-        requires faithful { G.is_faithful guard.old }
+        requires functions { F.is_faithful functions.now }
+        requires guard { G.is_faithful guard.old }
         requires ready { IsReady command.now }
         requires carried_out { is_carried_out command.now ≡ true }
         ensures steps { (has : List ℕ → Bool) → ⟦<F as Speaking>⟧.are_names functions.now has
@@ -265,7 +267,8 @@ impl<C: NewCells> Fleet<C> {
         guard: &mut G,
         commands: &[Command],
     ) -> Result<Vec<FleetReply>, AllocError>
-        requires faithful { G.is_faithful guard.old }
+        requires functions { F.is_faithful functions.now }
+        requires guard { G.is_faithful guard.old }
         requires ready { AllByRecursion IsReady commands.now }
         requires carried_out { AllByRecursion (λ c. is_carried_out c ≡ true) commands.now }
         ensures was_clean { (has : List ℕ → Bool) → ⟦<F as Speaking>⟧.are_names functions.now has → AreClean C.is_clean self.new → AreClean C.is_clean self.old }
@@ -277,6 +280,9 @@ impl<C: NewCells> Fleet<C> {
         ensures converges { IfOk result (λ replies. (has : List ℕ → Bool) → ⟦<F as Speaking>⟧.are_names functions.now has
             → IsUnharmed C.is_clean self.old replies.items self.new → (w : World) → Shows C.holding w (G.rules guard.old) self.old
             → RowsConverge (⟦<F as Speaking>⟧.language functions.now has) (⟦<G as Watching>⟧.closures guard.old) w commands.now replies.items) }
+        ensures selects_converge { IfOk result (λ replies. (has : List ℕ → Bool) → ⟦<F as Speaking>⟧.are_names functions.now has
+            → IsUnharmed C.is_clean self.old replies.items self.new → (w : World) → Shows C.holding w (G.rules guard.old) self.old
+            → Converges (⟦<F as Speaking>⟧.language functions.now has) (⟦<G as Watching>⟧.closures guard.old) w commands.now replies.items) }
         ensures refused { OnErr result (self.new ≡ self.old) }
         ensures closures { ⟦<G as Watching>⟧.closures guard.new ≡ ⟦<G as Watching>⟧.closures guard.old }
         ensures faithful { G.is_faithful guard.new }

@@ -1,24 +1,28 @@
 //! Scripts: their statements in order, up to the first that is refused.
 
-ghost use Rattle.std.specs.Prelude.{◌≡◌, ◌⊎◌, ◌≤◌, IfOk, drop, length};
+ghost use Rattle.std.specs.Prelude.{◌≡◌, ◌⊎◌, ◌≤◌, false, IfOk, IfSome, IfNone, None, drop, length};
 ghost use Rattle.cr_sql.specs.Sql.{says};
 ghost use Rattle.cr_sql.specs.Sql as read;
 ghost use Rattle.cr_world.specs.declared.refusal.Refusal.TheVariants.{Memory};
 ghost use Rattle.cr_language.specs.Sql.{of_kind, of_unread};
-ghost use Rattle.cr_language.specs.SoFar.{first_word, not_carried_out};
+ghost use Rattle.cr_language.specs.SoFar.{first_word, is_carried_out, not_carried_out};
+ghost use Rattle.cr_resolve.specs.Resolve.{marked};
+ghost use Rattle.cr_tree.specs.declared.statement.Statement.TheVariants as s;
 
 use crate::session::Session;
 use crate::speaking::{Speaking, Watching};
+use cr_answer::selecting::answer_select;
 use cr_cells::store::NewCells;
 use cr_guard::guarding::Guarding;
 use cr_host::functions::Functions;
 use cr_lattice::table::Items;
 use cr_lex::scan::tokens;
 use cr_lex::token::{LexError, Token};
+use cr_resolve::leaf::marked;
 use cr_sql::error::SqlError;
 use cr_sql::script::next_statement;
 use cr_tree::limits::LimitKind;
-use cr_tree::statement::Statement;
+use cr_tree::statement::{Select, Statement};
 use cr_value::text::Text;
 use cr_world::command::{Reply, Script};
 use cr_world::refusal::{Limit, OutOfProfile, Refusal};
@@ -79,6 +83,17 @@ pub(crate) fn not_carried_out(alloc: Global, statement: &Statement) -> Refusal
     }
 }
 
+// The SELECT that a statement is, if it is one that marks no table.
+fn select_of(statement: &Statement) -> Option<&Select>
+    ensures some { IfSome result (λ select. (statement.now ≡ s.Select select.now) × (marked select.now ≡ None)) }
+    ensures none { IfNone result (is_carried_out statement.now ≡ false) }
+{
+    match statement {
+        Statement::Select(select) if marked(select).is_none() => Some(select),
+        _ => None,
+    }
+}
+
 // The tokens behind the first so many.
 fn behind(tokens: &[Token], len: usize) -> &[Token]
     requires { len ≤ length tokens.now }
@@ -88,8 +103,34 @@ fn behind(tokens: &[Token], len: usize) -> &[Token]
 }
 
 impl<C: NewCells> Session<C> {
-    ghost use Rattle.std.specs.Prelude.{◌<◌, ℕ, Bool, List, [], IfSome};
+    ghost use Rattle.std.specs.Prelude.{◌<◌, ℕ, Bool, List, []};
     ghost use Rattle.cr_fleet.specs.Scripts.{Carries, CarriesAll, Turns, next, pieces_left};
+
+    // Answers a SELECT that marks no table.
+    fn select<F: Functions, G: Guarding>(
+        &mut self,
+        alloc: Global,
+        functions: &F,
+        guard: &G,
+        statement: &Statement,
+        select: &Select,
+    ) -> Result<Reply, Refusal>
+        requires functions { F.is_faithful functions.now }
+        requires guard { G.is_faithful guard.now }
+        requires statement { statement.now ≡ s.Select select.now }
+        requires unmarked { marked select.now ≡ None }
+        ensures { (has : List ℕ → Bool) → ⟦<F as Speaking>⟧.are_names functions.now has
+            → Carries (⟦<F as Speaking>⟧.language functions.now has) (⟦<G as Watching>⟧.host guard.now) C.is_clean C.holding self.old statement.now result self.new }
+    {
+        let snapshot = match self.snapshot(alloc) {
+            Ok(snapshot) => snapshot,
+            Err(error) => return Err(Refusal::from(error)),
+        };
+        match answer_select(alloc, functions, guard, &snapshot, statement, select) {
+            Ok(rows) => Ok(Reply::Rows(rows)),
+            Err(refusal) => Err(refusal),
+        }
+    }
 
     // Carries out a statement.
     fn statement<F: Functions, G: Guarding>(
@@ -99,11 +140,15 @@ impl<C: NewCells> Session<C> {
         guard: &G,
         statement: &Statement,
     ) -> Result<Reply, Refusal>
-        requires { G.is_faithful guard.now }
+        requires functions { F.is_faithful functions.now }
+        requires guard { G.is_faithful guard.now }
         ensures { (has : List ℕ → Bool) → ⟦<F as Speaking>⟧.are_names functions.now has
             → Carries (⟦<F as Speaking>⟧.language functions.now has) (⟦<G as Watching>⟧.host guard.now) C.is_clean C.holding self.old statement.now result self.new }
     {
-        Err(not_carried_out(alloc, statement))
+        match select_of(statement) {
+            Some(select) => self.select(alloc, functions, guard, statement, select),
+            None => Err(not_carried_out(alloc, statement)),
+        }
     }
 
     // Carries out the next statement of a script, and tells how many tokens stand up to its end; none where no statement is
@@ -116,7 +161,8 @@ impl<C: NewCells> Session<C> {
         source: &str,
         tokens: &[Token],
     ) -> Result<Option<(Reply, usize)>, Refusal>
-        requires { G.is_faithful guard.now }
+        requires functions { F.is_faithful functions.now }
+        requires guard { G.is_faithful guard.now }
         ensures takes { IfOk result (λ o. IfSome o (λ t. (0 < t.1) × (t.1 ≤ length tokens.now))) }
         ensures turns { (has : List ℕ → Bool) → ⟦<F as Speaking>⟧.are_names functions.now has
             → Turns (⟦<F as Speaking>⟧.language functions.now has) (⟦<G as Watching>⟧.host guard.now) C.is_clean C.holding self.old (next source.now tokens.now) result self.new }
@@ -144,7 +190,8 @@ impl<C: NewCells> Session<C> {
         tokens: &[Token],
         replies: &mut Vec<Reply>,
     ) -> Option<Refusal>
-        requires faithful { G.is_faithful guard.now }
+        requires functions { F.is_faithful functions.now }
+        requires guard { G.is_faithful guard.now }
         requires empty { replies.old.items ≡ [] }
         ensures { (has : List ℕ → Bool) → ⟦<F as Speaking>⟧.are_names functions.now has
             → CarriesAll (⟦<F as Speaking>⟧.language functions.now has) (⟦<G as Watching>⟧.host guard.now) C.is_clean C.holding self.old (pieces_left (length tokens.now) source.now tokens.now) replies.new.items result self.new }
@@ -179,7 +226,8 @@ impl<C: NewCells> Session<C> {
         guard: &G,
         source: &str,
     ) -> Script
-        requires { G.is_faithful guard.now }
+        requires functions { F.is_faithful functions.now }
+        requires guard { G.is_faithful guard.now }
         ensures { (has : List ℕ → Bool) → ⟦<F as Speaking>⟧.are_names functions.now has
             → CarriesAll (⟦<F as Speaking>⟧.language functions.now has) (⟦<G as Watching>⟧.host guard.now) C.is_clean C.holding self.old ((⟦<F as Speaking>⟧.language functions.now has).pieces source.now) result.replies result.refusal self.new }
     {

@@ -13,6 +13,7 @@ use cr_lattice::check::BadChange;
 use cr_lattice::table::Items;
 use cr_replica::change_row::ChangeRow;
 use cr_replica::replica::Replica;
+use cr_replica::snapshot::Snapshot;
 use cr_value::text::Text;
 use cr_world::command::{Command, Declaration, FleetReply};
 use cr_world::refusal::{OutOfProfile, Refusal, of_definition, of_rows};
@@ -47,6 +48,7 @@ impl<C: NewCells> Session<C> {
     ghost use Rattle.cr_cells.specs.Calls.{Reads, is_want, UnlessWant};
     ghost use Rattle.cr_cells.specs.Holding.{IsSound, since, changes_of};
     ghost use Rattle.cr_cells.specs.Marks.{seen_of};
+    ghost use Rattle.cr_replica.specs.Snapshots.{IsSnapshot};
     ghost use Rattle.cr_world.specs.declared.command.Command.TheVariants.{Define, Take, Rows, Changes, Sql};
     ghost use Rattle.cr_world.specs.Answers.{IsReady};
     ghost use Rattle.cr_world.specs.Language.{Language};
@@ -90,6 +92,18 @@ impl<C: NewCells> Session<C> {
             (λ changes. changes.items ≡ changes_of (since (C.holding self.old).cells version)) }
     {
         self.replica.changes_above(alloc, version)
+    }
+
+    /// What the replica holds, for a statement that is answered without asking its store again.
+    ///
+    /// # Errors
+    /// `Memory`, or `Store(Refused)`.
+    pub fn snapshot(&mut self, alloc: Global) -> Result<Snapshot, CellsError>
+        ensures was_clean { C.is_clean self.new → C.is_clean self.old }
+        ensures stays_clean { C.is_clean self.old → UnlessWant is_want result (C.is_clean self.new) }
+        ensures reads { C.is_clean self.new → Reads (C.holding self.old) (C.holding self.new) result (IsSnapshot (C.holding self.old)) }
+    {
+        self.replica.snapshot(alloc)
     }
 
     /// The version up to which the changes of a peer were taken, by the peer's site: 0 where it has no mark.
@@ -190,7 +204,8 @@ impl<C: NewCells> Session<C> {
         guard: &G,
         source: &Text,
     ) -> FleetReply
-        requires { G.is_faithful guard.now }
+        requires functions { F.is_faithful functions.now }
+        requires guard { G.is_faithful guard.now }
         ensures { (has : List ℕ → Bool) → ⟦<F as Speaking>⟧.are_names functions.now has
             → Does (⟦<F as Speaking>⟧.language functions.now has) (⟦<G as Watching>⟧.host guard.now) C.is_clean C.holding self.old (Sql source.now) result self.new }
     {
@@ -205,7 +220,8 @@ impl<C: NewCells> Session<C> {
         guard: &G,
         command: &Command,
     ) -> FleetReply
-        requires faithful { G.is_faithful guard.now }
+        requires functions { F.is_faithful functions.now }
+        requires guard { G.is_faithful guard.now }
         requires ready { IsReady command.now }
         requires own { is_own command.now ≡ true }
         ensures { (has : List ℕ → Bool) → ⟦<F as Speaking>⟧.are_names functions.now has

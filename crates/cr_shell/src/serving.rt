@@ -129,6 +129,7 @@ fn answer<C: NewCells, F: Functions, G: Guarding>(
     gathered: &mut Gathered,
     request: Result<Asked, AllocError>,
 ) -> Option<FleetReply>
+    requires functions { F.is_faithful functions.now }
     requires guard { G.is_faithful guard.old }
     requires ready { IfOk request AsksReady }
     ensures replies { (entry : Entry) (before : List ℕ) → IfOk request (λ it. (it, gathered.old) ≡ asks before entry)
@@ -159,6 +160,7 @@ fn hear<W: Write, C: NewCells, F: Functions, G: Guarding>(
     gathered: &mut Gathered,
     request: Result<Asked, AllocError>,
 ) -> bool
+    requires functions { F.is_faithful functions.now }
     requires guard { G.is_faithful guard.old }
     requires ready { IfOk request AsksReady }
     ensures hears { (entry : Entry) (before : List ℕ) → IfOk request (λ it. (it, gathered.old) ≡ asks before entry)
@@ -184,6 +186,7 @@ fn hear_line<W: Write, C: NewCells, F: Functions, G: Guarding>(
     guard: &mut G,
     input: &mut Input,
 ) -> Next
+    requires functions { F.is_faithful functions.now }
     requires guard { G.is_faithful guard.old }
     ensures hears { (bytes : List ℕ) → IsKept input.old.line bytes
         → HearsLine W.contents (⟦<F as Speaking>⟧.are_names functions.now) (⟦<F as Speaking>⟧.language functions.now) (⟦<G as Watching>⟧.closures guard.old) C.is_clean C.holding writer.old writer.new (fleet.old, G.rules guard.old, input.old.gathered) (fleet.new, G.rules guard.new, input.new.gathered) bytes result }
@@ -219,6 +222,7 @@ fn take_byte<W: Write, C: NewCells, F: Functions, G: Guarding>(
     input: &mut Input,
     byte: u8,
 ) -> Next
+    requires functions { F.is_faithful functions.now }
     requires guard { G.is_faithful guard.old }
     ensures takes { Takes W.contents (⟦<F as Speaking>⟧.are_names functions.now) (⟦<F as Speaking>⟧.language functions.now) (⟦<G as Watching>⟧.closures guard.old) C.is_clean C.holding writer.old writer.new (fleet.old, G.rules guard.old, input.old.gathered) (fleet.new, G.rules guard.new, input.new.gathered) input.old.line input.new.line byte result }
     ensures closures { ⟦<G as Watching>⟧.closures guard.new ≡ ⟦<G as Watching>⟧.closures guard.old }
@@ -240,6 +244,7 @@ fn hear_unfinished<W: Write, C: NewCells, F: Functions, G: Guarding>(
     guard: &mut G,
     input: &mut Input,
 ) -> Next
+    requires functions { F.is_faithful functions.now }
     requires guard { G.is_faithful guard.old }
     requires writer { writer.old.1 ≡ false }
     ensures hears { (bytes : List ℕ) → IsKept input.old.line bytes
@@ -262,6 +267,7 @@ fn hear_last<W: Write, C: NewCells, F: Functions, G: Guarding>(
     guard: &mut G,
     input: &mut Input,
 ) -> Result<End, ServeFault>
+    requires functions { F.is_faithful functions.now }
     requires guard { G.is_faithful guard.old }
     requires writer { writer.old.1 ≡ false }
     ensures ends { (bytes : List ℕ) → IsKept input.old.line bytes
@@ -308,6 +314,7 @@ pub fn serve<R: Read, W: Write, C: NewCells, F: Functions, G: Guarding>(
 ) -> Result<End, ServeFault>
     requires reader { reader.old.1 ≡ false }
     requires writer { writer.old.1 ≡ false }
+    requires functions { F.is_faithful functions.now }
     requires guard { G.is_faithful guard.old }
     ensures serves { Serves W.contents (⟦<F as Speaking>⟧.are_names functions.now) (⟦<F as Speaking>⟧.language functions.now) (⟦<G as Watching>⟧.closures guard.old) C.is_clean C.holding R.remaining result reader.old reader.new writer.old writer.new (fleet.old, G.rules guard.old) (fleet.new, G.rules guard.new) }
     ensures closures { ⟦<G as Watching>⟧.closures guard.new ≡ ⟦<G as Watching>⟧.closures guard.old }

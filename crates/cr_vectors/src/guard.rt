@@ -7,7 +7,7 @@ use cr_guard::guard::Guard;
 use cr_guard::guarding::Guarding;
 use cr_guard::heard::{TableRows, have_rows_by_key, heard_of_tables};
 use cr_guard::listener::Listener;
-use cr_guard::policy::{Policy, PolicyRule, ReadRule};
+use cr_guard::policy::{PolicyRule, ReadRule};
 use cr_guard::samples::{Notes, denies_names, refuses_over_two};
 use cr_host::meaning::HostMeaning;
 use cr_lattice::change::Change;
@@ -42,31 +42,13 @@ impl HostMeaning for Host {
     ghost vetoes = { λ _. refuses_over_two };
 }
 
-// What READ of `t.name` answers, which the name in capitals answers too.
+// An answer to READ of `name` of a table.
 fn read_rule(alloc: Global, table: &str, answer: Auth) -> Result<PolicyRule, AllocError> {
     Ok(PolicyRule::Read(ReadRule {
         table: Text::from_str(alloc, table)?,
         column: Text::from_str(alloc, "name")?,
         answer,
     }))
-}
-
-#[test]
-fn a_later_rule_takes_the_place_of_an_earlier(rt: HostRuntime) -> Result<(), Fail> {
-    let alloc = rt.alloc();
-    let mut guard: Guard<Host> = Guard::new(alloc);
-    assert_eq!(rt; guard.ask(Action::Read, "t", "name"), Auth::Ok);
-    guard.policy(alloc, &read_rule(alloc, "t", Auth::Ignore)?)?;
-    guard.policy(alloc, &read_rule(alloc, "t", Auth::Ignore)?)?;
-    assert_eq!(rt; guard.ask(Action::Read, "t", "name"), Auth::Ignore);
-    guard.policy(alloc, &read_rule(alloc, "T", Auth::Deny)?)?;
-    assert_eq!(rt; guard.ask(Action::Read, "t", "Name"), Auth::Deny);
-    assert_eq!(rt; guard.ask(Action::Read, "t", "id"), Auth::Ok);
-    assert_eq!(rt; guard.ask(Action::Read, "t", ""), Auth::Ok);
-    assert_eq!(rt; guard.ask(Action::Update, "t", "name"), Auth::Ok);
-    guard.policy(alloc, &read_rule(alloc, "t", Auth::Ok)?)?;
-    assert_eq!(rt; guard.ask(Action::Read, "t", "name"), Auth::Ok);
-    Ok(())
 }
 
 #[test]
@@ -93,20 +75,6 @@ const FOUR: &str =
     "t|1|-1|NULL|1|A|1 / t|1|name|'a'|1|A|1 / t|2|-1|NULL|1|A|1 / t|2|name|'b'|1|A|1";
 
 #[test]
-fn commits_of_more_changes_are_vetoed(rt: HostRuntime) -> Result<(), Fail> {
-    let alloc = rt.alloc();
-    let (two, four) = (changes(alloc, TWO)?, changes(alloc, FOUR)?);
-    let mut guard: Guard<Host> = Guard::new(alloc);
-    guard.policy(alloc, &PolicyRule::MaxChanges(Some(2)))?;
-    assert!(rt; !guard.vetoes(&two) && guard.vetoes(&four));
-    guard.policy(alloc, &PolicyRule::MaxChanges(None))?;
-    assert!(rt; !guard.vetoes(&four));
-    guard.policy(alloc, &PolicyRule::MaxChanges(Some(0)))?;
-    assert!(rt; guard.vetoes(&two) && !guard.vetoes(&[]));
-    Ok(())
-}
-
-#[test]
 fn a_commit_hook_vetoes_as_a_number(rt: HostRuntime) -> Result<(), Fail> {
     let alloc = rt.alloc();
     let (two, four) = (changes(alloc, TWO)?, changes(alloc, FOUR)?);
@@ -116,18 +84,6 @@ fn a_commit_hook_vetoes_as_a_number(rt: HostRuntime) -> Result<(), Fail> {
     assert!(rt; !guard.vetoes(&two) && guard.vetoes(&four));
     guard.clear_commit_hook();
     assert!(rt; !guard.vetoes(&four));
-    Ok(())
-}
-
-#[test]
-fn a_policy_guards_alone(rt: HostRuntime) -> Result<(), Fail> {
-    let alloc = rt.alloc();
-    let mut policy = Policy::new(alloc);
-    policy.policy(alloc, &read_rule(alloc, "t", Auth::Deny)?)?;
-    policy.policy(alloc, &PolicyRule::MaxChanges(Some(2)))?;
-    assert_eq!(rt; policy.ask(Action::Read, "t", "name"), Auth::Deny);
-    assert!(rt; policy.vetoes(&changes(alloc, FOUR)?));
-    policy.tell(&[])?;
     Ok(())
 }
 

@@ -1,4 +1,4 @@
-//! A replica over the plain store: a value that comes before its row, keys that are none, and peers.
+//! Changes that a replica over the plain store refuses together.
 
 use cr_cells::plain::PlainCells;
 use cr_cells::tables::has_folded_names;
@@ -18,8 +18,6 @@ use std::test::Fail;
 const A: Site = [10; 16];
 
 const B: Site = [11; 16];
-
-const C: Site = [12; 16];
 
 const KEY: [u8; 10] = [1, 1, 0, 0, 0, 0, 0, 0, 0, 1];
 
@@ -113,14 +111,6 @@ fn shown(alloc: Global, replica: &mut Replica<PlainCells>) -> Result<String, Fai
     }
 }
 
-fn taken(answer: Result<(), TakeError>) -> Result<(), Fail> {
-    match answer {
-        Ok(()) => Ok(()),
-        Err(TakeError::Memory) => Err(Fail::from(AllocError)),
-        Err(_) => Err(Fail::from("not taken")),
-    }
-}
-
 // Both steps of a taking.
 fn take(
     alloc: Global,
@@ -129,61 +119,6 @@ fn take(
 ) -> Result<(), TakeError> {
     let taking = replica.prepare(alloc, changes)?;
     replica.commit(alloc, &taking, None)?;
-    Ok(())
-}
-
-// Both steps of a pull.
-fn pull(
-    alloc: Global,
-    mine: &mut Replica<PlainCells>,
-    peer: &mut Replica<PlainCells>,
-) -> Result<(), TakeError> {
-    let offer = peer.offer(alloc)?;
-    let taking = match mine.prepare_offer(alloc, &offer) {
-        Ok(taking) => taking,
-        Err(error) => return Err(error),
-    };
-    mine.commit(alloc, &taking, None)?;
-    Ok(())
-}
-
-#[test]
-fn a_value_may_come_before_its_row(rt: HostRuntime) -> Result<(), Fail> {
-    let alloc = rt.alloc();
-    let mut replica = replica(alloc, A)?;
-    for (cid, val, version) in [("name", "'x'", 1), ("-1", "NULL", 3), ("name", "'x'", 1)] {
-        let said = change(alloc, &KEY, cid, val, version, 3)?;
-        taken(take(alloc, &mut replica, &[said]))?;
-        assert_eq!(rt; shown(alloc, &mut replica)?.as_str(), "1|'x'|7|/");
-    }
-    assert_eq!(rt; replica.db_version(), 2);
-    assert_eq!(rt; replica.site_id(), A);
-    Ok(())
-}
-
-#[test]
-fn a_peer_is_pulled_and_shows_the_same(rt: HostRuntime) -> Result<(), Fail> {
-    let alloc = rt.alloc();
-    let mut mine = replica(alloc, C)?;
-    let mut peer = replica(alloc, A)?;
-    let said = change(alloc, &KEY, "name", "'x'", 1, 3)?;
-    taken(take(alloc, &mut peer, &[said]))?;
-    taken(pull(alloc, &mut mine, &mut peer))?;
-    assert_eq!(rt; shown(alloc, &mut mine)?.as_str(), "1|'x'|7|/");
-    assert_eq!(rt;
-        mine.changes_since(alloc, 0).map_err(|_| AllocError)?.len(),
-        1
-    );
-    Ok(())
-}
-
-#[test]
-fn a_peer_of_the_same_site_is_not_pulled(rt: HostRuntime) -> Result<(), Fail> {
-    let alloc = rt.alloc();
-    let mut mine = replica(alloc, A)?;
-    let mut peer = replica(alloc, A)?;
-    let pulled = pull(alloc, &mut mine, &mut peer);
-    assert_eq!(rt; pulled, Err(TakeError::SameSite));
     Ok(())
 }
 
@@ -205,24 +140,5 @@ fn keys_that_are_none_are_refused_beside_a_good_change(rt: HostRuntime) -> Resul
         }
     }
     assert_eq!(rt; shown(alloc, &mut replica)?.as_str(), "");
-    Ok(())
-}
-
-#[test]
-fn a_table_is_defined_once(rt: HostRuntime) -> Result<(), Fail> {
-    let alloc = rt.alloc();
-    let mut replica = replica(alloc, A)?;
-    let def = table(alloc)?;
-    if has_folded_names(&def) {
-        match replica.define(alloc, &BuiltIns, &def) {
-            Err(DefineError::Memory) => return Err(Fail::from(AllocError)),
-            refused => assert_eq!(rt; refused, Err(DefineError::TableExists)),
-        }
-    }
-    match replica.rows_of(alloc, "q") {
-        Err(RowsError::Memory) => return Err(Fail::from(AllocError)),
-        Err(fault) => assert_eq!(rt; fault, RowsError::NoSuchTable),
-        Ok(_) => assert!(rt; false, "a table that is not there"),
-    }
     Ok(())
 }

@@ -6,6 +6,7 @@ mod host;
 use cr_fleet::fleet::Fleet;
 use cr_guard::guard::Guard;
 use cr_host::function::{FinishFn, OrderFn, ScalarFn, StepFn};
+use cr_host::functions::Functions;
 use cr_host::registry::Registry;
 use cr_host::samples::{bylen, half, xorall_finish, xorall_step};
 use cr_memory::MemoryCells;
@@ -33,7 +34,9 @@ fn run(rt: &HostRuntime) -> io::Result<bool> {
     serve_with(rt, &functions)
 }
 
-fn serve_with(rt: &HostRuntime, functions: &Registry<Samples>) -> io::Result<bool> {
+fn serve_with(rt: &HostRuntime, functions: &Registry<Samples>) -> io::Result<bool>
+    requires { ⟦<Registry<Samples> as Functions>⟧.is_faithful functions.now }
+{
     let alloc = rt.alloc();
     let mut reader = Watched::new(BufReader::new(alloc, rt.stdin())?);
     let mut writer = Watched::new(LineWriter::new(alloc, rt.stdout())?);

@@ -10,6 +10,7 @@ use Rattle.cr_fleet.specs.Sessions.{closures}
 use Rattle.cr_tree.specs.declared.statement.Statement.{Statement}
 use Rattle.cr_meaning.specs.View.{Ordered}
 use Rattle.cr_fleet.specs.Speaking.{spoken}
+use Rattle.cr_fleet.proofs.Converging.{spoken_converges}
 use Rattle.cr_fleet.proofs.Running.{goes_on, clean_after_run, answered_more}
 use Rattle.cr_fleet.proofs.fleet.Fleet.run.Goals as goal
 
@@ -43,6 +44,14 @@ returns-clause-converges g c = λ has names harm w s.
     let all : take c.loop-command.command-index c.args.commands.now ≡ c.args.commands.now = take_all _ _ (omega arith) in
     let clean = clean_after_run g.C.Cells.is_clean c.args.self.now c.loop-command.self c.loop-command.replies.items (c.loop-command.invariant.stays_clean has names) harm in
     rows_converge l k w _ _ (subst (λ (x : List Command). Run l k w x c.loop-command.replies.items) all (c.loop-command.invariant.ran has names clean w s).0)
+
+pub returns-clause-selects_converge : goal.returns-clause-selects_converge
+returns-clause-selects_converge g c = λ has names harm w s.
+    let l : Language Statement Ordered = spoken (g.F.Functions.function_of c.args.functions.now) (g.F.Functions.scalar c.args.functions.now) (g.F.Functions.step c.args.functions.now) (g.F.Functions.finish c.args.functions.now) (g.F.Functions.order_of c.args.functions.now) (g.F.Functions.orders_total c.args.functions.now) has in
+    let k : Closures = closures (g.G.Guarding.allows c.args.guard.now) (g.G.Guarding.refuses c.args.guard.now) in
+    let all : take c.loop-command.command-index c.args.commands.now ≡ c.args.commands.now = take_all _ _ (omega arith) in
+    let clean = clean_after_run g.C.Cells.is_clean c.args.self.now c.loop-command.self c.loop-command.replies.items (c.loop-command.invariant.stays_clean has names) harm in
+    spoken_converges _ _ _ _ _ _ has k w _ _ (subst (λ (x : List Command). Run l k w x c.loop-command.replies.items) all (c.loop-command.invariant.ran has names clean w s).0)
 
 pub returns-clause-runs : goal.returns-clause-runs
 returns-clause-runs g c = λ has names harm w s.

@@ -1,0 +1,66 @@
+//! How a refusal of the layers below is told.
+
+ghost use Rattle.std.specs.Prelude.{◌≡◌};
+ghost use Rattle.cr_language.specs.Sql.{of_limit, of_outside, of_unresolved};
+ghost use Rattle.cr_answer.specs.Selecting.{of_fault};
+
+use cr_resolve::refusal::{Limit as DefinitionLimit, Outside, Refusal as Unresolved};
+use cr_scalar::fault::EvalFault as Fault;
+use cr_world::refusal::{EvalFault, Limit, OutOfProfile, Refusal};
+
+fn of_outside(outside: Outside) -> OutOfProfile
+    ensures { result ≡ of_outside outside }
+{
+    match outside {
+        Outside::Real => OutOfProfile::Real,
+        Outside::PrimaryKey => OutOfProfile::PrimaryKey,
+        Outside::Collate => OutOfProfile::Collate,
+        Outside::RowCid => OutOfProfile::RowCid,
+        Outside::Default => OutOfProfile::Default,
+        Outside::Distinct => OutOfProfile::Distinct,
+    }
+}
+
+fn of_limit(limit: DefinitionLimit) -> Limit
+    ensures { result ≡ of_limit limit }
+{
+    match limit {
+        DefinitionLimit::Columns => Limit::Columns,
+        DefinitionLimit::KeyColumns => Limit::KeyColumns,
+    }
+}
+
+/// How a statement is refused that is not resolved, by what stands against it.
+pub fn of_unresolved(refusal: Unresolved) -> Refusal
+    ensures { result ≡ of_unresolved refusal }
+{
+    match refusal {
+        Unresolved::OutOfProfile(outside) => Refusal::OutOfProfile(of_outside(outside)),
+        Unresolved::Limit(limit) => Refusal::Limit(of_limit(limit)),
+        Unresolved::BadName(name) => Refusal::BadName(name),
+        Unresolved::NoSuchTable(name) => Refusal::NoSuchTable(name),
+        Unresolved::NoSuchColumn(name) => Refusal::NoSuchColumn(name),
+        Unresolved::AmbiguousColumn(name) => Refusal::AmbiguousColumn(name),
+        Unresolved::NoSuchFunction(name) => Refusal::NoSuchFunction(name),
+        Unresolved::WrongArity(name) => Refusal::WrongArity(name),
+        Unresolved::NoSuchCollation(name) => Refusal::NoSuchCollation(name),
+        Unresolved::Misaggregate => Refusal::Misaggregate,
+        Unresolved::TableExists(name) => Refusal::TableExists(name),
+        Unresolved::Denied(question) => Refusal::Denied(question.action, question.a, question.b),
+        Unresolved::Memory => Refusal::Memory,
+    }
+}
+
+/// How a statement is refused that is not evaluated, by the fault of its expression.
+pub fn of_fault(fault: Fault) -> Refusal
+    ensures { result ≡ of_fault fault }
+{
+    match fault {
+        Fault::Overflow => Refusal::Eval(EvalFault::Overflow),
+        Fault::NotANumber => Refusal::Eval(EvalFault::NotANumber),
+        Fault::NotUtf8 => Refusal::Eval(EvalFault::NotUtf8),
+        Fault::Host(text) => Refusal::Eval(EvalFault::Host(text)),
+        Fault::TooBig => Refusal::TooBig,
+        Fault::Memory => Refusal::Memory,
+    }
+}

@@ -1,0 +1,5 @@
+pub mod Symbols
+pub mod Folding
+pub mod Counting
+pub mod Keys
+pub mod Fitting

@@ -1,0 +1,15 @@
+//! Laws of the tables that statements define. The contracts are the theorems; nothing runs.
+
+ghost use Rattle.cr_fit.specs.Folded.{NamesAreFolded};
+ghost use Rattle.cr_fit.specs.Fit.{CreatedAreNew};
+
+/// The names of a table that a statement defines, of its columns and of their collations have no ASCII capital letter, and
+/// so have those of a column that it adds, whatever text the statement was read from.
+pub fn names_are_folded()
+    ensures { NamesAreFolded }
+{}
+
+/// A table against which nothing stands as it is created is one that a store takes, where no table has its name.
+pub fn created_tables_are_new()
+    ensures { CreatedAreNew }
+{}

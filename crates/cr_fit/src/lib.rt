@@ -1,0 +1,4 @@
+//! Tables that statements define are such as a store takes.
+#![tactic(auto)]
+
+pub mod laws;
