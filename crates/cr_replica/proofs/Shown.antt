@@ -1,12 +1,12 @@
 -- The rows that a store's cells show, however the cells are listed.
-use Rattle.std.proofs.Common.{◌≡◌, pos, true, List, [], sym, ap, ◌∙◌, refl}
+use Rattle.std.proofs.Common.{◌≡◌, pos, true, List, [], ◌++◌, sym, ap, ◌∙◌, refl}
 use Rattle.std.proofs.lemmas.List.{append-nil}
 use Rattle.cr_value.specs.declared.value.Value.{Value}
 use Rattle.cr_lattice.specs.declared.change.Change.{Change}
 use Rattle.cr_lattice.specs.declared.table.Table.{Table}
 use Rattle.cr_lattice.specs.Keep.{keep, join}
 use Rattle.cr_lattice.specs.Rows.{rows}
-use Rattle.cr_lattice.proofs.KeepLaws.{keep_members}
+use Rattle.cr_lattice.proofs.KeepLaws.{keep_members, keep_keep}
 use Rattle.cr_cells.specs.Holding.{Holding, changes_of, kept_of, since, IsSound}
 use Rattle.cr_cells.proofs.LawLemmas.{since-all}
 use Rattle.cr_replica.specs.Showing.{in_order, shown_of}
@@ -18,3 +18,7 @@ kept_listed h changes kept sound listed joined =
 pub shown_is : (h : Holding) (t : Table) (kept : List Change) (found sorted : List (List Value)) → kept ≡ kept_of h → found ≡ rows kept t.definition → sorted ≡ in_order found → t.is_replicated ≡ true
     → sorted ≡ shown_of h t
 shown_is h t kept found sorted k f s r = s ∙ ap in_order (f ∙ ap (λ (ks : List Change). rows ks t.definition) k) ∙ sym (rw r refl)
+
+-- what is joined is kept once
+pub joined_once : (changes kept : List Change) → kept ≡ join changes [] → keep kept ≡ kept
+joined_once changes kept e = ap keep e ∙ keep_keep (changes ++ []) ∙ sym e

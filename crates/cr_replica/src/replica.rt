@@ -4,7 +4,7 @@ ghost use Rattle.std.specs.Prelude.{◌≡◌, IfOk};
 ghost use Rattle.cr_cells.specs.Holding.{changes_of};
 
 use crate::definition::{DefineError, accept};
-use crate::snapshot::{Snapshot, copied_changes};
+use crate::snapshot::{Snapshot, are_in_profile, copied_changes};
 use crate::sorting::in_order;
 use cr_cells::marks::Mark;
 use cr_cells::newly::newly_kept;
@@ -141,7 +141,7 @@ impl<C: Cells> Replica<C> {
     ghost use Rattle.cr_replica.specs.declared.replica.TakeError.TheVariants.{SameSite};
     ghost use Rattle.cr_replica.specs.Taking.{Stands, IsReady, Prepares, PreparesPull, CommitsAll, IsOffer};
     ghost use Rattle.cr_replica.specs.Showing.{Shows};
-    ghost use Rattle.cr_replica.specs.Snapshots.{IsSnapshot};
+    ghost use Rattle.cr_replica.specs.Snapshots.{IsSnapshot, IsWhole};
 
     /// A replica over the store, which may hold something already.
     pub fn new(cells: C) -> Replica<C>
@@ -359,17 +359,22 @@ impl<C: Cells> Replica<C> {
     /// What the replica holds, for statements that are answered without asking its store again.
     ///
     /// # Errors
-    /// `Memory`, or `Store(Refused)`.
+    /// `Memory`, or `Store(Refused)`, as where the store gives a table that it would not have taken.
     pub fn snapshot(&mut self, alloc: Global) -> Result<Snapshot, CellsError>
         ensures was_honest { C.is_honest self.new → C.is_honest self.old }
         ensures was_clean { C.is_clean self.new → C.is_clean self.old }
         ensures stays_clean { C.is_honest self.new → C.is_clean self.old → UnlessWant is_want result (C.is_clean self.new) }
+        ensures sound { C.is_clean self.new → IsSound (C.holding self.new) }
         ensures reads { C.is_clean self.new → Reads (C.holding self.old) (C.holding self.new) result (IsSnapshot (C.holding self.old)) }
+        ensures whole { IfOk result IsWhole }
     {
         let tables = match self.cells.tables(alloc) {
             Ok(tables) => tables,
             Err(error) => return Err(error),
         };
+        if !are_in_profile(&tables) {
+            return Err(CellsError::Store(StoreFault::Refused));
+        }
         let cells = match self.cells.since(alloc, 0) {
             Ok(cells) => cells,
             Err(error) => return Err(error),

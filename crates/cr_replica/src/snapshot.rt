@@ -1,8 +1,11 @@
 //! What a replica holds at a moment.
 
 ghost use Rattle.std.specs.Prelude.{◌≡◌, map, IfOk};
+ghost use Rattle.std.specs.List.{list_all};
+ghost use Rattle.cr_replica.specs.Snapshots.{is_in_profile};
 
 use cr_lattice::change::{Change, Site};
+use cr_lattice::profile::profile;
 use cr_lattice::stamped::Stamped;
 use cr_lattice::table::{Items, Table};
 use std::alloc::{AllocError, Global};
@@ -20,6 +23,19 @@ pub struct Snapshot {
     pub cells: Items<Stamped>,
     /// The kept changes, in the order of changes.
     pub kept: Items<Change>,
+}
+
+fn is_in_profile(table: &Table) -> bool
+    ensures { result ≡ is_in_profile table.now }
+{
+    profile(&table.definition).is_ok()
+}
+
+/// Whether each table is in the profile.
+pub(crate) fn are_in_profile(tables: &[Table]) -> bool
+    ensures { result ≡ list_all is_in_profile tables.now }
+{
+    tables.iter().all(|table| is_in_profile(table))
 }
 
 /// The changes of the cells, in memory of their own.
