@@ -5,6 +5,8 @@ use Rattle.cr_lattice.specs.declared.profile.ProfileFault.{ProfileFault}
 use Rattle.cr_lattice.specs.declared.profile.ProfileFault.TheVariants as profile
 use Rattle.cr_lattice.specs.declared.table.ColumnDef.{ColumnDef}
 use Rattle.cr_lattice.specs.declared.table.TableDef.{TableDef}
+use Rattle.cr_scalar.specs.declared.fault.EvalFault.{EvalFault as Fault}
+use Rattle.cr_scalar.specs.declared.fault.EvalFault.TheVariants as fault
 use Rattle.cr_cells.specs.declared.store.CellsError.{CellsError}
 use Rattle.cr_cells.specs.declared.store.CellsError.TheVariants as cells
 use Rattle.cr_replica.specs.declared.definition.DefineError.{DefineError}
@@ -34,6 +36,15 @@ of_taking (take.Store f) = Store f
 of_taking (take.Bad b) = BadChange b
 of_taking take.VersionLimit = VersionLimit
 of_taking take.SameSite = SameSite
+
+-- an expression without a value
+abbrev pub of_fault : Fault → Refusal
+of_fault fault.Overflow = Eval eval.Overflow
+of_fault fault.NotANumber = Eval eval.NotANumber
+of_fault fault.NotUtf8 = Eval eval.NotUtf8
+of_fault (fault.Host text) = Eval (eval.Host text)
+of_fault fault.TooBig = TooBig
+of_fault fault.Memory = Memory
 
 -- rows that are not shown, of the table of this name
 abbrev pub of_rows : List ℕ → RowsError → Refusal

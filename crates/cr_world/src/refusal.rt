@@ -11,6 +11,7 @@ use cr_lattice::profile::ProfileFault;
 use cr_lattice::table::{ColumnDef, TableDef};
 use cr_replica::definition::DefineError;
 use cr_replica::replica::{RowsError, TakeError};
+use cr_scalar::fault::EvalFault as Fault;
 use cr_value::text::Text;
 use std::alloc::{AllocError, Global};
 
@@ -230,6 +231,24 @@ impl From<TakeError> for Refusal {
             TakeError::Bad(reason) => Refusal::BadChange(reason),
             TakeError::VersionLimit => Refusal::VersionLimit,
             TakeError::SameSite => Refusal::SameSite,
+        }
+    }
+}
+
+impl From<Fault> for Refusal {
+    ghost use Rattle.std.specs.Prelude.{◌≡◌};
+    ghost use Rattle.cr_world.specs.Refusals.{of_fault};
+
+    ghost from_gives = { λ e r. r ≡ of_fault e };
+
+    fn from(e: Fault) -> Refusal {
+        match e {
+            Fault::Overflow => Refusal::Eval(EvalFault::Overflow),
+            Fault::NotANumber => Refusal::Eval(EvalFault::NotANumber),
+            Fault::NotUtf8 => Refusal::Eval(EvalFault::NotUtf8),
+            Fault::Host(text) => Refusal::Eval(EvalFault::Host(text)),
+            Fault::TooBig => Refusal::TooBig,
+            Fault::Memory => Refusal::Memory,
         }
     }
 }
