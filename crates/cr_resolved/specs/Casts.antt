@@ -4,9 +4,11 @@ use Rattle.std.specs.Option.{is_none, option_to_list}
 use Rattle.std.specs.List.{flat_map, list_any}
 use Rattle.cr_tree.specs.declared.expr.When.{When}
 use Rattle.cr_tree.specs.declared.expr.Expr.TheFolds.{fold-When}
+use Rattle.cr_tree.specs.declared.expr.Expr.{Expr as Tree}
 use Rattle.cr_tree.specs.declared.statement.Shown.{Shown}
 use Rattle.cr_tree.specs.declared.statement.Join.{Join}
 use Rattle.cr_tree.specs.declared.statement.Term.{Term}
+use Rattle.cr_tree.specs.declared.statement.Assignment.{Assignment}
 use Rattle.cr_questions.specs.Questions.{Name}
 use Rattle.cr_resolve.specs.Trees.{casts, casts_node, arm}
 use Rattle.cr_resolve.specs.Expressions.{cast_target}
@@ -30,3 +32,9 @@ join_casts j = flat_map casts (option_to_list j.on)
 
 abbrev pub term_casts : Term → List (List Name)
 term_casts t = casts t.expr
+
+abbrev pub row_casts : List Tree → List (List Name)
+row_casts row = flat_map casts row
+
+abbrev pub assignment_casts : Assignment → List (List Name)
+assignment_casts a = casts a.value

@@ -1,3 +1,2 @@
 pub mod Casts
 pub mod Fits
-pub mod Answers

@@ -1,17 +1,19 @@
-//! Whether a SELECT has a CAST to a type that is none of the three.
+//! Whether a statement has a CAST to a type that is none of the three.
 
-ghost use Rattle.std.specs.Prelude.{◌≡◌, ◌∷◌, [], map, IfOk};
+ghost use Rattle.std.specs.Prelude.{◌≡◌, ◌∷◌, ◌++◌, [], map, false, IfOk};
 ghost use Rattle.std.specs.Option.{is_none, option_map, option_to_list};
 ghost use Rattle.std.specs.List.{flat_map, list_any};
 ghost use Rattle.cr_resolve.specs.Expressions.{cast_target};
 ghost use Rattle.cr_resolve.specs.Queries.{or_none};
-ghost use Rattle.cr_resolve.specs.Resolve.{on_trees, select_trees};
+ghost use Rattle.cr_resolve.specs.Resolve.{on_trees, select_trees, trees};
 ghost use Rattle.cr_resolve.specs.Trees.{all, casts, if_any};
-ghost use Rattle.cr_resolved.specs.Casts.{arm_casts, is_outside, join_casts, or_outside, shown_casts, term_casts};
+ghost use Rattle.cr_resolved.specs.Casts.{arm_casts, assignment_casts, is_outside, join_casts, or_outside, row_casts, shown_casts, term_casts};
 
 use cr_resolve::node::cast_target;
 use cr_tree::expr::{Expr as Tree, When};
-use cr_tree::statement::{Join, Select, Shown, Tables, Term};
+use cr_tree::statement::{
+    Assignment, Delete, Insert, Join, Select, Shown, Statement, Tables, Term, Update,
+};
 use cr_value::text::Text;
 use sqlite_items::{Boxed, Items};
 use std::alloc::{AllocError, Global};
@@ -205,12 +207,9 @@ fn or_order_casts(
     }
 }
 
-/// Whether a CAST somewhere in a SELECT is to a type that is none of integer, text and blob.
-///
-/// # Errors
-/// Where memory runs out.
-pub fn has_cast_outside(alloc: Global, select: &Select) -> Result<bool, AllocError>
-    ensures { IfOk result (λ b. b ≡ list_any (λ words. is_none (cast_target words)) (flat_map casts (select_trees select.now))) }
+// Whether a CAST somewhere in a SELECT is to another type.
+fn in_select(alloc: Global, select: &Select) -> Result<bool, AllocError>
+    ensures { IfOk result (λ b. b ≡ or_outside false (flat_map casts (select_trees select.now))) }
 {
     let found = or_shown_casts(alloc, false, select.shown.as_slice())?;
     let found = or_from_casts(alloc, found, &select.from)?;
@@ -218,4 +217,65 @@ pub fn has_cast_outside(alloc: Global, select: &Select) -> Result<bool, AllocErr
     let found = or_group_casts(alloc, found, &select.group)?;
     let found = or_clause_casts(alloc, found, &select.having)?;
     or_order_casts(alloc, found, &select.order)
+}
+
+// Whether a CAST in the rows of an INSERT is to another type.
+fn in_insert(alloc: Global, insert: &Insert) -> Result<bool, AllocError>
+    ensures { IfOk result (λ b. b ≡ or_outside false (flat_map row_casts insert.now.rows)) }
+{
+    let mut found = false;
+    for row in insert.rows.as_slice() {
+        found = or_any_casts(alloc, found, row.as_slice())?;
+    }
+    Ok(found)
+}
+
+// Whether it was found, or a CAST in a value that a column gets is to another type.
+fn or_assignment_casts(
+    alloc: Global,
+    mut found: bool,
+    assignments: &[Assignment],
+) -> Result<bool, AllocError>
+    ensures { IfOk result (λ b. b ≡ or_outside found (flat_map assignment_casts assignments.now)) }
+{
+    for assignment in assignments {
+        found = or_casts(alloc, found, &assignment.value)?;
+    }
+    Ok(found)
+}
+
+// Whether a CAST in an UPDATE is to another type.
+fn in_update(alloc: Global, update: &Update) -> Result<bool, AllocError>
+    ensures { IfOk result (λ b. b ≡ or_outside false (flat_map casts (map (λ a. a.value) update.now.assignments ++ option_to_list update.now.filter))) }
+{
+    let found = or_assignment_casts(alloc, false, update.assignments.as_slice())?;
+    or_clause_casts(alloc, found, &update.filter)
+}
+
+// Whether a CAST in a DELETE is to another type.
+fn in_delete(alloc: Global, delete: &Delete) -> Result<bool, AllocError>
+    ensures { IfOk result (λ b. b ≡ or_outside false (flat_map casts (option_to_list delete.now.filter))) }
+{
+    or_clause_casts(alloc, false, &delete.filter)
+}
+
+/// Whether a CAST somewhere in a statement is to a type that is none of integer, text and blob.
+///
+/// # Errors
+/// Where memory runs out.
+#[tactic(auto, using(crate::proofs::Outside::none_before, crate::proofs::Outside::in_rows))]
+pub fn has_cast_outside(alloc: Global, statement: &Statement) -> Result<bool, AllocError>
+    ensures { IfOk result (λ b. b ≡ list_any (λ words. is_none (cast_target words)) (flat_map casts (trees statement.now))) }
+{
+    match statement {
+        Statement::Select(select) => in_select(alloc, select),
+        Statement::Insert(insert) => in_insert(alloc, insert),
+        Statement::Update(update) => in_update(alloc, update),
+        Statement::Delete(delete) => in_delete(alloc, delete),
+        Statement::Create(_)
+        | Statement::Alter(_)
+        | Statement::Begin(_)
+        | Statement::Commit
+        | Statement::Rollback => Ok(false),
+    }
 }

@@ -3,4 +3,4 @@
 
 pub mod casts;
 pub mod fits;
-pub mod select;
+pub mod statement;

@@ -3,7 +3,7 @@ use Rattle.std.specs.List.{flat_map}
 use Rattle.cr_resolved.specs.Casts.{or_outside, shown_casts}
 use Rattle.cr_resolved.proofs.Outside.{in_select}
 use Rattle.cr_resolved.proofs.Nodes.{carried}
-use Rattle.cr_resolved.proofs.casts.has_cast_outside.Goals as goal
+use Rattle.cr_resolved.proofs.casts.in_select.Goals as goal
 
 pub returns : goal.returns
 returns c =
