@@ -137,7 +137,7 @@ key_there c (n ∷ ns) e one f g a =
 
 -- ---- names
 
-same_name : (m n : Name) → bytes_eq m n ≡ same_bytes m n
+pub same_name : (m n : Name) → bytes_eq m n ≡ same_bytes m n
 same_name m n = sym (is_eq-slice_cmp m n)
 
 left_not : (b c : Bool) → (b || c) ≡ false → (b ≡ false) × (c ≡ false)

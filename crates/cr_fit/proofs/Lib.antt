@@ -3,3 +3,4 @@ pub mod Folding
 pub mod Counting
 pub mod Keys
 pub mod Fitting
+pub mod Suiting
