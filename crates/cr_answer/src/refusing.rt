@@ -1,12 +1,10 @@
-//! How a refusal of the layers below is told.
+//! How a statement is refused that is not resolved.
 
 ghost use Rattle.std.specs.Prelude.{◌≡◌};
 ghost use Rattle.cr_language.specs.Sql.{of_limit, of_outside, of_unresolved};
-ghost use Rattle.cr_answer.specs.Selecting.{of_fault};
 
 use cr_resolve::refusal::{Limit as DefinitionLimit, Outside, Refusal as Unresolved};
-use cr_scalar::fault::EvalFault as Fault;
-use cr_world::refusal::{EvalFault, Limit, OutOfProfile, Refusal};
+use cr_world::refusal::{Limit, OutOfProfile, Refusal};
 
 fn of_outside(outside: Outside) -> OutOfProfile
     ensures { result ≡ of_outside outside }
@@ -48,19 +46,5 @@ pub fn of_unresolved(refusal: Unresolved) -> Refusal
         Unresolved::TableExists(name) => Refusal::TableExists(name),
         Unresolved::Denied(question) => Refusal::Denied(question.action, question.a, question.b),
         Unresolved::Memory => Refusal::Memory,
-    }
-}
-
-/// How a statement is refused that is not evaluated, by the fault of its expression.
-pub fn of_fault(fault: Fault) -> Refusal
-    ensures { result ≡ of_fault fault }
-{
-    match fault {
-        Fault::Overflow => Refusal::Eval(EvalFault::Overflow),
-        Fault::NotANumber => Refusal::Eval(EvalFault::NotANumber),
-        Fault::NotUtf8 => Refusal::Eval(EvalFault::NotUtf8),
-        Fault::Host(text) => Refusal::Eval(EvalFault::Host(text)),
-        Fault::TooBig => Refusal::TooBig,
-        Fault::Memory => Refusal::Memory,
     }
 }
