@@ -1,0 +1,11 @@
+pub mod Members
+pub mod Tables
+pub mod Changes
+pub mod Shown
+pub mod Puts
+pub mod Refined
+pub mod Tested
+pub mod Sized
+pub mod Keys
+pub mod Short
+pub mod Held
