@@ -1,0 +1,32 @@
+-- The rows that a write wants have a value for each column.
+use Rattle.std.proofs.Common.{List}
+use Rattle.cr_value.specs.declared.value.Value.{Value}
+use Rattle.cr_lattice.specs.Rows.{rows}
+use Rattle.cr_scalar.specs.Host.{Host}
+use Rattle.cr_term.specs.declared.query.Insert.{Insert}
+use Rattle.cr_term.specs.declared.query.Update.{Update}
+use Rattle.cr_term.specs.declared.query.Delete.{Delete}
+use Rattle.cr_query.specs.Query.{Row}
+use Rattle.cr_meaning.specs.View as view
+use Rattle.cr_meaning.specs.Meaning.{exact}
+use Rattle.cr_exec.specs.Answers.{IsBoth}
+use Rattle.cr_wanted.specs.Judged.{AreWide}
+use Rattle.cr_wanted.proofs.Widths.{shown_wide, insert_wide, update_wide, delete_wide}
+use Rattle.cr_replica.specs.declared.snapshot.Snapshot.{Snapshot}
+use Rattle.cr_changed.specs.Changed.{insert_wants, update_wants, delete_wants}
+
+module _ (host : Host) (params : List Value) (s : Snapshot) where
+  pub inserted_wide : (w : Insert) (out : List Row) → IsBoth host params (insert_wants s w) out → AreWide w.relation.definition.columns out
+  inserted_wide w out both =
+      let def = w.relation.definition in
+      insert_wide (exact host params) def.columns (view.insert w) (rows s.kept def) out (shown_wide s.kept def) both.exact
+
+  pub updated_wide : (w : Update) (out : List Row) → IsBoth host params (update_wants s w) out → AreWide w.relation.definition.columns out
+  updated_wide w out both =
+      let def = w.relation.definition in
+      update_wide (exact host params) def.columns (view.update w) (rows s.kept def) out (shown_wide s.kept def) both.exact
+
+  pub deleted_wide : (w : Delete) (out : List Row) → IsBoth host params (delete_wants s w) out → AreWide w.relation.definition.columns out
+  deleted_wide w out both =
+      let def = w.relation.definition in
+      delete_wide (exact host params) def.columns (view.delete w) (rows s.kept def) out (shown_wide s.kept def) both.exact
