@@ -21,6 +21,7 @@ use Rattle.cr_world.specs.Language.{Language}
 use Rattle.cr_world.specs.State.{State, new_state}
 use Rattle.cr_guard.specs.Policy.{Rules}
 use Rattle.cr_fleet.specs.Fleets.{FleetOf, AreClean, Shows, Steps, seen, name_and_state, place_in, is_free_name}
+use Rattle.cr_fleet.proofs.Marking.{marks_more}
 use Rattle.cr_fleet.proofs.Places.{pair, all_map, map_any, map_append, all_append, all_front, all_last}
 use Rattle.cr_fleet.proofs.Stepping.{place_same, refused_steps}
 
@@ -101,6 +102,7 @@ module _ {S E C : Type 0} (l : Language S E) (k : Closures) (is_clean : C → Ty
             in_use = ap Some (count_same w s);
             rules = s.rules;
             keep = all_append Keeps w.members (new ∷ []) s.keep (keeps_new name site, tt);
+            marks = marks_more w.members name site s.marks (site_same w s ∙ g before);
           },
         ));
   }

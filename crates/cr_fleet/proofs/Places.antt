@@ -65,6 +65,16 @@ some_within [] i h = absurd (omega (arith, h))
 some_within (y ∷ ys) zero h = (y, refl)
 some_within (y ∷ ys) (suc i) h = some_within ys i (omega (arith, h))
 
+pub within : {X : Type 0} (xs : List X) (i : ℕ) (x : X) → slice_get xs i ≡ Some x → i < length xs
+within [] i x e = absurd (let q : ⊥ = cc in q)
+within (y ∷ ys) zero x e = omega arith
+within (y ∷ ys) (suc i) x e = let h = within ys i x e in omega (arith, h)
+
+pub set_there : {X : Type 0} (xs : List X) (i : ℕ) (x x' : X) → slice_get xs i ≡ Some x → slice_get (slice_set xs i x') i ≡ Some x'
+set_there [] i x x' e = absurd (let q : ⊥ = cc in q)
+set_there (y ∷ ys) zero x x' e = refl
+set_there (y ∷ ys) (suc i) x x' e = set_there ys i x x' e
+
 -- ---- where something is found
 
 prefix_map : {X Y : Type 0} (f : X → Y) (p : Y → Bool) (xs : List X) → position_or_len p (map f xs) ≡ position_or_len (λ x. p (f x)) xs

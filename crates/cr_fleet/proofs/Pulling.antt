@@ -25,16 +25,17 @@ use Rattle.cr_world.specs.Answers.{Answers, IsDone, IsDoneUnless, Pulls}
 use Rattle.cr_world.proofs.Keeping.{pull_keeps}
 use Rattle.cr_fleet.specs.Fleets.{FleetOf, AreClean, Shows, Steps, reply_of, seen, name_and_state, place_in}
 use Rattle.cr_fleet.specs.Sessions.{TakesAll, standing, host_under}
+use Rattle.cr_fleet.proofs.Marking.{Moves, moves, same_grows, commit_grows}
 use Rattle.cr_fleet.proofs.Places.{same_at, none_at, stays_at, all_at, all_set, all_before, all_after}
 use Rattle.cr_fleet.proofs.Stepping.{place_same, unused, refused_steps, pull_none, of_used, used_steps, clean_before, unchanged}
 use Rattle.cr_fleet.proofs.Takings.{want_of_store, wanting}
 
 -- the peer has another site
-apart : (b : Bool) (c : Cause) (reply : FleetReply) → b ≡ false → IsDone c reply → IsDoneUnless (if b then Some SameSite else None) c reply
+pub apart : (b : Bool) (c : Cause) (reply : FleetReply) → b ≡ false → IsDone c reply → IsDoneUnless (if b then Some SameSite else None) c reply
 apart false c reply e p = p
 apart true c reply e p = absurd (let q : true ≡ false = e in cc)
 
-one : (b : Bool) (c : Cause) → b ≡ true → IsDoneUnless (if b then Some SameSite else None) c (Refused SameSite)
+pub one : (b : Bool) (c : Cause) → b ≡ true → IsDoneUnless (if b then Some SameSite else None) c (Refused SameSite)
 one true c e = refl
 one false c e = absurd (let q : false ≡ true = e in cc)
 
@@ -44,7 +45,7 @@ module _ {S E C : Type 0} (l : Language S E) (k : Closures) (is_clean : C → Ty
 
   module _ (i : ℕ) (r : List ℕ × C) (place : old.1 ≡ Some i) (at : slice_get old.0 i ≡ Some r) where
     -- the member in use
-    taker : (w : World) → Shows holding w rules old → (m : Member) × (used w ≡ Some m) × (m.state ≡ standing holding r.1)
+    pub taker : (w : World) → Shows holding w rules old → (m : Member) × (used w ≡ Some m) × (m.state ≡ standing holding r.1)
     taker w s =
         let found = same_at holding w.members old.0 i r s.members at in
         (found.0, ap (λ (o : Option ℕ). item_at o w.members) (s.in_use ∙ place) ∙ found.1, ap (λ (x : List ℕ × State). x.1) found.2)
@@ -61,13 +62,14 @@ module _ {S E C : Type 0} (l : Language S E) (k : Closures) (is_clean : C → Ty
 
     module _ (j : ℕ) (p : List ℕ × C) (from : place_in old name ≡ Some j) (there : slice_get old.0 j ≡ Some p) where
       -- the member that is named
-      peer : (w : World) → Shows holding w rules old → (q : Member) × (named w name ≡ Some q) × (q.state ≡ standing holding p.1) × Keeps q
+      pub peer : (w : World) → Shows holding w rules old → (q : Member) × (named w name ≡ Some q) × (q.state ≡ standing holding p.1) × Keeps q × (slice_get w.members j ≡ Some q)
       peer w s =
           let found = same_at holding w.members old.0 j p s.members there in (
             found.0,
             ap (λ (o : Option ℕ). item_at o w.members) (place_same l k is_clean holding rules w old name s ∙ from) ∙ found.1,
             ap (λ (x : List ℕ × State). x.1) found.2,
             all_at Keeps w.members j found.0 s.keep found.1,
+            found.1,
           )
 
       -- what is answered by the states of both
@@ -101,7 +103,7 @@ module _ {S E C : Type 0} (l : Language S E) (k : Closures) (is_clean : C → Ty
         mid_seen clean same = stays_at holding old.0 j p p' there (λ x. (same_name x, new_state (same (mid_peer clean) x)))
 
         shows_mid : AreClean is_clean mid → (is_clean p'.1 → holding p'.1 ≡ holding p.1) → (w : World) → Shows holding w rules old → Shows holding w rules mid
-        shows_mid clean same w s = record { members = s.members ∙ sym (mid_seen clean same); in_use = s.in_use; rules = s.rules; keep = s.keep }
+        shows_mid clean same w s = record { members = s.members ∙ sym (mid_seen clean same); in_use = s.in_use; rules = s.rules; keep = s.keep; marks = s.marks }
 
         pub pull_unread : (e : CellsError) → (is_clean p.1 → calls.is_want e ≡ false → is_clean p'.1) → (is_clean p'.1 → (holding p'.1 ≡ holding p.1) × IsRefusal e)
             → Steps l k is_clean holding rules old (Pull name) (Refused (of_store e)) rules mid
@@ -120,7 +122,7 @@ module _ {S E C : Type 0} (l : Language S E) (k : Closures) (is_clean : C → Ty
           mid_after clean = all_after (λ x. is_clean x.1) old.0 j p p' clean there lasts
 
           shows_old : AreClean is_clean mid → (w : World) → Shows holding w rules mid → Shows holding w rules old
-          shows_old clean w s = record { members = s.members ∙ mid_seen clean same; in_use = s.in_use; rules = s.rules; keep = s.keep }
+          shows_old clean w s = record { members = s.members ∙ mid_seen clean same; in_use = s.in_use; rules = s.rules; keep = s.keep; marks = s.marks }
 
           sound_peer : (q : Member) → q.state ≡ standing holding p.1 → is_clean p'.1 → IsSound q.state.holding
           sound_peer q e clean = subst IsSound (same clean ∙ sym (ap (λ (st : State). st.holding) e)) (sound clean)
@@ -152,7 +154,7 @@ module _ {S E C : Type 0} (l : Language S E) (k : Closures) (is_clean : C → Ty
 
             pub pull_done : TakesAll (host_under k rules) is_clean holding t.1 changes None (Ok tt) t'.1 → Steps l k is_clean holding rules old (Pull name) Done rules (slice_set mid.0 i t', mid.1)
             pull_done takes = through Done (slice_set mid.0 i t', mid.1) (used_steps l k is_clean holding rules mid i t t' place at_mid takes.was_clean (Pull name) Done
-                (λ clean told. takes.stays_clean clean) (λ w. pulling (named w name)) (λ w. refl) (λ all clean w m s u h n keeps. (
+                (λ clean told. takes.stays_clean clean) (λ w. pulling (named w name)) (λ w. refl) (λ all clean w m s u at_m h n keeps. (
                 let mid_clean = clean_before l k is_clean holding rules mid i t t' place at_mid takes.was_clean all in
                 let s_old = shows_old mid_clean w s in
                 let q = peer w s_old in
@@ -162,18 +164,20 @@ module _ {S E C : Type 0} (l : Language S E) (k : Closures) (is_clean : C → Ty
                   ap (λ (o : Option Member). name_and_state (pulling o m)) q.1
                       ∙ (λ x. ((n ∙ sym t_name) x, ((λ y. taking (offered y) None (h y)) ∙ sym taken.1) x)),
                   subst (λ (o : Option Member). Keeps (pulling o m)) (sym q.1) (pull_keeps l k m q.0 keeps q.3 (sound_peer q.0 q.2 (mid_peer mid_clean))),
+                  subst (λ (o : Option Member). Moves w.members m (pulling o m)) (sym q.1) (moves w.members i m (pulling (Some q.0) m) s.marks at_m keeps (commit_grows m.state.holding _)),
                 ))))
 
             pub pull_refused : (e : Refusal) → TakesAll (host_under k rules) is_clean holding t.1 changes None (Err e) t'.1
                 → Steps l k is_clean holding rules old (Pull name) (Refused e) rules (slice_set mid.0 i t', mid.1)
             pull_refused e takes = through (Refused e) (slice_set mid.0 i t', mid.1) (used_steps l k is_clean holding rules mid i t t' place at_mid takes.was_clean (Pull name) (Refused e)
-                takes.stays_clean (λ w m. m) (λ w. sym (unchanged w)) (λ all clean w m s u h n keeps. (
+                takes.stays_clean (λ w m. m) (λ w. sym (unchanged w)) (λ all clean w m s u at_m h n keeps. (
                 let mid_clean = clean_before l k is_clean holding rules mid i t t' place at_mid takes.was_clean all in
                 let taken = takes.takes clean in (
                   answered w (Refused e) (shows_old mid_clean w s) (apart _ _ (Refused e) (apart_sites (mid_before mid_clean))
                       (subst (λ (c : Cause). IsDone c (Refused e)) (sym (cause_same mid_clean w s)) taken.0)),
                   (λ x. ((n ∙ sym t_name) x, (h ∙ sym taken.1) x)),
                   keeps,
+                  moves w.members i m m s.marks at_m keeps (same_grows m.state.holding),
                 ))))
 
             pub pull_taken : (result : Result (Unit {0}) Refusal) → TakesAll (host_under k rules) is_clean holding t.1 changes None result t'.1

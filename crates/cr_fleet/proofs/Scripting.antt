@@ -15,6 +15,8 @@ use Rattle.cr_sql.specs.declared.error.SqlError.TheVariants as sql
 use Rattle.cr_sql.specs.Sql.{says}
 use Rattle.cr_sql.specs.Scripts as scripts
 use Rattle.cr_cells.specs.Holding.{Holding}
+use Rattle.cr_fit.specs.Folded.{DefinesFolded}
+use Rattle.cr_fit.proofs.Folding.{are_names_folded}
 use Rattle.cr_world.specs.declared.command.Reply.{Reply}
 use Rattle.cr_world.specs.declared.command.Script.{Script}
 use Rattle.cr_world.specs.declared.command.Command.TheVariants.{Sql}
@@ -35,7 +37,7 @@ use Rattle.cr_fleet.specs.Sessions.{standing, Does}
 use Rattle.cr_world.proofs.Keeping.{runs_leave}
 use Rattle.cr_fleet.specs.Speaking.{spoken}
 use Rattle.cr_fleet.specs.Scripts.{Carries, CarriesAll, Stops, next, pieces_left}
-use Rattle.cr_fleet.proofs.Selecting.{Replies, wants as told_want, not_resolved}
+use Rattle.cr_fleet.proofs.Carrying.{Replies, wants as told_want, not_resolved}
 use Rattle.cr_fleet.proofs.Turning.{wanting}
 
 module _ {C : Type 0} (function_of : List ℕ → ℕ → Option Definition) (scalar : ℕ → List Value → Result Value (List ℕ)) (step : ℕ → Value → List Value → Result Value (List ℕ)) (finish : ℕ → Value → Result Value (List ℕ))
@@ -55,9 +57,9 @@ module _ {C : Type 0} (function_of : List ℕ → ℕ → Option Definition) (sc
     answers = λ clean. (replies told).0;
     leaves = λ clean. (replies told).1;
   } where
-    replies : (r ≡ not_carried_out x) ⊎ (r ≡ Memory) → Replies meant host (holding old) x (Err r)
+    replies : (r ≡ not_carried_out x) ⊎ (r ≡ Memory) → Replies meant host (holding old) x (Err r) (holding old)
     replies (inl f) =
-        subst (λ (y : Refusal). Replies meant host (holding old) x (Err y)) (sym f)
+        subst (λ (y : Refusal). Replies meant host (holding old) x (Err y) (holding old)) (sym f)
         (not_resolved meant host (holding old) x (not_carried_out x) (no_resolution (catalog (new_state (holding old))) x e))
     replies (inr f) = told_want meant host (holding old) x r (inl f)
 
@@ -71,6 +73,11 @@ pub found : (source : List ℕ) (tokens : List Token) (answer : Result (Option (
 unfolding next
 found source tokens answer x reads e =
     sym (reads (λ f. let q : Ok x ≡ Err sql.Memory = sym e ∙ f in let z : ⊥ = cc in z)) ∙ ap scripts.says_next e
+
+-- a statement that is read has folded names
+pub folded : (source : List ℕ) (tokens : List Token) (x : Statement) (n : ℕ) → next source tokens ≡ Ok (Some (x, n)) → DefinesFolded x
+unfolding next
+folded source tokens x n e = are_names_folded source tokens x n e
 
 abbrev Told : SqlError → Refusal → Type 0
 Told error r = (r ≡ of_unread (says error)) ⊎ (r ≡ Memory)

@@ -27,6 +27,7 @@ use Rattle.cr_world.proofs.Keeping.{kept_more, script_stays}
 use Rattle.cr_fleet.specs.declared.fleet.Named.{Named}
 use Rattle.cr_fleet.specs.Fleets.{FleetOf, AreClean, Shows, Steps, seen, name_and_state, place_in}
 use Rattle.cr_fleet.specs.Sessions.{Does, OwnAnswers, RunsScript, own_after, is_own, standing, host_under}
+use Rattle.cr_fleet.proofs.Marking.{Moves, moves, own_grows, marks_set}
 use Rattle.cr_fleet.proofs.Places.{pair, map_set, position_map, same_at, none_at, set_at, keeps_set, all_at, all_set, all_before, all_after}
 
 -- nothing becomes of a member that stays as it is
@@ -174,7 +175,10 @@ module _ {S E : Type 0} (l : Language S E) (k : Closures) (w : World) where
   pub pull_none : (name : List ℕ) → used w ≡ None → Answers l k w (Pull name) (Refused NoReplica)
   pull_none name u = none_used _ u
 
-  refused_stays : (c : Command) (r : Refusal) → after l k w c (Refused r) ≡ w
+  pub pull_since_none : (name : List ℕ) → used w ≡ None → Answers l k w (PullSince name) (Refused NoReplica)
+  pull_since_none name u = none_used _ u
+
+  pub refused_stays : (c : Command) (r : Refusal) → after l k w c (Refused r) ≡ w
   refused_stays (Define Real) r = refl
   refused_stays (Define (Declared def)) r = refl
   refused_stays (Take row) r = refl
@@ -223,14 +227,14 @@ module _ {S E C : Type 0} (l : Language S E) (k : Closures) (is_clean : C → Ty
   policy_set old rule new e = record {
     was_clean = λ clean. clean;
     stays_clean = λ clean answered. clean;
-    steps = λ clean w s. (tt, record { members = s.members; in_use = s.in_use; rules = ap (with_rule rule) s.rules ∙ sym e; keep = s.keep });
+    steps = λ clean w s. (tt, record { members = s.members; in_use = s.in_use; rules = ap (with_rule rule) s.rules ∙ sym e; keep = s.keep; marks = s.marks });
   }
 
   pub policy_refused : (old : FleetOf C) (rule : PolicyRule) (new : Rules) → wants_memory rule ≡ true → new ≡ rules → Steps l k is_clean holding rules old (Policy rule) (Refused Memory) new old
   policy_refused old rule new wants e = record {
     was_clean = λ clean. clean;
     stays_clean = λ clean answered. clean;
-    steps = λ clean w s. ((wants, refl), record { members = s.members; in_use = s.in_use; rules = s.rules ∙ sym e; keep = s.keep });
+    steps = λ clean w s. ((wants, refl), record { members = s.members; in_use = s.in_use; rules = s.rules ∙ sym e; keep = s.keep; marks = s.marks });
   }
 
   -- ---- the replica that is named is put in use
@@ -241,7 +245,7 @@ module _ {S E C : Type 0} (l : Language S E) (k : Closures) (is_clean : C → Ty
     stays_clean = λ clean answered. clean;
     steps = λ clean w s. (
         let there : place_of w name ≡ Some at = place_same w old name s ∙ e in
-        (subst (λ (o : Option ℕ). Uses o Done) (sym there) refl, record { members = s.members; in_use = there; rules = s.rules; keep = s.keep }));
+        (subst (λ (o : Option ℕ). Uses o Done) (sym there) refl, record { members = s.members; in_use = there; rules = s.rules; keep = s.keep; marks = s.marks }));
   }
 
   pub use_none : (old : FleetOf C) (name : List ℕ) → place_in old name ≡ None → Steps l k is_clean holding rules old (Use name) (Refused NoReplica) rules old
@@ -276,32 +280,34 @@ module _ {S E C : Type 0} (l : Language S E) (k : Closures) (is_clean : C → Ty
     -- what becomes of it
     pub used_steps : (c : Command) (reply : FleetReply) → (is_clean r.1 → tells_want reply ≡ false → is_clean r'.1) → (f : World → Member → Member)
         → ((w : World) → after l k w c reply ≡ with_used w (f w))
-        → (AreClean is_clean new → is_clean r'.1 → (w : World) (m : Member) → Shows holding w rules old → used w ≡ Some m → m.state ≡ standing holding r.1 → m.name ≡ r.0 → Keeps m
-        → Answers l k w c reply × (name_and_state (f w m) ≡ seen holding r') × Keeps (f w m))
+        → (AreClean is_clean new → is_clean r'.1 → (w : World) (m : Member) → Shows holding w rules old → used w ≡ Some m → slice_get w.members i ≡ Some m → m.state ≡ standing holding r.1 → m.name ≡ r.0 → Keeps m
+        → Answers l k w c reply × (name_and_state (f w m) ≡ seen holding r') × Keeps (f w m) × Moves w.members m (f w m))
         → Steps l k is_clean holding rules old c reply rules new
     used_steps c reply lasts f changes called = record {
       was_clean = clean_before;
       stays_clean = λ clean answered. clean_after clean (λ before. lasts before answered);
       steps = λ clean w s. (
           let m = in_use w s in
-          let told = called clean (clean_called clean) w m.0 s m.1 m.4 m.3 m.5 in (
+          let told = called clean (clean_called clean) w m.0 s m.1 m.2 m.4 m.3 m.5 in (
             told.0,
             subst (λ (v : World). Shows holding v rules new) (sym (changes w ∙ used_is (f w) w s)) (record {
               members = set_at holding (f w) w.members old.0 i m.0 r' s.members m.2 told.1;
               in_use = s.in_use;
               rules = s.rules;
               keep = keeps_set (f w) w.members i m.0 s.keep m.2 told.2;
+              marks = marks_set (f w) w.members i m.0 s.marks m.2 told.3;
             }),
           ));
     }
 
     pub own_steps : (c : Command) (reply : FleetReply) → is_own c ≡ true → r'.0 ≡ r.0 → Does l (host_under k rules) is_clean holding r.1 c reply r'.1 → Steps l k is_clean holding rules old c reply rules new
     own_steps c reply o same d =
-        used_steps c reply d.stays_clean (λ w. own_after l (host_of k w) c reply) (λ w. own_leaves l k w c reply o) (λ all clean w m s u h n keeps. (
+        used_steps c reply d.stays_clean (λ w. own_after l (host_of k w) c reply) (λ w. own_leaves l k w c reply o) (λ all clean w m s u at_m h n keeps. (
         let e : Does l (host_of k w) is_clean holding r.1 c reply r'.1 = subst (λ (x : Rules). Does l (host_under k x) is_clean holding r.1 c reply r'.1) (sym s.rules) d in (
           own_answers l k w c reply m u (subst (λ (st : State). OwnAnswers l (host_of k w) st c reply) (sym h) (e.answers clean)),
           (λ j. ((name_stays l (host_of k w) c reply m ∙ n ∙ sym same) j, e.leaves clean m h j)),
           own_keeps l (host_of k w) c reply m keeps,
+          moves w.members i m (own_after l (host_of k w) c reply m) s.marks at_m keeps (own_grows l (host_of k w) c reply m),
         )))
 
   -- ---- the stores of a fleet, by their names

@@ -1,18 +1,19 @@
 -- A fleet of stores as a world sees it. Source: this project's own.
-use Rattle.std.specs.Prelude.{◌≡◌, ◌⊎◌, ℕ, Bool, true, false, not, ◌&&◌, is_some, List, map, position, Option, Result, Ok, Err}
-use Rattle.std.specs.List.{AllByRecursion}
+use Rattle.std.specs.Prelude.{◌≡◌, ◌⊎◌, ℕ, ℤ, pos, Bool, true, false, not, ◌&&◌, is_some, List, [], map, position, slice_get, Option, Some, Result, Ok, Err}
+use Rattle.std.specs.List.{AllByRecursion, list_any}
 use Rattle.cr_lattice.specs.Check.{same_bytes}
-use Rattle.cr_cells.specs.Holding.{Holding}
+use Rattle.cr_lattice.specs.Sync.{Knows}
+use Rattle.cr_cells.specs.Holding.{Holding, kept_of}
+use Rattle.cr_cells.specs.Marks.{seen_of}
 use Rattle.cr_guard.specs.Policy.{Rules}
 use Rattle.cr_world.specs.declared.command.Command.{Command}
-use Rattle.cr_world.specs.declared.command.Command.TheVariants.{Open, Use, Define, Take, Rows, Changes, Pull, PullSince, Policy, Sql}
 use Rattle.cr_world.specs.declared.command.FleetReply.{FleetReply}
 use Rattle.cr_world.specs.declared.command.FleetReply.TheVariants.{Done, Refused}
 use Rattle.cr_world.specs.declared.refusal.Refusal.{Refusal}
 use Rattle.cr_world.specs.Language.{Language}
 use Rattle.cr_world.specs.State.{State}
 use Rattle.cr_world.specs.World.{World, Member, Closures, AllKeep}
-use Rattle.cr_world.specs.Answers.{Answers, after, tells_want, AreAnswered, is_replica_name}
+use Rattle.cr_world.specs.Answers.{Answers, after, tells_want, AreAnswered, is_replica_name, has_site}
 use Rattle.cr_fleet.specs.Sessions.{standing}
 
 -- the named stores of a fleet, and the place of the one in use
@@ -35,12 +36,29 @@ seen holding r = (r.0, standing holding r.1)
 abbrev pub name_and_state : Member → List ℕ × State
 name_and_state m = (m.name, m.state)
 
+-- ---- what marks promise
+
+-- each kept change of the peer that is stamped at or below the mark of its site is kept here, or beaten
+abbrev pub KnowsOf : Member → Member → Type 0
+KnowsOf m peer = Knows (kept_of m.state.holding) peer.state.holding.cells peer.state.holding.version (seen_of m.state.holding.marks peer.state.holding.site)
+
+-- The promise of every mark holds. So that it goes on to hold, each member's changes are stamped from 1 on, no two members
+-- have one site, and no site has a mark that is no member's.
+pub record AreMarked (members : List Member) : Type 0 where
+  pub known : (i j : ℕ) (m peer : Member) → slice_get members i ≡ Some m → slice_get members j ≡ Some peer → KnowsOf m peer
+  pub from_1 : (i : ℕ) (m : Member) → slice_get members i ≡ Some m → Knows [] m.state.holding.cells m.state.holding.version (pos 0)
+  pub apart : (i j : ℕ) (m peer : Member) → slice_get members i ≡ Some m → slice_get members j ≡ Some peer → same_bytes m.state.holding.site peer.state.holding.site ≡ true → i ≡ j
+  pub none_else : (i : ℕ) (m : Member) (site : List ℕ) → slice_get members i ≡ Some m → list_any (has_site site) members ≡ false → seen_of m.state.holding.marks site ≡ pos 0
+
+-- ---- a fleet and its world
+
 -- the fleet is one of this world, under this policy
 pub record Shows {C : Type 0} (holding : C → Holding) (w : World) (policy : Rules) (f : FleetOf C) : Type 0 where
   pub members : map name_and_state w.members ≡ map (seen holding) f.0
   pub in_use : w.in_use ≡ f.1
   pub rules : w.rules ≡ policy
   pub keep : AllKeep w
+  pub marks : AreMarked w.members
 
 -- each store is clean after it; so it is where each was clean before, and no reply tells of want
 abbrev pub IsUnharmed : {C : Type 0} → (C → Type 0) → FleetOf C → List FleetReply → FleetOf C → Type 0
@@ -63,15 +81,14 @@ place_in f name = position (λ r. same_bytes r.0 name) f.0
 abbrev pub is_free_name : {C : Type 0} → List ℕ → FleetOf C → Bool
 is_free_name name f = is_replica_name name && not (is_some (place_in f name))
 
--- incremental pulls aren't carried out yet
-abbrev pub is_carried_out : Command → Bool
-is_carried_out (Open name site) = true
-is_carried_out (Use name) = true
-is_carried_out (Define declaration) = true
-is_carried_out (Take row) = true
-is_carried_out (Rows name) = true
-is_carried_out (Changes n) = true
-is_carried_out (Pull name) = true
-is_carried_out (PullSince name) = false
-is_carried_out (Policy rule) = true
-is_carried_out (Sql text) = true
+-- What the replica in use takes of the one of that name: the mark that it keeps for that one's site is at this version. They
+-- have different sites.
+pub record IsOffered {C : Type 0} (is_clean : C → Type 0) (holding : C → Holding) (f : FleetOf C) (name : List ℕ) (at from : ℕ) (version : ℤ) : Type 0 where
+  pub taker : List ℕ × C
+  pub peer : List ℕ × C
+  pub in_use : f.1 ≡ Some at
+  pub named : place_in f name ≡ Some from
+  pub taker_at : slice_get f.0 at ≡ Some taker
+  pub peer_at : slice_get f.0 from ≡ Some peer
+  pub apart : AreClean is_clean f → same_bytes (holding peer.1).site (holding taker.1).site ≡ false
+  pub seen : AreClean is_clean f → version ≡ seen_of (holding taker.1).marks (holding peer.1).site

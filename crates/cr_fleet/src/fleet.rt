@@ -8,7 +8,7 @@ ghost use Rattle.cr_world.specs.Answers.{is_replica_name};
 
 use crate::session::{Session, reply_of};
 use crate::speaking::{Speaking, Watching};
-use cr_cells::store::NewCells;
+use cr_cells::store::{NewCells, StoreFault};
 use cr_guard::guarding::Guarding;
 use cr_guard::policy::PolicyRule;
 use cr_host::functions::Functions;
@@ -87,14 +87,14 @@ impl<C: NewCells> Fleet<C> {
     ghost use Rattle.cr_meaning.specs.View.{Ordered};
     ghost use Rattle.cr_tree.specs.declared.statement.Statement.{Statement};
     ghost use Rattle.cr_guard.specs.Policy.{Rules};
-    ghost use Rattle.cr_world.specs.declared.command.Command.TheVariants.{Open, Use, Define, Take, Rows, Pull, Policy};
+    ghost use Rattle.cr_world.specs.declared.command.Command.TheVariants.{Open, Use, Define, Take, Rows, Pull, PullSince, Policy};
     ghost use Rattle.cr_world.specs.Answers.{IsReady, AreAnswered};
     ghost use Rattle.cr_world.specs.Language.{Language};
     ghost use Rattle.cr_world.specs.World.{World, Closures};
     ghost use Rattle.cr_fleet.specs.Sessions.{is_own};
     ghost use Rattle.cr_world.specs.Headline.{Converges, RowsConverge};
     ghost use Rattle.cr_world.specs.Run.{Run, world_after};
-    ghost use Rattle.cr_fleet.specs.Fleets.{Steps, AreClean, IsUnharmed, Shows, reply_of, is_free_name, is_carried_out};
+    ghost use Rattle.cr_fleet.specs.Fleets.{Steps, AreClean, IsUnharmed, Shows, IsOffered, reply_of, is_free_name};
 
     /// A fleet without replicas.
     pub fn new(alloc: Global) -> Fleet<C>
@@ -225,6 +225,71 @@ impl<C: NewCells> Fleet<C> {
         reply_of(taker.session.take_all(alloc, guard, &changes, None))
     }
 
+    // Takes what the replica at a place holds and has stamped above a version, and marks its version.
+    fn take_since<G: Guarding>(
+        &mut self,
+        alloc: Global,
+        guard: &G,
+        at: usize,
+        from: usize,
+        seen: i64,
+    ) -> FleetReply
+        requires { G.is_faithful guard.now }
+        ensures { (l : Language Statement Ordered) (name : List ℕ) → IsOffered C.is_clean C.holding self.old name at from seen
+            → Steps l (⟦<G as Watching>⟧.closures guard.now) C.is_clean C.holding (G.rules guard.now) self.old (PullSince name) result (G.rules guard.now) self.new }
+    {
+        let Some(peer) = self.replicas.get_mut(from) else {
+            return FleetReply::Refused(Refusal::NoReplica);
+        };
+        let changes = match peer.session.changes_above(alloc, seen) {
+            Ok(changes) => changes,
+            Err(error) => return FleetReply::Refused(Refusal::from(error)),
+        };
+        let site = peer.session.site();
+        let version = peer.session.version();
+        if version < 0 {
+            return FleetReply::Refused(Refusal::Store(StoreFault::Refused));
+        }
+        let Some(taker) = self.replicas.get_mut(at) else {
+            return FleetReply::Refused(Refusal::NoReplica);
+        };
+        reply_of(
+            taker
+                .session
+                .take_all(alloc, guard, &changes, Some((site, version))),
+        )
+    }
+
+    fn pull_since<G: Guarding>(&mut self, alloc: Global, guard: &G, name: &Text) -> FleetReply
+        requires { G.is_faithful guard.now }
+        ensures { (l : Language Statement Ordered) → Steps l (⟦<G as Watching>⟧.closures guard.now) C.is_clean C.holding (G.rules guard.now) self.old (PullSince name.now) result (G.rules guard.now) self.new }
+    {
+        let Some(at) = self.in_use else {
+            return FleetReply::Refused(Refusal::NoReplica);
+        };
+        let Some(taker) = self.replicas.get(at) else {
+            return FleetReply::Refused(Refusal::NoReplica);
+        };
+        let Some(from) = place_of(&self.replicas, name.as_str()) else {
+            return FleetReply::Refused(Refusal::NoReplica);
+        };
+        let Some(peer) = self.replicas.get(from) else {
+            return FleetReply::Refused(Refusal::NoReplica);
+        };
+        let site = peer.session.site();
+        if same_bytes(&site, &taker.session.site()) {
+            return FleetReply::Refused(Refusal::SameSite);
+        }
+        let Some(taker) = self.replicas.get_mut(at) else {
+            return FleetReply::Refused(Refusal::NoReplica);
+        };
+        let seen = match taker.session.seen(alloc, site) {
+            Ok(seen) => seen,
+            Err(error) => return FleetReply::Refused(Refusal::from(error)),
+        };
+        self.take_since(alloc, guard, at, from, seen)
+    }
+
     /// Carries out one command.
     pub fn step<F: Functions, G: Guarding>(
         &mut self,
@@ -236,7 +301,6 @@ impl<C: NewCells> Fleet<C> {
         requires functions { F.is_faithful functions.now }
         requires guard { G.is_faithful guard.old }
         requires ready { IsReady command.now }
-        requires carried_out { is_carried_out command.now ≡ true }
         ensures steps { (has : List ℕ → Bool) → ⟦<F as Speaking>⟧.are_names functions.now has
             → Steps (⟦<F as Speaking>⟧.language functions.now has) (⟦<G as Watching>⟧.closures guard.old) C.is_clean C.holding (G.rules guard.old) self.old command.now result (G.rules guard.new) self.new }
         ensures closures { ⟦<G as Watching>⟧.closures guard.new ≡ ⟦<G as Watching>⟧.closures guard.old }
@@ -252,7 +316,7 @@ impl<C: NewCells> Fleet<C> {
             Command::Rows(_) => self.step_used(alloc, functions, guard, command),
             Command::Changes(_) => self.step_used(alloc, functions, guard, command),
             Command::Sql(_) => self.step_used(alloc, functions, guard, command),
-            Command::PullSince(_) => FleetReply::Refused(Refusal::Command),
+            Command::PullSince(name) => self.pull_since(alloc, guard, name),
         }
     }
 
@@ -270,7 +334,6 @@ impl<C: NewCells> Fleet<C> {
         requires functions { F.is_faithful functions.now }
         requires guard { G.is_faithful guard.old }
         requires ready { AllByRecursion IsReady commands.now }
-        requires carried_out { AllByRecursion (λ c. is_carried_out c ≡ true) commands.now }
         ensures was_clean { (has : List ℕ → Bool) → ⟦<F as Speaking>⟧.are_names functions.now has → AreClean C.is_clean self.new → AreClean C.is_clean self.old }
         ensures stays_clean { IfOk result (λ replies. (has : List ℕ → Bool) → ⟦<F as Speaking>⟧.are_names functions.now has → AreClean C.is_clean self.old → AreAnswered replies.items → AreClean C.is_clean self.new) }
         ensures runs { IfOk result (λ replies. (has : List ℕ → Bool) → ⟦<F as Speaking>⟧.are_names functions.now has

@@ -3,6 +3,8 @@
 #![tactic(auto)]
 
 pub mod fleet;
+mod performing;
 mod script;
 pub mod session;
 pub mod speaking;
+mod writing;

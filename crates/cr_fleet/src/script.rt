@@ -1,28 +1,25 @@
 //! Scripts: their statements in order, up to the first that is refused.
 
-ghost use Rattle.std.specs.Prelude.{◌≡◌, ◌⊎◌, ◌≤◌, false, IfOk, IfSome, IfNone, None, drop, length};
+ghost use Rattle.std.specs.Prelude.{◌≡◌, ◌⊎◌, ◌≤◌, IfOk, IfSome, drop, length};
 ghost use Rattle.cr_sql.specs.Sql.{says};
 ghost use Rattle.cr_sql.specs.Sql as read;
 ghost use Rattle.cr_world.specs.declared.refusal.Refusal.TheVariants.{Memory};
 ghost use Rattle.cr_language.specs.Sql.{of_kind, of_unread};
 ghost use Rattle.cr_language.specs.SoFar.{first_word, is_carried_out, not_carried_out};
-ghost use Rattle.cr_resolve.specs.Resolve.{marked};
-ghost use Rattle.cr_tree.specs.declared.statement.Statement.TheVariants as s;
 
 use crate::session::Session;
 use crate::speaking::{Speaking, Watching};
-use cr_answer::selecting::answer_select;
+use cr_answer::allowing::allowed;
 use cr_cells::store::NewCells;
 use cr_guard::guarding::Guarding;
 use cr_host::functions::Functions;
 use cr_lattice::table::Items;
 use cr_lex::scan::tokens;
 use cr_lex::token::{LexError, Token};
-use cr_resolve::leaf::marked;
 use cr_sql::error::SqlError;
 use cr_sql::script::next_statement;
 use cr_tree::limits::LimitKind;
-use cr_tree::statement::{Select, Statement};
+use cr_tree::statement::Statement;
 use cr_value::text::Text;
 use cr_world::command::{Reply, Script};
 use cr_world::refusal::{Limit, OutOfProfile, Refusal};
@@ -83,14 +80,18 @@ pub(crate) fn not_carried_out(alloc: Global, statement: &Statement) -> Refusal
     }
 }
 
-// The SELECT that a statement is, if it is one that marks no table.
-fn select_of(statement: &Statement) -> Option<&Select>
-    ensures some { IfSome result (λ select. (statement.now ≡ s.Select select.now) × (marked select.now ≡ None)) }
-    ensures none { IfNone result (is_carried_out statement.now ≡ false) }
+// Whether statements of this form are carried out.
+fn is_carried_out(statement: &Statement) -> bool
+    ensures { result ≡ is_carried_out statement.now }
 {
     match statement {
-        Statement::Select(select) if marked(select).is_none() => Some(select),
-        _ => None,
+        Statement::Select(_)
+        | Statement::Insert(_)
+        | Statement::Update(_)
+        | Statement::Delete(_)
+        | Statement::Create(_) => true,
+        Statement::Alter(_) | Statement::Begin(_) | Statement::Commit | Statement::Rollback =>
+            false,
     }
 }
 
@@ -104,35 +105,10 @@ fn behind(tokens: &[Token], len: usize) -> &[Token]
 
 impl<C: NewCells> Session<C> {
     ghost use Rattle.std.specs.Prelude.{◌<◌, ℕ, Bool, List, []};
+    ghost use Rattle.cr_fit.specs.Folded.{DefinesFolded};
     ghost use Rattle.cr_fleet.specs.Scripts.{Carries, CarriesAll, Turns, next, pieces_left};
 
-    // Answers a SELECT that marks no table.
-    fn select<F: Functions, G: Guarding>(
-        &mut self,
-        alloc: Global,
-        functions: &F,
-        guard: &G,
-        statement: &Statement,
-        select: &Select,
-    ) -> Result<Reply, Refusal>
-        requires functions { F.is_faithful functions.now }
-        requires guard { G.is_faithful guard.now }
-        requires statement { statement.now ≡ s.Select select.now }
-        requires unmarked { marked select.now ≡ None }
-        ensures { (has : List ℕ → Bool) → ⟦<F as Speaking>⟧.are_names functions.now has
-            → Carries (⟦<F as Speaking>⟧.language functions.now has) (⟦<G as Watching>⟧.host guard.now) C.is_clean C.holding self.old statement.now result self.new }
-    {
-        let snapshot = match self.snapshot(alloc) {
-            Ok(snapshot) => snapshot,
-            Err(error) => return Err(Refusal::from(error)),
-        };
-        match answer_select(alloc, functions, guard, &snapshot, statement, select) {
-            Ok(rows) => Ok(Reply::Rows(rows)),
-            Err(refusal) => Err(refusal),
-        }
-    }
-
-    // Carries out a statement.
+    // Carries out a statement that has no parameters.
     fn statement<F: Functions, G: Guarding>(
         &mut self,
         alloc: Global,
@@ -142,13 +118,22 @@ impl<C: NewCells> Session<C> {
     ) -> Result<Reply, Refusal>
         requires functions { F.is_faithful functions.now }
         requires guard { G.is_faithful guard.now }
+        requires folded { DefinesFolded statement.now }
         ensures { (has : List ℕ → Bool) → ⟦<F as Speaking>⟧.are_names functions.now has
             → Carries (⟦<F as Speaking>⟧.language functions.now has) (⟦<G as Watching>⟧.host guard.now) C.is_clean C.holding self.old statement.now result self.new }
     {
-        match select_of(statement) {
-            Some(select) => self.select(alloc, functions, guard, statement, select),
-            None => Err(not_carried_out(alloc, statement)),
+        if !is_carried_out(statement) {
+            return Err(not_carried_out(alloc, statement));
         }
+        let snapshot = match self.snapshot(alloc) {
+            Ok(snapshot) => snapshot,
+            Err(error) => return Err(Refusal::from(error)),
+        };
+        let resolved = match allowed(alloc, functions, guard, &snapshot, statement, 0) {
+            Ok(resolved) => resolved,
+            Err(refusal) => return Err(refusal),
+        };
+        self.perform(alloc, functions, guard, &snapshot, &resolved)
     }
 
     // Carries out the next statement of a script, and tells how many tokens stand up to its end; none where no statement is

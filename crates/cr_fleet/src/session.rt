@@ -33,7 +33,7 @@ pub(crate) fn reply_of(outcome: Result<(), Refusal>) -> FleetReply
 /// A replica, outside of transactions.
 #[derive(Drop)]
 pub struct Session<C: Drop> {
-    replica: Replica<C>,
+    pub(crate) replica: Replica<C>,
 }
 
 impl<C: Drop> Model for Session<C> {
@@ -43,12 +43,12 @@ impl<C: Drop> Model for Session<C> {
 }
 
 impl<C: NewCells> Session<C> {
-    ghost use Rattle.std.specs.Prelude.{◌≡◌, ◌≤ℤ◌, ℕ, Bool, List, pos, true};
+    ghost use Rattle.std.specs.Prelude.{◌≡◌, ◌≤ℤ◌, ℕ, Bool, List, pos, true, IfOk};
     ghost use Rattle.std.specs.Option.{ForSome};
     ghost use Rattle.cr_cells.specs.Calls.{Reads, is_want, UnlessWant};
     ghost use Rattle.cr_cells.specs.Holding.{IsSound, since, changes_of};
     ghost use Rattle.cr_cells.specs.Marks.{seen_of};
-    ghost use Rattle.cr_replica.specs.Snapshots.{IsSnapshot};
+    ghost use Rattle.cr_replica.specs.Snapshots.{IsSnapshot, IsWhole};
     ghost use Rattle.cr_world.specs.declared.command.Command.TheVariants.{Define, Take, Rows, Changes, Sql};
     ghost use Rattle.cr_world.specs.Answers.{IsReady};
     ghost use Rattle.cr_world.specs.Language.{Language};
@@ -101,7 +101,9 @@ impl<C: NewCells> Session<C> {
     pub fn snapshot(&mut self, alloc: Global) -> Result<Snapshot, CellsError>
         ensures was_clean { C.is_clean self.new → C.is_clean self.old }
         ensures stays_clean { C.is_clean self.old → UnlessWant is_want result (C.is_clean self.new) }
+        ensures sound { C.is_clean self.new → IsSound (C.holding self.new) }
         ensures reads { C.is_clean self.new → Reads (C.holding self.old) (C.holding self.new) result (IsSnapshot (C.holding self.old)) }
+        ensures whole { IfOk result IsWhole }
     {
         self.replica.snapshot(alloc)
     }

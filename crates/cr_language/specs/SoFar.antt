@@ -1,10 +1,8 @@
 -- The language as far as its statements are carried out. Source: this project's own.
-use Rattle.std.specs.Prelude.{ℕ, Bool, false, ◌&&◌, List, Err, codes, if◌then◌else◌}
-use Rattle.std.specs.Option.{is_none}
+use Rattle.std.specs.Prelude.{ℕ, Bool, true, false, ◌&&◌, List, Err, codes, if◌then◌else◌}
 use Rattle.cr_tree.specs.declared.statement.Statement.{Statement}
 use Rattle.cr_tree.specs.declared.statement.Statement.TheVariants as s
 use Rattle.cr_meaning.specs.View.{Ordered}
-use Rattle.cr_resolve.specs.Resolve.{marked}
 use Rattle.cr_world.specs.declared.refusal.Refusal.{Refusal}
 use Rattle.cr_world.specs.declared.refusal.Refusal.TheVariants as refusal
 use Rattle.cr_world.specs.declared.refusal.OutOfProfile.TheVariants as out
@@ -22,13 +20,13 @@ first_word (s.Begin mode) = codes "BEGIN"
 first_word s.Commit = codes "COMMIT"
 first_word s.Rollback = codes "ROLLBACK"
 
--- a SELECT is that makes no table replicated
+-- all is but ALTER TABLE and transactions
 abbrev pub is_carried_out : Statement → Bool
-is_carried_out (s.Select q) = is_none (marked q)
-is_carried_out (s.Insert i) = false
-is_carried_out (s.Update u) = false
-is_carried_out (s.Delete d) = false
-is_carried_out (s.Create c) = false
+is_carried_out (s.Select q) = true
+is_carried_out (s.Insert i) = true
+is_carried_out (s.Update u) = true
+is_carried_out (s.Delete d) = true
+is_carried_out (s.Create c) = true
 is_carried_out (s.Alter a) = false
 is_carried_out (s.Begin mode) = false
 is_carried_out s.Commit = false

@@ -1,5 +1,5 @@
 use Rattle.std.proofs.Common.{rules, refl, None, inl, inr}
-use Rattle.cr_fleet.proofs.Scripting.{found, stops_unread}
+use Rattle.cr_fleet.proofs.Scripting.{folded, found, stops_unread}
 use Rattle.cr_fleet.proofs.Turning.{takes}
 use Rattle.cr_fleet.proofs.session.Session.turn.Goals as goal
 
@@ -22,3 +22,6 @@ returns-in-Ok-Some-clause-turns g c = λ has names.
 
 pub returns-in-Ok-clause-takes : goal.returns-in-Ok-clause-takes
 returns-in-Ok-clause-takes g c = takes _ _ c.in-Ok-Some.statement c.in-Ok-Some.len (found _ _ c.next_statement-next.result _ c.next_statement-next.ensures (search rules))
+
+pub statement-requires-clause-folded : goal.statement-requires-clause-folded
+statement-requires-clause-folded g c = folded c.args.source.now c.args.tokens.now c.in-Ok-Some.statement c.in-Ok-Some.len (found c.args.source.now c.args.tokens.now c.next_statement-next.result _ c.next_statement-next.ensures (search rules))

@@ -1,0 +1,58 @@
+use Rattle.std.proofs.Common.{◌≡◌, ◌<◌, Some, sym, ap, ◌∙◌, refl, false, true, length, map, slice_get, slice_set, arith, SFits, w64, to_z, of_z, to_z-of_z, rules}
+use Rattle.std.proofs.lemmas.List.{length-set, length-map}
+use Rattle.std.proofs.lemmas.Option.{slice_get-get_or}
+use Rattle.cr_cells.specs.Marks.{Mark}
+use Rattle.cr_world.specs.Takings.{changes_above}
+use Rattle.cr_fleet.specs.declared.fleet.Named.{Named}
+use Rattle.cr_fleet.proofs.Places.{pair, map_set, within}
+use Rattle.cr_fleet.proofs.Stepping.{pair_at}
+use Rattle.cr_fleet.proofs.PullingSince.{met_peer, since_unread, since_no_version, since_taken}
+use Rattle.cr_fleet.proofs.fleet.Fleet.take_since.Goals as goal
+
+pub returns-in-Err : goal.returns-in-Err
+returns-in-Err g c = λ l name o.
+    let items = c.self.inside.replicas.items in
+    let inside : c.args.from < length items = (let h = c.in-Some.ensures.variant.0 refl in let n = c.self.inside.replicas.ok.0 in omega arith) in
+    let at : slice_get items c.args.from ≡ Some c.in-Some.peer.now = slice_get-get_or items c.args.from c.in-Some.peer.now inside ∙ ap Some (sym c.in-Some.ensures.value) in
+    let there = pair_at items c.args.from c.in-Some.peer.now at in
+    rw c.from.ensures (rw (← c.self.view_is) (rw (map_set pair items c.args.from _)
+    (since_unread l _ g.C.Cells.is_clean g.C.Cells.holding _ _ name c.args.at c.args.from c.args.seen (met_peer g.C.Cells.is_clean g.C.Cells.holding _ name c.args.at c.args.from c.args.seen (rw (← c.self.view_is) at o) _ there) _ refl c.changes_above.ensures.was_clean
+    c.in-Err.error c.in-Err.ensures.stays_clean (λ clean. ((c.in-Err.ensures.reads clean).same, (c.in-Err.ensures.reads clean).answers)))))
+
+pub returns-then-version-lt0 : goal.returns-then-version-lt0
+returns-then-version-lt0 g c = λ l name o.
+    let items = c.self.inside.replicas.items in
+    let inside : c.args.from < length items = (let h = c.in-Some.ensures.variant.0 refl in let n = c.self.inside.replicas.ok.0 in omega arith) in
+    let at : slice_get items c.args.from ≡ Some c.in-Some.peer.now = slice_get-get_or items c.args.from c.in-Some.peer.now inside ∙ ap Some (sym c.in-Some.ensures.value) in
+    let there = pair_at items c.args.from c.in-Some.peer.now at in
+    rw (← c.self.view_is) (rw (map_set pair items c.args.from _)
+    (since_no_version l _ g.C.Cells.is_clean g.C.Cells.holding _ _ name c.args.at c.args.from c.args.seen (met_peer g.C.Cells.is_clean g.C.Cells.holding _ name c.args.at c.args.from c.args.seen (rw (← c.self.view_is) at o) _ there) _ refl c.changes_above.ensures.was_clean
+    (λ clean. (c.in-Ok.ensures.reads clean).same)))
+
+pub returns-in_default-get_mut : goal.returns-in_default-get_mut
+returns-in_default-get_mut g c = λ l name o.
+    let items = c.self.inside.replicas.items in
+    let seen = rw (← c.self.view_is) at o in
+    let inside : c.args.at < length (map pair items) = within (map pair items) c.args.at seen.taker seen.taker_at in
+    let n = c.self.inside.replicas.ok.0 in
+    absurd (let q : false ≡ true = c.in_default-get_mut.ensures.variant.1 (omega (arith, inside, n, length-map items pair)) in let z : ⊥ = cc in z)
+
+pub returns : goal.returns
+returns g c = λ l name o.
+    let items = c.self.inside.replicas.items in
+    let inside : c.args.from < length items = (let h = c.in-Some.ensures.variant.0 refl in let n = c.self.inside.replicas.ok.0 in omega arith) in
+    let at : slice_get items c.args.from ≡ Some c.in-Some.peer.now = slice_get-get_or items c.args.from c.in-Some.peer.now inside ∙ ap Some (sym c.in-Some.ensures.value) in
+    let there = pair_at items c.args.from c.in-Some.peer.now at in
+    let peer : Named g.row.C.Denot = record { name = c.in-Some.peer.now.name; session = c.changes_above.new.self } in
+    let mid = slice_set items c.args.from peer in
+    let inside_mid : c.args.at < length mid = (let h = c.in-Some-get_mut.ensures.variant.0 refl in let n = c.self.inside.replicas.ok.0 in omega (arith, h, n, length-set items c.args.from peer)) in
+    let at_mid : slice_get mid c.args.at ≡ Some c.in-Some-get_mut.taker.now = slice_get-get_or mid c.args.at c.in-Some-get_mut.taker.now inside_mid ∙ ap Some (sym c.in-Some-get_mut.ensures.value) in
+    let paired_mid = rw (map_set pair items c.args.from peer) at (pair_at mid c.args.at c.in-Some-get_mut.taker.now at_mid) in
+    let fits : SFits w64 c.args.seen = search rules in
+    let version_fits : SFits w64 c.version-version.result = search rules in
+    let mark : Mark = (c.site-site.result, to_z w64 (of_z w64 c.version-version.result)) in
+    rw c.reply_of.ensures (rw (← c.self.view_is) (rw (map_set pair mid c.args.at _, map_set pair items c.args.from peer)
+    (since_taken l _ g.C.Cells.is_clean g.C.Cells.holding _ _ name c.args.at c.args.from c.args.seen (met_peer g.C.Cells.is_clean g.C.Cells.holding _ name c.args.at c.args.from c.args.seen (rw (← c.self.view_is) at o) _ there) _ refl c.changes_above.ensures.was_clean
+    (λ clean. (c.in-Ok.ensures.reads clean).same) c.in-Ok.changes.items c.in-Ok.ensures.stays_clean (λ clean. (c.in-Ok.ensures.reads clean).answers ∙ ap (changes_above (g.C.Cells.holding c.in-Some.peer.now.session)) (to_z-of_z fits))
+    mark (λ clean. (λ i. (c.site-site.ensures clean i, (to_z-of_z version_fits ∙ c.version-version.ensures clean) i)) ∙ (λ i. (((c.in-Ok.ensures.reads clean).same i).site, ((c.in-Ok.ensures.reads clean).same i).version)))
+    _ _ paired_mid refl c.take_all.result (rw c.deref.ensures.value at c.take_all.ensures))))
