@@ -13,7 +13,6 @@ use Rattle.cr_world.specs.declared.command.Command.{Command}
 use Rattle.cr_world.specs.declared.command.Command.TheVariants.{Define}
 use Rattle.cr_world.specs.declared.command.Declaration.{Declaration}
 use Rattle.cr_world.specs.Answers.{IsReady}
-use Rattle.cr_shell.specs.Ready.{MayRun}
 use Rattle.cr_shell.specs.declared.table_line.Marks.{Marks}
 use Rattle.cr_shell.specs.declared.table_line.Column.{Column}
 use Rattle.cr_shell.proofs.LineLemmas.{told}
@@ -82,5 +81,5 @@ table_is_ready : (bytes : List ℕ) → IfSome (table_of bytes) IsReady
 unfolding table_of
 table_is_ready bytes = in_step IsReady (split_at_space bytes) _ (λ words. in_steps IsReady AreFoldedColumns (columns_in (length words.1) 0 words.1) _ (columns_are_folded (length words.1) 0 words.1) (λ columns f. ready words.0 columns f))
 
-pub is_ready : (bytes : List ℕ) (d : Declaration) → Some (Define d) ≡ table_of bytes → MayRun (Define d)
-is_ready bytes d e = (subst (λ (o : Option Command). IfSome o IsReady) (sym e) (table_is_ready bytes), refl)
+pub is_ready : (bytes : List ℕ) (d : Declaration) → Some (Define d) ≡ table_of bytes → IsReady (Define d)
+is_ready bytes d e = subst (λ (o : Option Command). IfSome o IsReady) (sym e) (table_is_ready bytes)

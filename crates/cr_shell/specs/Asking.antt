@@ -10,7 +10,7 @@ use Rattle.cr_world.specs.declared.command.Command.{Command}
 use Rattle.cr_world.specs.declared.command.Command.TheVariants.{Sql}
 use Rattle.cr_shell.specs.declared.asking.Asked.{Asked}
 use Rattle.cr_shell.specs.declared.asking.Asked.TheVariants.{Nothing, Quit, NoCommand, TooLong, Asks}
-use Rattle.cr_shell.specs.Ready.{MayRun}
+use Rattle.cr_world.specs.Answers.{IsReady}
 use Rattle.cr_shell.specs.Lines.{command_of}
 
 -- ---- what is gathered
@@ -78,10 +78,10 @@ asked gathered line = asked_of_text gathered (strip_last 13 line)
 abbrev pub asked_at_end : List ℕ → Asked × List ℕ
 asked_at_end gathered = if has_token gathered then (Asks (Sql gathered), []) else (Nothing, gathered)
 
--- a command that is asked may be run
+-- the names of a definition that is asked are in ASCII lower case
 abbrev pub AsksReady : Asked → Type 0
 AsksReady Nothing = Unit {0}
 AsksReady Quit = Unit {0}
 AsksReady NoCommand = Unit {0}
 AsksReady TooLong = Unit {0}
-AsksReady (Asks c) = MayRun c
+AsksReady (Asks c) = IsReady c

@@ -1,7 +1,6 @@
 pub mod Refusing
 pub mod Printing
 pub mod Words
-pub mod Ready
 pub mod TableLine
 pub mod Lines
 pub mod Asking

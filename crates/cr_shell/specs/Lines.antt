@@ -10,7 +10,7 @@ use Rattle.cr_value.specs.Unpacking.{◌>>=◌}
 use Rattle.cr_value.specs.Reading.{literal_at}
 use Rattle.cr_replica.specs.declared.change_row.ChangeRow.{ChangeRow}
 use Rattle.cr_world.specs.declared.command.Command.{Command}
-use Rattle.cr_world.specs.declared.command.Command.TheVariants.{Open, Use, Take, Rows, Changes, Pull, Policy}
+use Rattle.cr_world.specs.declared.command.Command.TheVariants.{Open, Use, Take, Rows, Changes, Pull, PullSince, Policy}
 use Rattle.cr_host.specs.declared.meaning.Auth.{Auth}
 use Rattle.cr_host.specs.declared.meaning.Auth.TheVariants as auth
 use Rattle.cr_guard.specs.declared.policy.PolicyRule.TheVariants.{Read, MaxChanges}
@@ -121,6 +121,7 @@ command_in word bytes =
     else if bytes_eq word (codes ".rows") then option_map (λ name. Rows (folded name)) (word_of bytes)
     else if bytes_eq word (codes ".changes") then option_map Changes (integer_of bytes)
     else if bytes_eq word (codes ".pull") then option_map Pull (word_of bytes)
+    else if bytes_eq word (codes ".pullnew") then option_map PullSince (word_of bytes)
     else if bytes_eq word (codes ".deny") then rule_of auth.Deny bytes
     else if bytes_eq word (codes ".ignore") then rule_of auth.Ignore bytes
     else if bytes_eq word (codes ".allow") then rule_of auth.Ok bytes

@@ -1,11 +1,11 @@
 //! What a line asks of a fleet.
 
 ghost use Rattle.std.specs.Prelude.{◌≡◌, drop, IfOk, IfSome};
-ghost use Rattle.cr_shell.specs.Ready.{MayRun};
+ghost use Rattle.cr_world.specs.Answers.{IsReady};
 ghost use Rattle.std.specs.Option.{option_map};
 ghost use Rattle.hex.specs.Hex.{decode_sized};
 ghost use Rattle.cr_value.specs.Reading.{literal_at};
-ghost use Rattle.cr_world.specs.declared.command.Command.TheVariants.{Use, Rows, Changes, Pull, Take};
+ghost use Rattle.cr_world.specs.declared.command.Command.TheVariants.{Use, Rows, Changes, Pull, PullSince, Take};
 ghost use Rattle.cr_shell.specs.Words.{folded};
 ghost use Rattle.cr_shell.specs.Lines.{barred, is_int, integer_behind_bar, cell_of, content_of, origin_of, row_of, site_in, open_of, word_of, integer_of, most_of, rule_of, veto_of, command_in, command_of};
 
@@ -132,7 +132,7 @@ fn site_of(digits: &str) -> Option<Site>
 #[tactic(auto, unfolding(crate::specs::Lines::open_of))]
 fn open_of(alloc: Global, text: &str) -> Result<Option<Command>, AllocError>
     ensures value { IfOk result (λ command. command ≡ open_of text.now) }
-    ensures ready { IfOk result (λ command. IfSome command MayRun) }
+    ensures ready { IfOk result (λ command. IfSome command IsReady) }
 {
     let Some((name, digits)) = split_at_space(text) else {
         return Ok(None);
@@ -154,14 +154,14 @@ fn word_of(alloc: Global, text: &str) -> Result<Option<Text>, AllocError>
 
 fn use_of(alloc: Global, text: &str) -> Result<Option<Command>, AllocError>
     ensures value { IfOk result (λ command. command ≡ option_map Use (word_of text.now)) }
-    ensures ready { IfOk result (λ command. IfSome command MayRun) }
+    ensures ready { IfOk result (λ command. IfSome command IsReady) }
 {
     Ok(word_of(alloc, text)?.map(Command::Use))
 }
 
 fn rows_of(alloc: Global, text: &str) -> Result<Option<Command>, AllocError>
     ensures value { IfOk result (λ command. command ≡ option_map (λ name. Rows (folded name)) (word_of text.now)) }
-    ensures ready { IfOk result (λ command. IfSome command MayRun) }
+    ensures ready { IfOk result (λ command. IfSome command IsReady) }
 {
     let Some(name) = word_of(alloc, text)? else {
         return Ok(None);
@@ -171,9 +171,16 @@ fn rows_of(alloc: Global, text: &str) -> Result<Option<Command>, AllocError>
 
 fn pull_of(alloc: Global, text: &str) -> Result<Option<Command>, AllocError>
     ensures value { IfOk result (λ command. command ≡ option_map Pull (word_of text.now)) }
-    ensures ready { IfOk result (λ command. IfSome command MayRun) }
+    ensures ready { IfOk result (λ command. IfSome command IsReady) }
 {
     Ok(word_of(alloc, text)?.map(Command::Pull))
+}
+
+fn pull_since_of(alloc: Global, text: &str) -> Result<Option<Command>, AllocError>
+    ensures value { IfOk result (λ command. command ≡ option_map PullSince (word_of text.now)) }
+    ensures ready { IfOk result (λ command. IfSome command IsReady) }
+{
+    Ok(word_of(alloc, text)?.map(Command::PullSince))
 }
 
 #[tactic(auto, unfolding(crate::specs::Lines::integer_of))]
@@ -191,7 +198,7 @@ fn integer_of(alloc: Global, text: &str) -> Result<Option<i64>, AllocError>
 
 fn changes_of(alloc: Global, text: &str) -> Result<Option<Command>, AllocError>
     ensures value { IfOk result (λ command. command ≡ option_map Changes (integer_of text.now)) }
-    ensures ready { IfOk result (λ command. IfSome command MayRun) }
+    ensures ready { IfOk result (λ command. IfSome command IsReady) }
 {
     Ok(integer_of(alloc, text)?.map(Command::Changes))
 }
@@ -200,7 +207,7 @@ fn changes_of(alloc: Global, text: &str) -> Result<Option<Command>, AllocError>
 #[tactic(auto, unfolding(crate::specs::Lines::rule_of))]
 fn rule_of(alloc: Global, text: &str, answer: Auth) -> Result<Option<Command>, AllocError>
     ensures value { IfOk result (λ command. command ≡ rule_of answer text.now) }
-    ensures ready { IfOk result (λ command. IfSome command MayRun) }
+    ensures ready { IfOk result (λ command. IfSome command IsReady) }
 {
     let Some((table, column)) = split_at_space(text) else {
         return Ok(None);
@@ -230,7 +237,7 @@ fn most_of(number: i64) -> Option<u64>
 #[tactic(auto, unfolding(crate::specs::Lines::veto_of))]
 fn veto_of(alloc: Global, text: &str) -> Result<Option<Command>, AllocError>
     ensures value { IfOk result (λ command. command ≡ veto_of text.now) }
-    ensures ready { IfOk result (λ command. IfSome command MayRun) }
+    ensures ready { IfOk result (λ command. IfSome command IsReady) }
 {
     if text == "off" {
         return Ok(Some(Command::Policy(PolicyRule::MaxChanges(None))));
@@ -246,7 +253,7 @@ fn veto_of(alloc: Global, text: &str) -> Result<Option<Command>, AllocError>
 
 fn take_of(alloc: Global, text: &str) -> Result<Option<Command>, AllocError>
     ensures value { IfOk result (λ command. command ≡ option_map Take (row_of text.now)) }
-    ensures ready { IfOk result (λ command. IfSome command MayRun) }
+    ensures ready { IfOk result (λ command. IfSome command IsReady) }
 {
     Ok(row_of(alloc, text)?.map(Command::Take))
 }
@@ -254,7 +261,7 @@ fn take_of(alloc: Global, text: &str) -> Result<Option<Command>, AllocError>
 #[tactic(auto, unfolding(crate::specs::Lines::command_in))]
 fn command_in(alloc: Global, word: &str, text: &str) -> Result<Option<Command>, AllocError>
     ensures value { IfOk result (λ command. command ≡ command_in word.now text.now) }
-    ensures ready { IfOk result (λ command. IfSome command MayRun) }
+    ensures ready { IfOk result (λ command. IfSome command IsReady) }
 {
     match word {
         ".open" => open_of(alloc, text),
@@ -264,6 +271,7 @@ fn command_in(alloc: Global, word: &str, text: &str) -> Result<Option<Command>, 
         ".rows" => rows_of(alloc, text),
         ".changes" => changes_of(alloc, text),
         ".pull" => pull_of(alloc, text),
+        ".pullnew" => pull_since_of(alloc, text),
         ".deny" => rule_of(alloc, text, Auth::Deny),
         ".ignore" => rule_of(alloc, text, Auth::Ignore),
         ".allow" => rule_of(alloc, text, Auth::Ok),
@@ -279,7 +287,7 @@ fn command_in(alloc: Global, word: &str, text: &str) -> Result<Option<Command>, 
 #[tactic(auto, unfolding(crate::specs::Lines::command_of))]
 pub fn command_of(alloc: Global, line: &str) -> Result<Option<Command>, AllocError>
     ensures value { IfOk result (λ command. command ≡ command_of line.now) }
-    ensures ready { IfOk result (λ command. IfSome command MayRun) }
+    ensures ready { IfOk result (λ command. IfSome command IsReady) }
 {
     let Some((word, text)) = split_at_space(line) else {
         return Ok(None);

@@ -3,7 +3,7 @@
 ghost use Rattle.std.specs.Prelude.{◌≡◌, ◌≤◌, drop, map, length, IfOk, IfSome};
 ghost use Rattle.std.specs.List.{list_any};
 ghost use Rattle.std.specs.Option.{option_map};
-ghost use Rattle.cr_shell.specs.Ready.{MayRun};
+ghost use Rattle.cr_world.specs.Answers.{IsReady};
 ghost use Rattle.cr_shell.specs.TableLine.{mark_at, marks_at, word_len, word_at, default_at, place_in_key, column_of, column_at, keys_with, columns_in, declaration_of, table_of};
 
 use crate::words::{behind_from, folded, is_at_end, literal_from, split_at_space};
@@ -213,7 +213,7 @@ fn declaration_of(
 #[tactic(auto, unfolding(crate::specs::TableLine::table_of))]
 pub(crate) fn table_of(alloc: Global, text: &str) -> Result<Option<Command>, AllocError>
     ensures value { IfOk result (λ command. command ≡ table_of text.now) }
-    ensures ready { IfOk result (λ command. IfSome command MayRun) }
+    ensures ready { IfOk result (λ command. IfSome command IsReady) }
 {
     let Some((name, columns)) = split_at_space(text) else {
         return Ok(None);
