@@ -1,8 +1,10 @@
 //! Whether a statement may be carried out on a replica as it stood at a moment.
 
+ghost use Rattle.std.specs.Prelude.{◌≡◌, cond, Result, Ok, Err};
 ghost use Rattle.cr_guard.specs.Guard.{asked};
 ghost use Rattle.cr_resolve.specs.Resolve.{Resolves, resolved};
 ghost use Rattle.cr_answer.specs.Allowing.{Allows, known_by};
+ghost use Rattle.cr_world.specs.declared.refusal.Refusal.TheVariants.{Parameters};
 
 use crate::asking::Asking;
 use crate::refusing::of_unresolved;
@@ -38,6 +40,17 @@ fn resolved_seen<F: Functions, G: Guarding>(
     resolved(alloc, &offer, &Asking { guard }, statement)
 }
 
+// The statement, where its parameters are as many as are given.
+fn fitting(resolved: Resolved, is_fit: bool) -> Result<Resolved, Refusal>
+    ensures { result ≡ cond is_fit (Ok resolved) (Err Parameters) }
+{
+    if is_fit {
+        Ok(resolved)
+    } else {
+        Err(Refusal::Parameters)
+    }
+}
+
 /// A statement as it is carried out with so many parameters: its names are resolved over the replica's tables and the table of
 /// changes, the authorizer and the policy are asked, and what they ignore is gone from it.
 ///
@@ -56,13 +69,7 @@ pub fn allowed<F: Functions, G: Guarding>(
     ensures { Allows (known_by (F.function_of functions.now) (F.names_function functions.now) (F.order_of functions.now) snapshot.now) (asked (G.rules guard.now) (G.allows guard.now)) statement.now count result }
 {
     match resolved_seen(alloc, functions, guard, snapshot, statement) {
-        Ok(resolved) => {
-            if fits(statement, count) {
-                Ok(resolved)
-            } else {
-                Err(Refusal::Parameters)
-            }
-        }
+        Ok(resolved) => fitting(resolved, fits(statement, count)),
         Err(refusal) => Err(of_unresolved(refusal)),
     }
 }

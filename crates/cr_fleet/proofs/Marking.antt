@@ -43,7 +43,7 @@ use Rattle.cr_world.specs.Takings.{taking, taking_row}
 use Rattle.cr_world.specs.World.{Member, Keeps, changed_at, new_member}
 use Rattle.cr_world.specs.Answers.{has_site}
 use Rattle.cr_fleet.specs.Fleets.{AreMarked, KnowsOf}
-use Rattle.cr_fleet.specs.Sessions.{own_after}
+use Rattle.cr_session.specs.Sessions.{own_after}
 
 first_false : (a b : Bool) → (a || b) ≡ false → a ≡ false
 first_false true b e = absurd (let q : ⊥ = cc in q)

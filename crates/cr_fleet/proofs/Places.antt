@@ -1,11 +1,12 @@
--- The members of a world and the stores of a fleet, place by place.
+-- The members of a world and the sessions of a fleet, place by place.
 use Rattle.std.proofs.Common.{◌≡◌, ℕ, zero, suc, ◌+◌, ◌<◌, arith, Bool, not, ◌||◌, cond, List, [], ◌∷◌, ◌++◌, Some, None, refl, sym, ap, subst, ◌∙◌, map, position, length, nat_lt, slice_get, slice_set, get_or}
 use Rattle.std.specs.List.{AllByRecursion, list_any, position_or_len}
 use Rattle.std.proofs.lemmas.List.{length-map}
 use Rattle.std.proofs.lemmas.Option.{slice_get-get_or}
-use Rattle.cr_cells.specs.Holding.{Holding}
 use Rattle.cr_fleet.specs.declared.fleet.Named.{Named}
+use Rattle.cr_world.specs.State.{State}
 use Rattle.cr_world.specs.World.{Member, Keeps, changed_at}
+use Rattle.cr_session.specs.Sessions.{SessionOf}
 use Rattle.cr_fleet.specs.Fleets.{seen, name_and_state}
 
 -- ---- a list and what is made of it
@@ -88,48 +89,48 @@ position_map f p xs = (λ i. cond (nat_lt (prefix_map f p xs i) (length-map xs f
 pub found_there : {X : Type 0} (there items : List X) (i : ℕ) (x : X) → there ≡ items → i < length there → x ≡ get_or there i x → slice_get items i ≡ Some x
 found_there {X} there items i x e h g = subst (λ (xs : List X). slice_get xs i ≡ Some x) e (slice_get-get_or there i x h ∙ ap Some (sym g))
 
--- ---- members and stores
+-- ---- members and sessions
 
--- a named store
-abbrev pub pair : {C : Type 0} → Named C → List ℕ × C
+-- a named session
+abbrev pub pair : {C : Type 0} → Named C → List ℕ × SessionOf C
 pair n = (n.name, n.session)
 
-module _ {C : Type 0} (holding : C → Holding) where
-  pub same_at : (ms : List Member) (rs : List (List ℕ × C)) (i : ℕ) (r : List ℕ × C) → map name_and_state ms ≡ map (seen holding) rs → slice_get rs i ≡ Some r
-      → (m : Member) × (slice_get ms i ≡ Some m) × (name_and_state m ≡ seen holding r)
+module _ {C : Type 0} (stands : C → State) where
+  pub same_at : (ms : List Member) (rs : List (List ℕ × C)) (i : ℕ) (r : List ℕ × C) → map name_and_state ms ≡ map (seen stands) rs → slice_get rs i ≡ Some r
+      → (m : Member) × (slice_get ms i ≡ Some m) × (name_and_state m ≡ seen stands r)
   same_at [] [] i r e g = absurd (let q : ⊥ = cc in q)
   same_at [] (x ∷ xs) i r e g = absurd (let q : ⊥ = cc in q)
   same_at (m ∷ ms) [] i r e g = absurd (let q : ⊥ = cc in q)
-  same_at (m ∷ ms) (x ∷ xs) zero r e g = (m, refl, (let h : name_and_state m ≡ seen holding x = cc in let q : x ≡ r = cc in h ∙ ap (seen holding) q))
-  same_at (m ∷ ms) (x ∷ xs) (suc i) r e g = same_at ms xs i r (let t : map name_and_state ms ≡ map (seen holding) xs = cc in t) g
+  same_at (m ∷ ms) (x ∷ xs) zero r e g = (m, refl, (let h : name_and_state m ≡ seen stands x = cc in let q : x ≡ r = cc in h ∙ ap (seen stands) q))
+  same_at (m ∷ ms) (x ∷ xs) (suc i) r e g = same_at ms xs i r (let t : map name_and_state ms ≡ map (seen stands) xs = cc in t) g
 
-  pub none_at : (ms : List Member) (rs : List (List ℕ × C)) (i : ℕ) → map name_and_state ms ≡ map (seen holding) rs → slice_get rs i ≡ None → slice_get ms i ≡ None
+  pub none_at : (ms : List Member) (rs : List (List ℕ × C)) (i : ℕ) → map name_and_state ms ≡ map (seen stands) rs → slice_get rs i ≡ None → slice_get ms i ≡ None
   none_at [] rs i e g = refl
   none_at (m ∷ ms) [] i e g = absurd (let q : ⊥ = cc in q)
   none_at (m ∷ ms) (x ∷ xs) zero e g = absurd (let q : ⊥ = cc in q)
-  none_at (m ∷ ms) (x ∷ xs) (suc i) e g = none_at ms xs i (let t : map name_and_state ms ≡ map (seen holding) xs = cc in t) g
+  none_at (m ∷ ms) (x ∷ xs) (suc i) e g = none_at ms xs i (let t : map name_and_state ms ≡ map (seen stands) xs = cc in t) g
 
-  pub set_at : (f : Member → Member) (ms : List Member) (rs : List (List ℕ × C)) (i : ℕ) (m : Member) (r : List ℕ × C) → map name_and_state ms ≡ map (seen holding) rs → slice_get ms i ≡ Some m
-      → name_and_state (f m) ≡ seen holding r → map name_and_state (changed_at i f ms) ≡ map (seen holding) (slice_set rs i r)
+  pub set_at : (f : Member → Member) (ms : List Member) (rs : List (List ℕ × C)) (i : ℕ) (m : Member) (r : List ℕ × C) → map name_and_state ms ≡ map (seen stands) rs → slice_get ms i ≡ Some m
+      → name_and_state (f m) ≡ seen stands r → map name_and_state (changed_at i f ms) ≡ map (seen stands) (slice_set rs i r)
   set_at f [] [] i m r e g s = refl
   set_at f [] (x ∷ xs) i m r e g s = absurd (let q : ⊥ = cc in q)
   set_at f (n ∷ ms) [] i m r e g s = absurd (let q : ⊥ = cc in q)
   set_at f (n ∷ ms) (x ∷ xs) zero m r e g s =
       let q : m ≡ n = cc in
-      let h : name_and_state (f n) ≡ seen holding r = subst (λ (k : Member). name_and_state (f k) ≡ seen holding r) q s in
-      let t : map name_and_state ms ≡ map (seen holding) xs = cc in
+      let h : name_and_state (f n) ≡ seen stands r = subst (λ (k : Member). name_and_state (f k) ≡ seen stands r) q s in
+      let t : map name_and_state ms ≡ map (seen stands) xs = cc in
       cc
   set_at f (n ∷ ms) (x ∷ xs) (suc i) m r e g s =
-      let h : name_and_state n ≡ seen holding x = cc in
-      let t : map name_and_state ms ≡ map (seen holding) xs = cc in
-      let u : map name_and_state (changed_at i f ms) ≡ map (seen holding) (slice_set xs i r) = set_at f ms xs i m r t g s in
+      let h : name_and_state n ≡ seen stands x = cc in
+      let t : map name_and_state ms ≡ map (seen stands) xs = cc in
+      let u : map name_and_state (changed_at i f ms) ≡ map (seen stands) (slice_set xs i r) = set_at f ms xs i m r t g s in
       cc
 
-  -- a store that holds the same is the same to a world
-  pub stays_at : (rs : List (List ℕ × C)) (i : ℕ) (r r' : List ℕ × C) → slice_get rs i ≡ Some r → seen holding r' ≡ seen holding r → map (seen holding) (slice_set rs i r') ≡ map (seen holding) rs
+  -- a session that stands where it stood is the same to a world
+  pub stays_at : (rs : List (List ℕ × C)) (i : ℕ) (r r' : List ℕ × C) → slice_get rs i ≡ Some r → seen stands r' ≡ seen stands r → map (seen stands) (slice_set rs i r') ≡ map (seen stands) rs
   stays_at [] i r r' g s = refl
-  stays_at (x ∷ xs) zero r r' g s = let q : r ≡ x = cc in ap (λ h. h ∷ map (seen holding) xs) (s ∙ ap (seen holding) q)
-  stays_at (x ∷ xs) (suc i) r r' g s = ap (λ l. seen holding x ∷ l) (stays_at xs i r r' g s)
+  stays_at (x ∷ xs) zero r r' g s = let q : r ≡ x = cc in ap (λ h. h ∷ map (seen stands) xs) (s ∙ ap (seen stands) q)
+  stays_at (x ∷ xs) (suc i) r r' g s = ap (λ l. seen stands x ∷ l) (stays_at xs i r r' g s)
 
 pub keeps_set : (f : Member → Member) (ms : List Member) (i : ℕ) (m : Member) → AllByRecursion Keeps ms → slice_get ms i ≡ Some m → Keeps (f m) → AllByRecursion Keeps (changed_at i f ms)
 keeps_set f [] i m a g k = tt

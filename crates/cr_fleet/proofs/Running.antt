@@ -1,10 +1,10 @@
 -- Runs of a fleet, command by command.
 use Rattle.std.proofs.Common.{◌≡◌, inl, inr, false, List, [], ◌∷◌, ◌++◌, refl, sym, subst}
-use Rattle.cr_cells.specs.Holding.{Holding}
 use Rattle.cr_guard.specs.Policy.{Rules}
 use Rattle.cr_world.specs.declared.command.Command.{Command}
 use Rattle.cr_world.specs.declared.command.FleetReply.{FleetReply}
 use Rattle.cr_world.specs.Language.{Language}
+use Rattle.cr_world.specs.State.{State}
 use Rattle.cr_world.specs.World.{World, AllKeep, Closures}
 use Rattle.cr_world.specs.Answers.{Answers, after, tells_want, AreAnswered}
 use Rattle.cr_world.specs.Run.{Run, world_after}
@@ -28,19 +28,19 @@ module _ {S E : Type 0} (l : Language S E) (k : Closures) where
   world_more w (d ∷ ds) (x ∷ xs) c r p = world_more (after l k w d x) ds xs c r p.2
 
   -- a run of a fleet goes on by one step
-  pub goes_on : {C : Type 0} (is_clean : C → Type 0) (holding : C → Holding) (before rules rules' : Rules) (old mid new : FleetOf C) (cs cs' : List Command) (rs rs' : List FleetReply) (c : Command) (r : FleetReply)
+  pub goes_on : {C : Type 0} (is_clean : C → Type 0) (stands : C → State) (before rules rules' : Rules) (old mid new : FleetOf C) (cs cs' : List Command) (rs rs' : List FleetReply) (c : Command) (r : FleetReply)
       → cs' ≡ cs ++ c ∷ [] → rs' ≡ rs ++ r ∷ []
-      → (AreClean is_clean mid → (w : World) → Shows holding w before old → Run l k w cs rs × Shows holding (world_after l k w cs rs) rules mid)
-      → Steps l k is_clean holding rules mid c r rules' new
-      → AreClean is_clean new → (w : World) → Shows holding w before old → Run l k w cs' rs' × Shows holding (world_after l k w cs' rs') rules' new
-  goes_on is_clean holding before rules rules' old mid new cs cs' rs rs' c r e f ran step clean w s =
+      → (AreClean is_clean mid → (w : World) → Shows stands w before old → Run l k w cs rs × Shows stands (world_after l k w cs rs) rules mid)
+      → Steps l k is_clean stands rules mid c r rules' new
+      → AreClean is_clean new → (w : World) → Shows stands w before old → Run l k w cs' rs' × Shows stands (world_after l k w cs' rs') rules' new
+  goes_on is_clean stands before rules rules' old mid new cs cs' rs rs' c r e f ran step clean w s =
       let told_before = ran (step.was_clean clean) w s in
       let told = step.steps clean (world_after l k w cs rs) told_before.1 in
-      subst (λ (x : List Command). Run l k w x rs' × Shows holding (world_after l k w x rs') rules' new) (sym e)
-      (subst (λ (x : List FleetReply). Run l k w (cs ++ c ∷ []) x × Shows holding (world_after l k w (cs ++ c ∷ []) x) rules' new) (sym f)
-      (run_more w cs rs c r told_before.0 told.0 told.1.keep, subst (λ (v : World). Shows holding v rules' new) (sym (world_more w cs rs c r told_before.0)) told.1))
+      subst (λ (x : List Command). Run l k w x rs' × Shows stands (world_after l k w x rs') rules' new) (sym e)
+      (subst (λ (x : List FleetReply). Run l k w (cs ++ c ∷ []) x × Shows stands (world_after l k w (cs ++ c ∷ []) x) rules' new) (sym f)
+      (run_more w cs rs c r told_before.0 told.0 told.1.keep, subst (λ (v : World). Shows stands v rules' new) (sym (world_more w cs rs c r told_before.0)) told.1))
 
--- ---- clean stores
+-- ---- clean sessions
 
 pub answered_more : (rs rs' : List FleetReply) (r : FleetReply) → rs' ≡ rs ++ r ∷ [] → AreAnswered rs' → AreAnswered rs × (tells_want r ≡ false)
 answered_more rs rs' r e answered =

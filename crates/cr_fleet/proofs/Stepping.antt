@@ -4,7 +4,6 @@ use Rattle.std.specs.Option.{option_map}
 use Rattle.std.proofs.lemmas.Option.{slice_get-map}
 use Rattle.cr_lattice.specs.declared.change.Change.{Change}
 use Rattle.cr_lattice.specs.Check.{same_bytes}
-use Rattle.cr_cells.specs.Holding.{Holding}
 use Rattle.cr_cells.specs.Tables.{is_named}
 use Rattle.cr_guard.specs.declared.policy.PolicyRule.{PolicyRule}
 use Rattle.cr_guard.specs.Policy.{Rules, with_rule, wants_memory}
@@ -26,7 +25,7 @@ use Rattle.cr_world.specs.Answers.{Answers, OfUsed, IsDone, Takes, ShowsRows, Sh
 use Rattle.cr_world.proofs.Keeping.{kept_more, script_stays}
 use Rattle.cr_fleet.specs.declared.fleet.Named.{Named}
 use Rattle.cr_fleet.specs.Fleets.{FleetOf, AreClean, Shows, Steps, seen, name_and_state, place_in}
-use Rattle.cr_fleet.specs.Sessions.{Does, OwnAnswers, RunsScript, own_after, is_own, standing, host_under}
+use Rattle.cr_session.specs.Sessions.{Does, OwnAnswers, RunsScript, SessionOf, own_after, is_own, host_under}
 use Rattle.cr_fleet.proofs.Marking.{Moves, moves, own_grows, marks_set}
 use Rattle.cr_fleet.proofs.Places.{pair, map_set, position_map, same_at, none_at, set_at, keeps_set, all_at, all_set, all_before, all_after}
 
@@ -193,44 +192,44 @@ module _ {S E : Type 0} (l : Language S E) (k : Closures) (w : World) where
 
 -- ---- steps
 
-module _ {S E C : Type 0} (l : Language S E) (k : Closures) (is_clean : C → Type 0) (holding : C → Holding) (rules : Rules) where
+module _ {S E C : Type 0} (l : Language S E) (k : Closures) (is_clean : C → Type 0) (stands : C → State) (rules : Rules) where
   -- a name has the same place in a world and in its fleet
-  pub place_same : (w : World) (f : FleetOf C) (name : List ℕ) → Shows holding w rules f → place_of w name ≡ place_in f name
+  pub place_same : (w : World) (f : FleetOf C) (name : List ℕ) → Shows stands w rules f → place_of w name ≡ place_in f name
   place_same w f name s =
       let by_name : List ℕ × State → Bool = (λ r. same_bytes r.0 name) in
-      sym (position_map name_and_state by_name w.members) ∙ ap (position by_name) s.members ∙ position_map (seen holding) by_name f.0
+      sym (position_map name_and_state by_name w.members) ∙ ap (position by_name) s.members ∙ position_map (seen stands) by_name f.0
 
-  unused_at : (w : World) (f : FleetOf C) → Shows holding w rules f → (place : Option ℕ) → item_at place f.0 ≡ None → item_at place w.members ≡ None
+  unused_at : (w : World) (f : FleetOf C) → Shows stands w rules f → (place : Option ℕ) → item_at place f.0 ≡ None → item_at place w.members ≡ None
   unused_at w f s None e = refl
-  unused_at w f s (Some i) e = none_at holding w.members f.0 i s.members e
+  unused_at w f s (Some i) e = none_at stands w.members f.0 i s.members e
 
   -- no replica is in use where none has the place
-  pub unused : (w : World) (f : FleetOf C) → Shows holding w rules f → item_at f.1 f.0 ≡ None → used w ≡ None
+  pub unused : (w : World) (f : FleetOf C) → Shows stands w rules f → item_at f.1 f.0 ≡ None → used w ≡ None
   unused w f s e = ap (λ (o : Option ℕ). item_at o w.members) s.in_use ∙ unused_at w f s f.1 e
 
   -- ---- nothing changes
 
   -- a fleet that is as it was
-  pub refused_steps : (old : FleetOf C) (c : Command) (r : Refusal) → (AreClean is_clean old → (w : World) → Shows holding w rules old → Answers l k w c (Refused r)) → Steps l k is_clean holding rules old c (Refused r) rules old
+  pub refused_steps : (old : FleetOf C) (c : Command) (r : Refusal) → (AreClean is_clean old → (w : World) → Shows stands w rules old → Answers l k w c (Refused r)) → Steps l k is_clean stands rules old c (Refused r) rules old
   refused_steps old c r answers = record {
     was_clean = λ clean. clean;
     stays_clean = λ clean answered. clean;
-    steps = λ clean w s. (answers clean w s, subst (λ (v : World). Shows holding v rules old) (sym (refused_stays l k w c r)) s);
+    steps = λ clean w s. (answers clean w s, subst (λ (v : World). Shows stands v rules old) (sym (refused_stays l k w c r)) s);
   }
 
-  pub own_unused : (old : FleetOf C) (c : Command) → is_own c ≡ true → item_at old.1 old.0 ≡ None → Steps l k is_clean holding rules old c (Refused NoReplica) rules old
+  pub own_unused : (old : FleetOf C) (c : Command) → is_own c ≡ true → item_at old.1 old.0 ≡ None → Steps l k is_clean stands rules old c (Refused NoReplica) rules old
   own_unused old c o e = refused_steps old c NoReplica (λ clean w s. own_none l k w c o (unused w old s e))
 
   -- ---- the policy
 
-  pub policy_set : (old : FleetOf C) (rule : PolicyRule) (new : Rules) → new ≡ with_rule rule rules → Steps l k is_clean holding rules old (Policy rule) Done new old
+  pub policy_set : (old : FleetOf C) (rule : PolicyRule) (new : Rules) → new ≡ with_rule rule rules → Steps l k is_clean stands rules old (Policy rule) Done new old
   policy_set old rule new e = record {
     was_clean = λ clean. clean;
     stays_clean = λ clean answered. clean;
     steps = λ clean w s. (tt, record { members = s.members; in_use = s.in_use; rules = ap (with_rule rule) s.rules ∙ sym e; keep = s.keep; marks = s.marks });
   }
 
-  pub policy_refused : (old : FleetOf C) (rule : PolicyRule) (new : Rules) → wants_memory rule ≡ true → new ≡ rules → Steps l k is_clean holding rules old (Policy rule) (Refused Memory) new old
+  pub policy_refused : (old : FleetOf C) (rule : PolicyRule) (new : Rules) → wants_memory rule ≡ true → new ≡ rules → Steps l k is_clean stands rules old (Policy rule) (Refused Memory) new old
   policy_refused old rule new wants e = record {
     was_clean = λ clean. clean;
     stays_clean = λ clean answered. clean;
@@ -239,7 +238,7 @@ module _ {S E C : Type 0} (l : Language S E) (k : Closures) (is_clean : C → Ty
 
   -- ---- the replica that is named is put in use
 
-  pub use_step : (old : FleetOf C) (name : List ℕ) (at : ℕ) → place_in old name ≡ Some at → Steps l k is_clean holding rules old (Use name) Done rules (old.0, Some at)
+  pub use_step : (old : FleetOf C) (name : List ℕ) (at : ℕ) → place_in old name ≡ Some at → Steps l k is_clean stands rules old (Use name) Done rules (old.0, Some at)
   use_step old name at e = record {
     was_clean = λ clean. clean;
     stays_clean = λ clean answered. clean;
@@ -248,7 +247,7 @@ module _ {S E C : Type 0} (l : Language S E) (k : Closures) (is_clean : C → Ty
         (subst (λ (o : Option ℕ). Uses o Done) (sym there) refl, record { members = s.members; in_use = there; rules = s.rules; keep = s.keep; marks = s.marks }));
   }
 
-  pub use_none : (old : FleetOf C) (name : List ℕ) → place_in old name ≡ None → Steps l k is_clean holding rules old (Use name) (Refused NoReplica) rules old
+  pub use_none : (old : FleetOf C) (name : List ℕ) → place_in old name ≡ None → Steps l k is_clean stands rules old (Use name) (Refused NoReplica) rules old
   use_none old name e = refused_steps old (Use name) NoReplica (λ clean w s. subst (λ (o : Option ℕ). Uses o (Refused NoReplica)) (sym (place_same w old name s ∙ e)) refl)
 
   -- ---- the replica in use is called
@@ -267,22 +266,22 @@ module _ {S E C : Type 0} (l : Language S E) (k : Closures) (is_clean : C → Ty
     clean_called clean = all_set (λ x. is_clean x.1) old.0 i r r' clean at
 
     -- the member in use, and what is known of it
-    in_use : (w : World) → Shows holding w rules old → (m : Member) × (used w ≡ Some m) × (slice_get w.members i ≡ Some m) × (m.name ≡ r.0) × (m.state ≡ standing holding r.1) × Keeps m
+    in_use : (w : World) → Shows stands w rules old → (m : Member) × (used w ≡ Some m) × (slice_get w.members i ≡ Some m) × (m.name ≡ r.0) × (m.state ≡ stands r.1) × Keeps m
     in_use w s =
-        let found = same_at holding w.members old.0 i r s.members at in
+        let found = same_at stands w.members old.0 i r s.members at in
         let m = found.0 in
         let is_used : used w ≡ Some m = ap (λ (o : Option ℕ). item_at o w.members) (s.in_use ∙ place) ∙ found.1 in
         (m, is_used, found.1, ap (λ (x : List ℕ × State). x.0) found.2, ap (λ (x : List ℕ × State). x.1) found.2, all_at Keeps w.members i m s.keep found.1)
 
-    used_is : (f : Member → Member) (w : World) → Shows holding w rules old → with_used w f ≡ record w { members = changed_at i f w.members }
+    used_is : (f : Member → Member) (w : World) → Shows stands w rules old → with_used w f ≡ record w { members = changed_at i f w.members }
     used_is f w s = ap (λ (o : Option ℕ). record w { members = changed_in_use o f w.members }) (s.in_use ∙ place)
 
     -- what becomes of it
     pub used_steps : (c : Command) (reply : FleetReply) → (is_clean r.1 → tells_want reply ≡ false → is_clean r'.1) → (f : World → Member → Member)
         → ((w : World) → after l k w c reply ≡ with_used w (f w))
-        → (AreClean is_clean new → is_clean r'.1 → (w : World) (m : Member) → Shows holding w rules old → used w ≡ Some m → slice_get w.members i ≡ Some m → m.state ≡ standing holding r.1 → m.name ≡ r.0 → Keeps m
-        → Answers l k w c reply × (name_and_state (f w m) ≡ seen holding r') × Keeps (f w m) × Moves w.members m (f w m))
-        → Steps l k is_clean holding rules old c reply rules new
+        → (AreClean is_clean new → is_clean r'.1 → (w : World) (m : Member) → Shows stands w rules old → used w ≡ Some m → slice_get w.members i ≡ Some m → m.state ≡ stands r.1 → m.name ≡ r.0 → Keeps m
+        → Answers l k w c reply × (name_and_state (f w m) ≡ seen stands r') × Keeps (f w m) × Moves w.members m (f w m))
+        → Steps l k is_clean stands rules old c reply rules new
     used_steps c reply lasts f changes called = record {
       was_clean = clean_before;
       stays_clean = λ clean answered. clean_after clean (λ before. lasts before answered);
@@ -290,8 +289,8 @@ module _ {S E C : Type 0} (l : Language S E) (k : Closures) (is_clean : C → Ty
           let m = in_use w s in
           let told = called clean (clean_called clean) w m.0 s m.1 m.2 m.4 m.3 m.5 in (
             told.0,
-            subst (λ (v : World). Shows holding v rules new) (sym (changes w ∙ used_is (f w) w s)) (record {
-              members = set_at holding (f w) w.members old.0 i m.0 r' s.members m.2 told.1;
+            subst (λ (v : World). Shows stands v rules new) (sym (changes w ∙ used_is (f w) w s)) (record {
+              members = set_at stands (f w) w.members old.0 i m.0 r' s.members m.2 told.1;
               in_use = s.in_use;
               rules = s.rules;
               keep = keeps_set (f w) w.members i m.0 s.keep m.2 told.2;
@@ -300,24 +299,25 @@ module _ {S E C : Type 0} (l : Language S E) (k : Closures) (is_clean : C → Ty
           ));
     }
 
-    pub own_steps : (c : Command) (reply : FleetReply) → is_own c ≡ true → r'.0 ≡ r.0 → Does l (host_under k rules) is_clean holding r.1 c reply r'.1 → Steps l k is_clean holding rules old c reply rules new
+    pub own_steps : (c : Command) (reply : FleetReply) → is_own c ≡ true → r'.0 ≡ r.0 → Does l (host_under k rules) is_clean stands r.1 c reply r'.1 → Steps l k is_clean stands rules old c reply rules new
     own_steps c reply o same d =
         used_steps c reply d.stays_clean (λ w. own_after l (host_of k w) c reply) (λ w. own_leaves l k w c reply o) (λ all clean w m s u at_m h n keeps. (
-        let e : Does l (host_of k w) is_clean holding r.1 c reply r'.1 = subst (λ (x : Rules). Does l (host_under k x) is_clean holding r.1 c reply r'.1) (sym s.rules) d in (
+        let e : Does l (host_of k w) is_clean stands r.1 c reply r'.1 = subst (λ (x : Rules). Does l (host_under k x) is_clean stands r.1 c reply r'.1) (sym s.rules) d in (
           own_answers l k w c reply m u (subst (λ (st : State). OwnAnswers l (host_of k w) st c reply) (sym h) (e.answers clean)),
           (λ j. ((name_stays l (host_of k w) c reply m ∙ n ∙ sym same) j, e.leaves clean m h j)),
           own_keeps l (host_of k w) c reply m keeps,
           moves w.members i m (own_after l (host_of k w) c reply m) s.marks at_m keeps (own_grows l (host_of k w) c reply m),
         )))
 
-  -- ---- the stores of a fleet, by their names
+-- ---- the sessions of a fleet, by their names
 
+module _ {S E C : Type 0} (l : Language S E) (k : Closures) (is_clean : SessionOf C → Type 0) (stands : SessionOf C → State) (rules : Rules) where
   pub viewed : (items : List (Named C)) (in_place : Option ℕ) (i : ℕ) (n : Named C) (c : Command) (reply : FleetReply)
-      → Steps l k is_clean holding rules (map pair items, in_place) c reply rules (slice_set (map pair items) i (pair n), in_place)
-      → Steps l k is_clean holding rules (map pair items, in_place) c reply rules (map pair (slice_set items i n), in_place)
-  viewed items in_place i n c reply = subst (λ (xs : List (List ℕ × C)). Steps l k is_clean holding rules (map pair items, in_place) c reply rules (xs, in_place)) (sym (map_set pair items i n))
+      → Steps l k is_clean stands rules (map pair items, in_place) c reply rules (slice_set (map pair items) i (pair n), in_place)
+      → Steps l k is_clean stands rules (map pair items, in_place) c reply rules (map pair (slice_set items i n), in_place)
+  viewed items in_place i n c reply = subst (λ (xs : List (List ℕ × SessionOf C)). Steps l k is_clean stands rules (map pair items, in_place) c reply rules (xs, in_place)) (sym (map_set pair items i n))
 
--- what a look-up in a fleet's stores finds
+-- what a look-up in a fleet's sessions finds
 pub pair_at : {C : Type 0} (items : List (Named C)) (i : ℕ) (n : Named C) → slice_get items i ≡ Some n → slice_get (map pair items) i ≡ Some (pair n)
 pair_at items i n e = slice_get-map pair items i ∙ ap (option_map pair) e
 

@@ -1,22 +1,19 @@
 -- A fleet of stores as a world sees it. Source: this project's own.
-use Rattle.std.specs.Prelude.{◌≡◌, ◌⊎◌, ℕ, ℤ, pos, Bool, true, false, not, ◌&&◌, is_some, List, [], map, position, slice_get, Option, Some, Result, Ok, Err}
+use Rattle.std.specs.Prelude.{◌≡◌, ◌⊎◌, ℕ, ℤ, pos, Bool, true, false, not, ◌&&◌, is_some, List, [], map, position, slice_get, Option, Some}
 use Rattle.std.specs.List.{AllByRecursion, list_any}
 use Rattle.cr_lattice.specs.Check.{same_bytes}
 use Rattle.cr_lattice.specs.Sync.{Knows}
-use Rattle.cr_cells.specs.Holding.{Holding, kept_of}
+use Rattle.cr_cells.specs.Holding.{kept_of}
 use Rattle.cr_cells.specs.Marks.{seen_of}
 use Rattle.cr_guard.specs.Policy.{Rules}
 use Rattle.cr_world.specs.declared.command.Command.{Command}
 use Rattle.cr_world.specs.declared.command.FleetReply.{FleetReply}
-use Rattle.cr_world.specs.declared.command.FleetReply.TheVariants.{Done, Refused}
-use Rattle.cr_world.specs.declared.refusal.Refusal.{Refusal}
 use Rattle.cr_world.specs.Language.{Language}
-use Rattle.cr_world.specs.State.{State}
+use Rattle.cr_world.specs.State.{State, in_transaction}
 use Rattle.cr_world.specs.World.{World, Member, Closures, AllKeep}
 use Rattle.cr_world.specs.Answers.{Answers, after, tells_want, AreAnswered, is_replica_name, has_site}
-use Rattle.cr_fleet.specs.Sessions.{standing}
 
--- the named stores of a fleet, and the place of the one in use
+-- the named sessions of a fleet, and the place of the one in use
 abbrev pub FleetOf : Type 0 → Type 0
 FleetOf C = List (List ℕ × C) × Option ℕ
 
@@ -24,14 +21,9 @@ FleetOf C = List (List ℕ × C) × Option ℕ
 abbrev pub AreClean : {C : Type 0} → (C → Type 0) → FleetOf C → Type 0
 AreClean is_clean f = AllByRecursion (λ r. is_clean r.1) f.0
 
--- the reply that tells whether a command was carried out
-abbrev pub reply_of : Result (Unit {0}) Refusal → FleetReply
-reply_of (Ok u) = Done
-reply_of (Err r) = Refused r
-
--- a store as a world sees it
-abbrev pub seen : {C : Type 0} → (C → Holding) → List ℕ × C → List ℕ × State
-seen holding r = (r.0, standing holding r.1)
+-- a session as a world sees it, by where it stands
+abbrev pub seen : {C : Type 0} → (C → State) → List ℕ × C → List ℕ × State
+seen stands r = (r.0, stands r.1)
 
 abbrev pub name_and_state : Member → List ℕ × State
 name_and_state m = (m.name, m.state)
@@ -53,8 +45,8 @@ pub record AreMarked (members : List Member) : Type 0 where
 -- ---- a fleet and its world
 
 -- the fleet is one of this world, under this policy
-pub record Shows {C : Type 0} (holding : C → Holding) (w : World) (policy : Rules) (f : FleetOf C) : Type 0 where
-  pub members : map name_and_state w.members ≡ map (seen holding) f.0
+pub record Shows {C : Type 0} (stands : C → State) (w : World) (policy : Rules) (f : FleetOf C) : Type 0 where
+  pub members : map name_and_state w.members ≡ map (seen stands) f.0
   pub in_use : w.in_use ≡ f.1
   pub rules : w.rules ≡ policy
   pub keep : AllKeep w
@@ -67,11 +59,11 @@ IsUnharmed is_clean old replies new = AreClean is_clean new ⊎ (AreClean is_cle
 -- A command of a fleet: whatever its replicas ever held, the reply is one for that, and the fleet is then one of the world
 -- after it. This holds where each store is clean after it, as it is where each was clean before and the reply does not tell
 -- of want.
-pub record Steps {S E C : Type 0} (l : Language S E) (k : Closures) (is_clean : C → Type 0) (holding : C → Holding)
+pub record Steps {S E C : Type 0} (l : Language S E) (k : Closures) (is_clean : C → Type 0) (stands : C → State)
     (before : Rules) (old : FleetOf C) (command : Command) (reply : FleetReply) (rules : Rules) (new : FleetOf C) : Type 0 where
   pub was_clean : AreClean is_clean new → AreClean is_clean old
   pub stays_clean : AreClean is_clean old → tells_want reply ≡ false → AreClean is_clean new
-  pub steps : AreClean is_clean new → (w : World) → Shows holding w before old → Answers l k w command reply × Shows holding (after l k w command reply) rules new
+  pub steps : AreClean is_clean new → (w : World) → Shows stands w before old → Answers l k w command reply × Shows stands (after l k w command reply) rules new
 
 -- the place of the replica of a name
 abbrev pub place_in : {C : Type 0} → FleetOf C → List ℕ → Option ℕ
@@ -82,13 +74,14 @@ abbrev pub is_free_name : {C : Type 0} → List ℕ → FleetOf C → Bool
 is_free_name name f = is_replica_name name && not (is_some (place_in f name))
 
 -- What the replica in use takes of the one of that name: the mark that it keeps for that one's site is at this version. They
--- have different sites.
-pub record IsOffered {C : Type 0} (is_clean : C → Type 0) (holding : C → Holding) (f : FleetOf C) (name : List ℕ) (at from : ℕ) (version : ℤ) : Type 0 where
+-- have different sites, and the one in use has no open transaction.
+pub record IsOffered {C : Type 0} (is_clean : C → Type 0) (stands : C → State) (f : FleetOf C) (name : List ℕ) (at from : ℕ) (version : ℤ) : Type 0 where
   pub taker : List ℕ × C
   pub peer : List ℕ × C
   pub in_use : f.1 ≡ Some at
   pub named : place_in f name ≡ Some from
   pub taker_at : slice_get f.0 at ≡ Some taker
   pub peer_at : slice_get f.0 from ≡ Some peer
-  pub apart : AreClean is_clean f → same_bytes (holding peer.1).site (holding taker.1).site ≡ false
-  pub seen : AreClean is_clean f → version ≡ seen_of (holding taker.1).marks (holding peer.1).site
+  pub outside : in_transaction (stands taker.1) ≡ false
+  pub apart : AreClean is_clean f → same_bytes (stands peer.1).holding.site (stands taker.1).holding.site ≡ false
+  pub seen : AreClean is_clean f → version ≡ seen_of (stands taker.1).holding.marks (stands peer.1).holding.site

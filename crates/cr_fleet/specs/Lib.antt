@@ -1,5 +1,1 @@
-pub mod Sessions
 pub mod Fleets
-pub mod Speaking
-pub mod Scripts
-pub mod Performing

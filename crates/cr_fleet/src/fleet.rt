@@ -6,13 +6,13 @@ ghost use Rattle.std.specs.Char.{is_ascii_alphanumeric};
 ghost use Rattle.cr_lattice.specs.Check.{same_bytes};
 ghost use Rattle.cr_world.specs.Answers.{is_replica_name};
 
-use crate::session::{Session, reply_of};
-use crate::speaking::{Speaking, Watching};
 use cr_cells::store::{NewCells, StoreFault};
 use cr_guard::guarding::Guarding;
 use cr_guard::policy::PolicyRule;
 use cr_host::functions::Functions;
 use cr_lattice::change::Site;
+use cr_session::session::{Session, reply_of};
+use cr_session::speaking::{Speaking, Watching};
 use cr_value::order::same_bytes;
 use cr_value::text::Text;
 use cr_world::command::{Command, FleetReply};
@@ -55,9 +55,10 @@ pub struct Fleet<C: Drop> {
 
 impl<C: Drop> Model for Fleet<C> {
     ghost use Rattle.std.specs.Prelude.{map};
+    ghost use Rattle.cr_session.specs.Sessions.{SessionOf};
     ghost use Rattle.cr_fleet.specs.Fleets.{FleetOf};
 
-    ghost Value = { FleetOf C };
+    ghost Value = { FleetOf (SessionOf C) };
 
     ghost view = { λ f. (map (λ r. (r.name, r.session)) f.replicas.items, f.in_use) };
 }
@@ -71,8 +72,8 @@ fn place_of<C: Drop>(replicas: &[Named<C>], name: &str) -> Option<usize>
 
 // Whether a replica has the site.
 fn has_site<C: NewCells>(replicas: &[Named<C>], site: &Site) -> bool
-    ensures { AllByRecursion (λ r. C.is_clean r.session) replicas.now
-        → result ≡ list_any (λ r. same_bytes (C.holding r.session).site site.now) replicas.now }
+    ensures { AllByRecursion (λ r. C.is_clean r.session.0) replicas.now
+        → result ≡ list_any (λ r. same_bytes (C.holding r.session.0).site site.now) replicas.now }
 {
     for named in replicas {
         if same_bytes(&named.session.site(), site) {
@@ -91,10 +92,10 @@ impl<C: NewCells> Fleet<C> {
     ghost use Rattle.cr_world.specs.Answers.{IsReady, AreAnswered};
     ghost use Rattle.cr_world.specs.Language.{Language};
     ghost use Rattle.cr_world.specs.World.{World, Closures};
-    ghost use Rattle.cr_fleet.specs.Sessions.{is_own};
+    ghost use Rattle.cr_session.specs.Sessions.{clean, is_own, reply_of, standing};
     ghost use Rattle.cr_world.specs.Headline.{Converges, RowsConverge};
     ghost use Rattle.cr_world.specs.Run.{Run, world_after};
-    ghost use Rattle.cr_fleet.specs.Fleets.{Steps, AreClean, IsUnharmed, Shows, IsOffered, reply_of, is_free_name};
+    ghost use Rattle.cr_fleet.specs.Fleets.{Steps, AreClean, IsUnharmed, Shows, IsOffered, is_free_name};
 
     /// A fleet without replicas.
     pub fn new(alloc: Global) -> Fleet<C>
@@ -107,7 +108,7 @@ impl<C: NewCells> Fleet<C> {
     }
 
     fn use_replica(&mut self, name: &Text) -> FleetReply
-        ensures { (l : Language Statement Ordered) (k : Closures) (rules : Rules) → Steps l k C.is_clean C.holding rules self.old (Use name.now) result rules self.new }
+        ensures { (l : Language Statement Ordered) (k : Closures) (rules : Rules) → Steps l k (clean C.is_clean) (standing C.holding) rules self.old (Use name.now) result rules self.new }
     {
         match place_of(&self.replicas, name.as_str()) {
             Some(at) => {
@@ -131,7 +132,7 @@ impl<C: NewCells> Fleet<C> {
     /// `BadName` where the name is not of 1 to 64 ASCII letters and digits, or is a replica's; `Limit` where there are 64
     /// replicas; `SameSite` where a replica has the site; `Memory`, or `Store`. Then nothing is changed.
     pub fn open(&mut self, alloc: Global, name: &Text, site: Site) -> Result<(), Refusal>
-        ensures { (l : Language Statement Ordered) (k : Closures) (rules : Rules) → Steps l k C.is_clean C.holding rules self.old (Open name.now site) (reply_of result) rules self.new }
+        ensures { (l : Language Statement Ordered) (k : Closures) (rules : Rules) → Steps l k (clean C.is_clean) (standing C.holding) rules self.old (Open name.now site) (reply_of result) rules self.new }
     {
         if !self.is_free(name.as_str()) {
             return Err(Refusal::BadName(name.copy(alloc)?));
@@ -159,7 +160,7 @@ impl<C: NewCells> Fleet<C> {
     // Adds a rule to the policy.
     fn set_rule<G: Guarding>(&self, alloc: Global, guard: &mut G, rule: &PolicyRule) -> FleetReply
         requires { G.is_faithful guard.old }
-        ensures steps { (l : Language Statement Ordered) → Steps l (⟦<G as Watching>⟧.closures guard.old) C.is_clean C.holding (G.rules guard.old) self.now (Policy rule.now) result (G.rules guard.new) self.now }
+        ensures steps { (l : Language Statement Ordered) → Steps l (⟦<G as Watching>⟧.closures guard.old) (clean C.is_clean) (standing C.holding) (G.rules guard.old) self.now (Policy rule.now) result (G.rules guard.new) self.now }
         ensures closures { ⟦<G as Watching>⟧.closures guard.new ≡ ⟦<G as Watching>⟧.closures guard.old }
         ensures faithful { G.is_faithful guard.new }
     {
@@ -182,7 +183,7 @@ impl<C: NewCells> Fleet<C> {
         requires ready { IsReady command.now }
         requires own { is_own command.now ≡ true }
         ensures { (has : List ℕ → Bool) → ⟦<F as Speaking>⟧.are_names functions.now has
-            → Steps (⟦<F as Speaking>⟧.language functions.now has) (⟦<G as Watching>⟧.closures guard.now) C.is_clean C.holding (G.rules guard.now) self.old command.now result (G.rules guard.now) self.new }
+            → Steps (⟦<F as Speaking>⟧.language functions.now has) (⟦<G as Watching>⟧.closures guard.now) (clean C.is_clean) (standing C.holding) (G.rules guard.now) self.old command.now result (G.rules guard.now) self.new }
     {
         let Some(at) = self.in_use else {
             return FleetReply::Refused(Refusal::NoReplica);
@@ -195,7 +196,7 @@ impl<C: NewCells> Fleet<C> {
 
     fn pull<G: Guarding>(&mut self, alloc: Global, guard: &G, name: &Text) -> FleetReply
         requires { G.is_faithful guard.now }
-        ensures { (l : Language Statement Ordered) → Steps l (⟦<G as Watching>⟧.closures guard.now) C.is_clean C.holding (G.rules guard.now) self.old (Pull name.now) result (G.rules guard.now) self.new }
+        ensures { (l : Language Statement Ordered) → Steps l (⟦<G as Watching>⟧.closures guard.now) (clean C.is_clean) (standing C.holding) (G.rules guard.now) self.old (Pull name.now) result (G.rules guard.now) self.new }
     {
         let Some(at) = self.in_use else {
             return FleetReply::Refused(Refusal::NoReplica);
@@ -209,6 +210,9 @@ impl<C: NewCells> Fleet<C> {
         let Some(peer) = self.replicas.get(from) else {
             return FleetReply::Refused(Refusal::NoReplica);
         };
+        if taker.session.in_transaction() {
+            return FleetReply::Refused(Refusal::TransactionState);
+        }
         if same_bytes(&peer.session.site(), &taker.session.site()) {
             return FleetReply::Refused(Refusal::SameSite);
         }
@@ -235,8 +239,8 @@ impl<C: NewCells> Fleet<C> {
         seen: i64,
     ) -> FleetReply
         requires { G.is_faithful guard.now }
-        ensures { (l : Language Statement Ordered) (name : List ℕ) → IsOffered C.is_clean C.holding self.old name at from seen
-            → Steps l (⟦<G as Watching>⟧.closures guard.now) C.is_clean C.holding (G.rules guard.now) self.old (PullSince name) result (G.rules guard.now) self.new }
+        ensures { (l : Language Statement Ordered) (name : List ℕ) → IsOffered (clean C.is_clean) (standing C.holding) self.old name at from seen
+            → Steps l (⟦<G as Watching>⟧.closures guard.now) (clean C.is_clean) (standing C.holding) (G.rules guard.now) self.old (PullSince name) result (G.rules guard.now) self.new }
     {
         let Some(peer) = self.replicas.get_mut(from) else {
             return FleetReply::Refused(Refusal::NoReplica);
@@ -262,7 +266,7 @@ impl<C: NewCells> Fleet<C> {
 
     fn pull_since<G: Guarding>(&mut self, alloc: Global, guard: &G, name: &Text) -> FleetReply
         requires { G.is_faithful guard.now }
-        ensures { (l : Language Statement Ordered) → Steps l (⟦<G as Watching>⟧.closures guard.now) C.is_clean C.holding (G.rules guard.now) self.old (PullSince name.now) result (G.rules guard.now) self.new }
+        ensures { (l : Language Statement Ordered) → Steps l (⟦<G as Watching>⟧.closures guard.now) (clean C.is_clean) (standing C.holding) (G.rules guard.now) self.old (PullSince name.now) result (G.rules guard.now) self.new }
     {
         let Some(at) = self.in_use else {
             return FleetReply::Refused(Refusal::NoReplica);
@@ -276,6 +280,9 @@ impl<C: NewCells> Fleet<C> {
         let Some(peer) = self.replicas.get(from) else {
             return FleetReply::Refused(Refusal::NoReplica);
         };
+        if taker.session.in_transaction() {
+            return FleetReply::Refused(Refusal::TransactionState);
+        }
         let site = peer.session.site();
         if same_bytes(&site, &taker.session.site()) {
             return FleetReply::Refused(Refusal::SameSite);
@@ -302,7 +309,7 @@ impl<C: NewCells> Fleet<C> {
         requires guard { G.is_faithful guard.old }
         requires ready { IsReady command.now }
         ensures steps { (has : List ℕ → Bool) → ⟦<F as Speaking>⟧.are_names functions.now has
-            → Steps (⟦<F as Speaking>⟧.language functions.now has) (⟦<G as Watching>⟧.closures guard.old) C.is_clean C.holding (G.rules guard.old) self.old command.now result (G.rules guard.new) self.new }
+            → Steps (⟦<F as Speaking>⟧.language functions.now has) (⟦<G as Watching>⟧.closures guard.old) (clean C.is_clean) (standing C.holding) (G.rules guard.old) self.old command.now result (G.rules guard.new) self.new }
         ensures closures { ⟦<G as Watching>⟧.closures guard.new ≡ ⟦<G as Watching>⟧.closures guard.old }
         ensures faithful { G.is_faithful guard.new }
     {
@@ -334,17 +341,17 @@ impl<C: NewCells> Fleet<C> {
         requires functions { F.is_faithful functions.now }
         requires guard { G.is_faithful guard.old }
         requires ready { AllByRecursion IsReady commands.now }
-        ensures was_clean { (has : List ℕ → Bool) → ⟦<F as Speaking>⟧.are_names functions.now has → AreClean C.is_clean self.new → AreClean C.is_clean self.old }
-        ensures stays_clean { IfOk result (λ replies. (has : List ℕ → Bool) → ⟦<F as Speaking>⟧.are_names functions.now has → AreClean C.is_clean self.old → AreAnswered replies.items → AreClean C.is_clean self.new) }
+        ensures was_clean { (has : List ℕ → Bool) → ⟦<F as Speaking>⟧.are_names functions.now has → AreClean (clean C.is_clean) self.new → AreClean (clean C.is_clean) self.old }
+        ensures stays_clean { IfOk result (λ replies. (has : List ℕ → Bool) → ⟦<F as Speaking>⟧.are_names functions.now has → AreClean (clean C.is_clean) self.old → AreAnswered replies.items → AreClean (clean C.is_clean) self.new) }
         ensures runs { IfOk result (λ replies. (has : List ℕ → Bool) → ⟦<F as Speaking>⟧.are_names functions.now has
-            → IsUnharmed C.is_clean self.old replies.items self.new → (w : World) → Shows C.holding w (G.rules guard.old) self.old
+            → IsUnharmed (clean C.is_clean) self.old replies.items self.new → (w : World) → Shows (standing C.holding) w (G.rules guard.old) self.old
             → Run (⟦<F as Speaking>⟧.language functions.now has) (⟦<G as Watching>⟧.closures guard.old) w commands.now replies.items
-            × Shows C.holding (world_after (⟦<F as Speaking>⟧.language functions.now has) (⟦<G as Watching>⟧.closures guard.old) w commands.now replies.items) (G.rules guard.new) self.new) }
+            × Shows (standing C.holding) (world_after (⟦<F as Speaking>⟧.language functions.now has) (⟦<G as Watching>⟧.closures guard.old) w commands.now replies.items) (G.rules guard.new) self.new) }
         ensures converges { IfOk result (λ replies. (has : List ℕ → Bool) → ⟦<F as Speaking>⟧.are_names functions.now has
-            → IsUnharmed C.is_clean self.old replies.items self.new → (w : World) → Shows C.holding w (G.rules guard.old) self.old
+            → IsUnharmed (clean C.is_clean) self.old replies.items self.new → (w : World) → Shows (standing C.holding) w (G.rules guard.old) self.old
             → RowsConverge (⟦<F as Speaking>⟧.language functions.now has) (⟦<G as Watching>⟧.closures guard.old) w commands.now replies.items) }
         ensures selects_converge { IfOk result (λ replies. (has : List ℕ → Bool) → ⟦<F as Speaking>⟧.are_names functions.now has
-            → IsUnharmed C.is_clean self.old replies.items self.new → (w : World) → Shows C.holding w (G.rules guard.old) self.old
+            → IsUnharmed (clean C.is_clean) self.old replies.items self.new → (w : World) → Shows (standing C.holding) w (G.rules guard.old) self.old
             → Converges (⟦<F as Speaking>⟧.language functions.now has) (⟦<G as Watching>⟧.closures guard.old) w commands.now replies.items) }
         ensures refused { OnErr result (self.new ≡ self.old) }
         ensures closures { ⟦<G as Watching>⟧.closures guard.new ≡ ⟦<G as Watching>⟧.closures guard.old }

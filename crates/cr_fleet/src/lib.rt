@@ -3,8 +3,3 @@
 #![tactic(auto)]
 
 pub mod fleet;
-mod performing;
-mod script;
-pub mod session;
-pub mod speaking;
-mod writing;

@@ -20,7 +20,7 @@ first_word (s.Begin mode) = codes "BEGIN"
 first_word s.Commit = codes "COMMIT"
 first_word s.Rollback = codes "ROLLBACK"
 
--- all is but ALTER TABLE and transactions
+-- all is but ALTER TABLE
 abbrev pub is_carried_out : Statement → Bool
 is_carried_out (s.Select q) = true
 is_carried_out (s.Insert i) = true
@@ -28,9 +28,9 @@ is_carried_out (s.Update u) = true
 is_carried_out (s.Delete d) = true
 is_carried_out (s.Create c) = true
 is_carried_out (s.Alter a) = false
-is_carried_out (s.Begin mode) = false
-is_carried_out s.Commit = false
-is_carried_out s.Rollback = false
+is_carried_out (s.Begin mode) = true
+is_carried_out s.Commit = true
+is_carried_out s.Rollback = true
 
 abbrev pub not_carried_out : Statement → Refusal
 not_carried_out x = refusal.OutOfProfile (out.Word (first_word x))

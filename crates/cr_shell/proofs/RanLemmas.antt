@@ -1,11 +1,11 @@
 -- Commands that ran, one after another.
 use Rattle.std.proofs.Common.{◌≡◌, ℕ, refl, false, List, [], ◌∷◌, ◌++◌, inl}
 use Rattle.std.specs.List.{AllByRecursion}
-use Rattle.cr_cells.specs.Holding.{Holding}
 use Rattle.cr_guard.specs.Policy.{Rules}
 use Rattle.cr_world.specs.declared.command.Command.{Command}
 use Rattle.cr_world.specs.declared.command.FleetReply.{FleetReply}
 use Rattle.cr_world.specs.Language.{Language}
+use Rattle.cr_world.specs.State.{State}
 use Rattle.cr_world.specs.World.{World, Closures}
 use Rattle.cr_world.specs.Answers.{after, tells_want, AreAnswered}
 use Rattle.cr_world.specs.Run.{Run, world_after}
@@ -26,12 +26,12 @@ module _ {S E : Type 0} (l : Language S E) (k : Closures) where
   run_both w (c ∷ cs) [] ds ss p q = absurd p
   run_both w (c ∷ cs) (r ∷ rs) ds ss p q = let t = run_both (after l k w c r) cs rs ds ss p.2 q in ((p.0, p.1, t.0), t.1)
 
-module _ {S E C : Type 0} (l : Language S E) (k : Closures) (is_clean : C → Type 0) (holding : C → Holding) where
+module _ {S E C : Type 0} (l : Language S E) (k : Closures) (is_clean : C → Type 0) (stands : C → State) where
   -- what it takes to say where the fleet then stands
   abbrev Leaves : Standing C → Standing C → List Command → List FleetReply → Type 0
-  Leaves s0 s1 cs rs = AreClean is_clean s1.0 → (w : World) → Shows holding w s0.1 s0.0 → Run l k w cs rs × Shows holding (world_after l k w cs rs) s1.1 s1.0
+  Leaves s0 s1 cs rs = AreClean is_clean s1.0 → (w : World) → Shows stands w s0.1 s0.0 → Run l k w cs rs × Shows stands (world_after l k w cs rs) s1.1 s1.0
 
-  ran_where : (s0 s1 : Standing C) (cs : List Command) (rs : List FleetReply) → (AreClean is_clean s1.0 → AreClean is_clean s0.0) → (AreClean is_clean s0.0 → AreAnswered rs → AreClean is_clean s1.0) → Leaves s0 s1 cs rs → Ran l k is_clean holding s0 s1 cs rs
+  ran_where : (s0 s1 : Standing C) (cs : List Command) (rs : List FleetReply) → (AreClean is_clean s1.0 → AreClean is_clean s0.0) → (AreClean is_clean s0.0 → AreAnswered rs → AreClean is_clean s1.0) → Leaves s0 s1 cs rs → Ran l k is_clean stands s0 s1 cs rs
   ran_where s0 s1 cs rs was stays leaves = record {
     was_clean = was;
     stays_clean = stays;
@@ -39,14 +39,14 @@ module _ {S E C : Type 0} (l : Language S E) (k : Closures) (is_clean : C → Ty
     converges = λ harm w s. rows_converge l k w cs rs (leaves (clean_after_run is_clean s0.0 s1.0 rs stays harm) w s).0;
   }
 
-  pub ran_none : (f : FleetOf C) (p : Rules) (g0 g1 : List ℕ) → Ran l k is_clean holding (f, p, g0) (f, p, g1) [] []
+  pub ran_none : (f : FleetOf C) (p : Rules) (g0 g1 : List ℕ) → Ran l k is_clean stands (f, p, g0) (f, p, g1) [] []
   ran_none f p g0 g1 = ran_where (f, p, g0) (f, p, g1) [] [] (λ clean. clean) (λ clean answered. clean) (λ clean w s. (s.keep, s))
 
-  pub ran_one : (f0 f1 : FleetOf C) (p0 p1 : Rules) (g0 g1 : List ℕ) (c : Command) (r : FleetReply) → Steps l k is_clean holding p0 f0 c r p1 f1 → Ran l k is_clean holding (f0, p0, g0) (f1, p1, g1) (c ∷ []) (r ∷ [])
+  pub ran_one : (f0 f1 : FleetOf C) (p0 p1 : Rules) (g0 g1 : List ℕ) (c : Command) (r : FleetReply) → Steps l k is_clean stands p0 f0 c r p1 f1 → Ran l k is_clean stands (f0, p0, g0) (f1, p1, g1) (c ∷ []) (r ∷ [])
   ran_one f0 f1 p0 p1 g0 g1 c r s = ran_where (f0, p0, g0) (f1, p1, g1) (c ∷ []) (r ∷ []) s.was_clean (λ clean answered. s.stays_clean clean answered.0)
       (λ clean w h. let t = s.steps clean w h in ((h.keep, t.0, t.1.keep), t.1))
 
-  pub ran_more : (s0 s1 s2 : Standing C) (cs ds : List Command) (rs ss : List FleetReply) → Ran l k is_clean holding s0 s1 cs rs → Ran l k is_clean holding s1 s2 ds ss → Ran l k is_clean holding s0 s2 (cs ++ ds) (rs ++ ss)
+  pub ran_more : (s0 s1 s2 : Standing C) (cs ds : List Command) (rs ss : List FleetReply) → Ran l k is_clean stands s0 s1 cs rs → Ran l k is_clean stands s1 s2 ds ss → Ran l k is_clean stands s0 s2 (cs ++ ds) (rs ++ ss)
   ran_more s0 s1 s2 cs ds rs ss p q = ran_where s0 s2 (cs ++ ds) (rs ++ ss) (λ clean. p.was_clean (q.was_clean clean))
       (λ clean answered. let both = all_both (λ r. tells_want r ≡ false) rs ss answered in q.stays_clean (p.stays_clean clean both.0) both.1)
       (λ clean w s.

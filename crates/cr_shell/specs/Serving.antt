@@ -2,13 +2,13 @@
 use Rattle.std.specs.Prelude.{◌≡◌, ◌≢◌, ◌⊎◌, ℕ, Bool, true, false, not, ◌==◌, List, [], ◌∷◌, ◌++◌, length, map, Option, Some, None, Result, Ok, Err}
 use Rattle.std.specs.List.{flat_map, list_all, AllByRecursion}
 use Rattle.std.specs.Io.KnownBytes.{Consumes, IsAtEnd}
-use Rattle.cr_cells.specs.Holding.{Holding}
 use Rattle.cr_world.specs.declared.command.Command.{Command}
 use Rattle.cr_world.specs.declared.command.FleetReply.{FleetReply}
 use Rattle.cr_world.specs.declared.command.FleetReply.TheVariants.{Done, Refused}
 use Rattle.cr_world.specs.declared.refusal.Refusal.TheVariants as refusal
 use Rattle.cr_world.specs.declared.refusal.Limit.TheVariants as limit
 use Rattle.cr_world.specs.Language.{Language}
+use Rattle.cr_world.specs.State.{State}
 use Rattle.cr_world.specs.World.{Closures}
 use Rattle.cr_shell.specs.Running.{Standing, Ruled, RanAs}
 use Rattle.cr_shell.specs.declared.serving.Line.{Line}
@@ -146,20 +146,20 @@ Stops (Err fault.Write) failed_last = failed_last
 abbrev pub Quits : {C : Type 0} → Standing C → Standing C → Entry → Type 0
 Quits s0 s1 entry = ((asks s0.2 entry).0 ≡ Quit) × (s1.0 ≡ s0.0) × (s1.1 ≡ s0.1)
 
-module _ {S E C : Type 0} (are_names : (List ℕ → Bool) → Type 0) (language : (List ℕ → Bool) → Language S E) (k : Closures) (is_clean : C → Type 0) (holding : C → Holding) where
+module _ {S E C : Type 0} (are_names : (List ℕ → Bool) → Type 0) (language : (List ℕ → Bool) → Language S E) (k : Closures) (is_clean : C → Type 0) (stands : C → State) where
   -- it was answered, or ends the run
   abbrev pub Replies : Standing C → Entry → Option FleetReply → Standing C → Type 0
   Replies s0 entry None s1 = Quits s0 s1 entry
-  Replies s0 entry (Some reply) s1 = (command : Option Command) × IsFor (asks s0.2 entry) command reply s1.2 × RanAs are_names language k is_clean holding s0 s1 (with_command command []) (with_reply command reply [])
+  Replies s0 entry (Some reply) s1 = (command : Option Command) × IsFor (asks s0.2 entry) command reply s1.2 × RanAs are_names language k is_clean stands s0 s1 (with_command command []) (with_reply command reply [])
 
-module _ {S E W C : Type 0} (contents : W → Option (List ℕ)) (are_names : (List ℕ → Bool) → Type 0) (language : (List ℕ → Bool) → Language S E) (k : Closures) (is_clean : C → Type 0) (holding : C → Holding) where
+module _ {S E W C : Type 0} (contents : W → Option (List ℕ)) (are_names : (List ℕ → Bool) → Type 0) (language : (List ℕ → Bool) → Language S E) (k : Closures) (is_clean : C → Type 0) (stands : C → State) where
   -- Lines were heard, and maybe the end: each has its turn, the commands ran with these replies, and what is written is what
   -- they are printed as.
   pub record Heard (w0 w1 : W × Bool) (s0 s1 : Standing C) (entries : List Entry) : Type 0 where
     pub turns : List Turn
     pub entries_are : map (λ t. t.entry) turns ≡ entries
     pub are_for : AreTurns s0.2 turns s1.2
-    pub ran : RanAs are_names language k is_clean holding s0 s1 (commands turns) (replies turns)
+    pub ran : RanAs are_names language k is_clean stands s0 s1 (commands turns) (replies turns)
     pub written : Prints contents w0 w1 (output_of (map (λ t. t.reply) turns))
 
   -- it was heard, or ends the run

@@ -1,6 +1,7 @@
 //! Lines from a reader, replies to a writer.
 
 ghost use Rattle.std.specs.Prelude.{◌≡◌, ℕ, List, [], true, false, IfOk};
+ghost use Rattle.cr_session.specs.Sessions.{clean, standing};
 ghost use Rattle.cr_shell.specs.Asking.{asked, AsksReady};
 ghost use Rattle.cr_shell.specs.Serving.{Entry, asks, IsKept, IsNewLine, IsPushed, IsEmpty, Replies, Hears, HearsLine, HearsUnfinished, Takes, Ends, Serves};
 
@@ -9,9 +10,9 @@ use crate::printing::print_reply;
 use crate::watched::{Failed, Watched};
 use cr_cells::store::NewCells;
 use cr_fleet::fleet::Fleet;
-use cr_fleet::speaking::{Speaking, Watching};
 use cr_guard::guarding::Guarding;
 use cr_host::functions::Functions;
+use cr_session::speaking::{Speaking, Watching};
 use cr_world::command::FleetReply;
 use cr_world::refusal::{Limit, Refusal};
 use std::alloc::{AllocError, Global};
@@ -133,7 +134,7 @@ fn answer<C: NewCells, F: Functions, G: Guarding>(
     requires guard { G.is_faithful guard.old }
     requires ready { IfOk request AsksReady }
     ensures replies { (entry : Entry) (before : List ℕ) → IfOk request (λ it. (it, gathered.old) ≡ asks before entry)
-        → Replies (⟦<F as Speaking>⟧.are_names functions.now) (⟦<F as Speaking>⟧.language functions.now) (⟦<G as Watching>⟧.closures guard.old) C.is_clean C.holding (fleet.old, G.rules guard.old, before) entry result (fleet.new, G.rules guard.new, gathered.new) }
+        → Replies (⟦<F as Speaking>⟧.are_names functions.now) (⟦<F as Speaking>⟧.language functions.now) (⟦<G as Watching>⟧.closures guard.old) (clean C.is_clean) (standing C.holding) (fleet.old, G.rules guard.old, before) entry result (fleet.new, G.rules guard.new, gathered.new) }
     ensures closures { ⟦<G as Watching>⟧.closures guard.new ≡ ⟦<G as Watching>⟧.closures guard.old }
     ensures faithful { G.is_faithful guard.new }
 {
@@ -164,7 +165,7 @@ fn hear<W: Write, C: NewCells, F: Functions, G: Guarding>(
     requires guard { G.is_faithful guard.old }
     requires ready { IfOk request AsksReady }
     ensures hears { (entry : Entry) (before : List ℕ) → IfOk request (λ it. (it, gathered.old) ≡ asks before entry)
-        → Hears W.contents (⟦<F as Speaking>⟧.are_names functions.now) (⟦<F as Speaking>⟧.language functions.now) (⟦<G as Watching>⟧.closures guard.old) C.is_clean C.holding writer.old writer.new (fleet.old, G.rules guard.old, before) (fleet.new, G.rules guard.new, gathered.new) entry result }
+        → Hears W.contents (⟦<F as Speaking>⟧.are_names functions.now) (⟦<F as Speaking>⟧.language functions.now) (⟦<G as Watching>⟧.closures guard.old) (clean C.is_clean) (standing C.holding) writer.old writer.new (fleet.old, G.rules guard.old, before) (fleet.new, G.rules guard.new, gathered.new) entry result }
     ensures closures { ⟦<G as Watching>⟧.closures guard.new ≡ ⟦<G as Watching>⟧.closures guard.old }
     ensures faithful { G.is_faithful guard.new }
 {
@@ -189,7 +190,7 @@ fn hear_line<W: Write, C: NewCells, F: Functions, G: Guarding>(
     requires functions { F.is_faithful functions.now }
     requires guard { G.is_faithful guard.old }
     ensures hears { (bytes : List ℕ) → IsKept input.old.line bytes
-        → HearsLine W.contents (⟦<F as Speaking>⟧.are_names functions.now) (⟦<F as Speaking>⟧.language functions.now) (⟦<G as Watching>⟧.closures guard.old) C.is_clean C.holding writer.old writer.new (fleet.old, G.rules guard.old, input.old.gathered) (fleet.new, G.rules guard.new, input.new.gathered) bytes result }
+        → HearsLine W.contents (⟦<F as Speaking>⟧.are_names functions.now) (⟦<F as Speaking>⟧.language functions.now) (⟦<G as Watching>⟧.closures guard.old) (clean C.is_clean) (standing C.holding) writer.old writer.new (fleet.old, G.rules guard.old, input.old.gathered) (fleet.new, G.rules guard.new, input.new.gathered) bytes result }
     ensures line { IsNewLine input.new.line }
     ensures closures { ⟦<G as Watching>⟧.closures guard.new ≡ ⟦<G as Watching>⟧.closures guard.old }
     ensures faithful { G.is_faithful guard.new }
@@ -224,7 +225,7 @@ fn take_byte<W: Write, C: NewCells, F: Functions, G: Guarding>(
 ) -> Next
     requires functions { F.is_faithful functions.now }
     requires guard { G.is_faithful guard.old }
-    ensures takes { Takes W.contents (⟦<F as Speaking>⟧.are_names functions.now) (⟦<F as Speaking>⟧.language functions.now) (⟦<G as Watching>⟧.closures guard.old) C.is_clean C.holding writer.old writer.new (fleet.old, G.rules guard.old, input.old.gathered) (fleet.new, G.rules guard.new, input.new.gathered) input.old.line input.new.line byte result }
+    ensures takes { Takes W.contents (⟦<F as Speaking>⟧.are_names functions.now) (⟦<F as Speaking>⟧.language functions.now) (⟦<G as Watching>⟧.closures guard.old) (clean C.is_clean) (standing C.holding) writer.old writer.new (fleet.old, G.rules guard.old, input.old.gathered) (fleet.new, G.rules guard.new, input.new.gathered) input.old.line input.new.line byte result }
     ensures closures { ⟦<G as Watching>⟧.closures guard.new ≡ ⟦<G as Watching>⟧.closures guard.old }
     ensures faithful { G.is_faithful guard.new }
 {
@@ -248,7 +249,7 @@ fn hear_unfinished<W: Write, C: NewCells, F: Functions, G: Guarding>(
     requires guard { G.is_faithful guard.old }
     requires writer { writer.old.1 ≡ false }
     ensures hears { (bytes : List ℕ) → IsKept input.old.line bytes
-        → HearsUnfinished W.contents (⟦<F as Speaking>⟧.are_names functions.now) (⟦<F as Speaking>⟧.language functions.now) (⟦<G as Watching>⟧.closures guard.old) C.is_clean C.holding writer.old writer.new (fleet.old, G.rules guard.old, input.old.gathered) (fleet.new, G.rules guard.new, input.new.gathered) bytes result }
+        → HearsUnfinished W.contents (⟦<F as Speaking>⟧.are_names functions.now) (⟦<F as Speaking>⟧.language functions.now) (⟦<G as Watching>⟧.closures guard.old) (clean C.is_clean) (standing C.holding) writer.old writer.new (fleet.old, G.rules guard.old, input.old.gathered) (fleet.new, G.rules guard.new, input.new.gathered) bytes result }
     ensures closures { ⟦<G as Watching>⟧.closures guard.new ≡ ⟦<G as Watching>⟧.closures guard.old }
     ensures faithful { G.is_faithful guard.new }
 {
@@ -271,7 +272,7 @@ fn hear_last<W: Write, C: NewCells, F: Functions, G: Guarding>(
     requires guard { G.is_faithful guard.old }
     requires writer { writer.old.1 ≡ false }
     ensures ends { (bytes : List ℕ) → IsKept input.old.line bytes
-        → Ends W.contents (⟦<F as Speaking>⟧.are_names functions.now) (⟦<F as Speaking>⟧.language functions.now) (⟦<G as Watching>⟧.closures guard.old) C.is_clean C.holding writer.old writer.new (fleet.old, G.rules guard.old, input.old.gathered) (fleet.new, G.rules guard.new, input.new.gathered) bytes result }
+        → Ends W.contents (⟦<F as Speaking>⟧.are_names functions.now) (⟦<F as Speaking>⟧.language functions.now) (⟦<G as Watching>⟧.closures guard.old) (clean C.is_clean) (standing C.holding) writer.old writer.new (fleet.old, G.rules guard.old, input.old.gathered) (fleet.new, G.rules guard.new, input.new.gathered) bytes result }
     ensures closures { ⟦<G as Watching>⟧.closures guard.new ≡ ⟦<G as Watching>⟧.closures guard.old }
     ensures faithful { G.is_faithful guard.new }
 {
@@ -316,7 +317,7 @@ pub fn serve<R: Read, W: Write, C: NewCells, F: Functions, G: Guarding>(
     requires writer { writer.old.1 ≡ false }
     requires functions { F.is_faithful functions.now }
     requires guard { G.is_faithful guard.old }
-    ensures serves { Serves W.contents (⟦<F as Speaking>⟧.are_names functions.now) (⟦<F as Speaking>⟧.language functions.now) (⟦<G as Watching>⟧.closures guard.old) C.is_clean C.holding R.remaining result reader.old reader.new writer.old writer.new (fleet.old, G.rules guard.old) (fleet.new, G.rules guard.new) }
+    ensures serves { Serves W.contents (⟦<F as Speaking>⟧.are_names functions.now) (⟦<F as Speaking>⟧.language functions.now) (⟦<G as Watching>⟧.closures guard.old) (clean C.is_clean) (standing C.holding) R.remaining result reader.old reader.new writer.old writer.new (fleet.old, G.rules guard.old) (fleet.new, G.rules guard.new) }
     ensures closures { ⟦<G as Watching>⟧.closures guard.new ≡ ⟦<G as Watching>⟧.closures guard.old }
     ensures faithful { G.is_faithful guard.new }
 {

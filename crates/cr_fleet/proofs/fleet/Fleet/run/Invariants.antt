@@ -3,18 +3,18 @@ use Rattle.cr_world.specs.World.{World}
 use Rattle.cr_world.specs.Answers.{AreAnswered}
 use Rattle.cr_world.specs.Run.{Run, world_after}
 use Rattle.cr_fleet.specs.Fleets.{AreClean, Shows}
-use Rattle.cr_fleet.specs.Sessions.{closures}
-use Rattle.cr_fleet.specs.Speaking.{spoken}
+use Rattle.cr_session.specs.Sessions.{closures, clean, standing}
+use Rattle.cr_session.specs.Speaking.{spoken}
 use Rattle.cr_fleet.proofs.fleet.Fleet.run.Given as goal
 
 -- the commands so far ran as a run, and there is room for the replies to all
 abbrev pub invariant-loop-command : goal.invariant-loop-command
 invariant-loop-command g l = record {
-  clean : (has : List ℕ → Bool) → has ≡ g.F.Functions.names_function l.functions → AreClean g.C.Cells.is_clean l.self → AreClean g.C.Cells.is_clean l.fn.self;
-  stays_clean : (has : List ℕ → Bool) → has ≡ g.F.Functions.names_function l.functions → AreClean g.C.Cells.is_clean l.fn.self → AreAnswered l.replies.items → AreClean g.C.Cells.is_clean l.self;
-  ran : (has : List ℕ → Bool) → has ≡ g.F.Functions.names_function l.functions → AreClean g.C.Cells.is_clean l.self → (w : World) → Shows g.C.Cells.holding w (g.G.Guarding.rules l.fn.guard) l.fn.self
+  was_clean : (has : List ℕ → Bool) → has ≡ g.F.Functions.names_function l.functions → AreClean (clean g.C.Cells.is_clean) l.self → AreClean (clean g.C.Cells.is_clean) l.fn.self;
+  stays_clean : (has : List ℕ → Bool) → has ≡ g.F.Functions.names_function l.functions → AreClean (clean g.C.Cells.is_clean) l.fn.self → AreAnswered l.replies.items → AreClean (clean g.C.Cells.is_clean) l.self;
+  ran : (has : List ℕ → Bool) → has ≡ g.F.Functions.names_function l.functions → AreClean (clean g.C.Cells.is_clean) l.self → (w : World) → Shows (standing g.C.Cells.holding) w (g.G.Guarding.rules l.fn.guard) l.fn.self
       → Run (spoken (g.F.Functions.function_of l.functions) (g.F.Functions.scalar l.functions) (g.F.Functions.step l.functions) (g.F.Functions.finish l.functions) (g.F.Functions.order_of l.functions) (g.F.Functions.orders_total l.functions) has) (closures (g.G.Guarding.allows l.fn.guard) (g.G.Guarding.refuses l.fn.guard)) w (take l.command-index l.commands) l.replies.items
-      × Shows g.C.Cells.holding (world_after (spoken (g.F.Functions.function_of l.functions) (g.F.Functions.scalar l.functions) (g.F.Functions.step l.functions) (g.F.Functions.finish l.functions) (g.F.Functions.order_of l.functions) (g.F.Functions.orders_total l.functions) has) (closures (g.G.Guarding.allows l.fn.guard) (g.G.Guarding.refuses l.fn.guard)) w (take l.command-index l.commands) l.replies.items) (g.G.Guarding.rules l.guard) l.self;
+      × Shows (standing g.C.Cells.holding) (world_after (spoken (g.F.Functions.function_of l.functions) (g.F.Functions.scalar l.functions) (g.F.Functions.step l.functions) (g.F.Functions.finish l.functions) (g.F.Functions.order_of l.functions) (g.F.Functions.orders_total l.functions) has) (closures (g.G.Guarding.allows l.fn.guard) (g.G.Guarding.refuses l.fn.guard)) w (take l.command-index l.commands) l.replies.items) (g.G.Guarding.rules l.guard) l.self;
   closures : closures (g.G.Guarding.allows l.guard) (g.G.Guarding.refuses l.guard) ≡ closures (g.G.Guarding.allows l.fn.guard) (g.G.Guarding.refuses l.fn.guard);
   faithful : g.G.Guarding.is_faithful l.guard;
   count : vec_len l.replies ≡ l.command-index;

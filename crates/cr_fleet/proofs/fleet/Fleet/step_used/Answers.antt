@@ -1,5 +1,6 @@
 use Rattle.std.proofs.Common.{rules, ◌≡◌, ◌<◌, Some, sym, ap, ◌∙◌, refl, length, slice_get, arith}
 use Rattle.std.proofs.lemmas.Option.{slice_get-get_or}
+use Rattle.cr_session.specs.Sessions.{clean, standing}
 use Rattle.cr_fleet.proofs.Stepping.{pair_at, viewed, own_steps}
 use Rattle.cr_fleet.proofs.fleet.Fleet.step_used.Goals as goal
 
@@ -11,5 +12,5 @@ returns g c = λ has names.
     let at : slice_get replicas.items c.in-Some.at ≡ Some c.in-Some-get_mut.named.now = slice_get-get_or replicas.items c.in-Some.at c.in-Some-get_mut.named.now within ∙ ap Some (sym c.in-Some-get_mut.ensures.value) in
     let paired = pair_at replicas.items c.in-Some.at c.in-Some-get_mut.named.now at in
     let place : c.self.inside.in_use ≡ Some c.in-Some.at = search rules in
-    rw (← c.self.view_is) (viewed _ _ g.C.Cells.is_clean g.C.Cells.holding _ replicas.items c.self.inside.in_use c.in-Some.at _ _ _
-    (own_steps _ _ g.C.Cells.is_clean g.C.Cells.holding _ _ c.in-Some.at _ _ place paired stepped.was_clean c.args.command.now c.step.result c.requires.own refl stepped))
+    rw (← c.self.view_is) (viewed _ _ (clean g.C.Cells.is_clean) (standing g.C.Cells.holding) _ replicas.items c.self.inside.in_use c.in-Some.at _ _ _
+    (own_steps _ _ (clean g.C.Cells.is_clean) (standing g.C.Cells.holding) _ _ c.in-Some.at _ _ place paired stepped.was_clean c.args.command.now c.step.result c.requires.own refl stepped))

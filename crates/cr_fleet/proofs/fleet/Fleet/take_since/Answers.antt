@@ -3,6 +3,7 @@ use Rattle.std.proofs.lemmas.List.{length-set, length-map}
 use Rattle.std.proofs.lemmas.Option.{slice_get-get_or}
 use Rattle.cr_cells.specs.Marks.{Mark}
 use Rattle.cr_world.specs.Takings.{changes_above}
+use Rattle.cr_session.specs.Sessions.{clean, standing, state_of}
 use Rattle.cr_fleet.specs.declared.fleet.Named.{Named}
 use Rattle.cr_fleet.proofs.Places.{pair, map_set, within}
 use Rattle.cr_fleet.proofs.Stepping.{pair_at}
@@ -16,8 +17,8 @@ returns-in-Err g c = λ l name o.
     let at : slice_get items c.args.from ≡ Some c.in-Some.peer.now = slice_get-get_or items c.args.from c.in-Some.peer.now inside ∙ ap Some (sym c.in-Some.ensures.value) in
     let there = pair_at items c.args.from c.in-Some.peer.now at in
     rw c.from.ensures (rw (← c.self.view_is) (rw (map_set pair items c.args.from _)
-    (since_unread l _ g.C.Cells.is_clean g.C.Cells.holding _ _ name c.args.at c.args.from c.args.seen (met_peer g.C.Cells.is_clean g.C.Cells.holding _ name c.args.at c.args.from c.args.seen (rw (← c.self.view_is) at o) _ there) _ refl c.changes_above.ensures.was_clean
-    c.in-Err.error c.in-Err.ensures.stays_clean (λ clean. ((c.in-Err.ensures.reads clean).same, (c.in-Err.ensures.reads clean).answers)))))
+    (since_unread l _ (clean g.C.Cells.is_clean) (standing g.C.Cells.holding) _ _ name c.args.at c.args.from c.args.seen (met_peer (clean g.C.Cells.is_clean) (standing g.C.Cells.holding) _ name c.args.at c.args.from c.args.seen (rw (← c.self.view_is) at o) _ there) _ refl c.changes_above.ensures.was_clean
+    c.in-Err.error c.in-Err.ensures.stays_clean (λ clean. ((λ i. state_of ((c.in-Err.ensures.reads clean).same i) (c.changes_above.ensures.pending i)), (c.in-Err.ensures.reads clean).answers)))))
 
 pub returns-then-version-lt0 : goal.returns-then-version-lt0
 returns-then-version-lt0 g c = λ l name o.
@@ -26,8 +27,8 @@ returns-then-version-lt0 g c = λ l name o.
     let at : slice_get items c.args.from ≡ Some c.in-Some.peer.now = slice_get-get_or items c.args.from c.in-Some.peer.now inside ∙ ap Some (sym c.in-Some.ensures.value) in
     let there = pair_at items c.args.from c.in-Some.peer.now at in
     rw (← c.self.view_is) (rw (map_set pair items c.args.from _)
-    (since_no_version l _ g.C.Cells.is_clean g.C.Cells.holding _ _ name c.args.at c.args.from c.args.seen (met_peer g.C.Cells.is_clean g.C.Cells.holding _ name c.args.at c.args.from c.args.seen (rw (← c.self.view_is) at o) _ there) _ refl c.changes_above.ensures.was_clean
-    (λ clean. (c.in-Ok.ensures.reads clean).same)))
+    (since_no_version l _ (clean g.C.Cells.is_clean) (standing g.C.Cells.holding) _ _ name c.args.at c.args.from c.args.seen (met_peer (clean g.C.Cells.is_clean) (standing g.C.Cells.holding) _ name c.args.at c.args.from c.args.seen (rw (← c.self.view_is) at o) _ there) _ refl c.changes_above.ensures.was_clean
+    (λ clean i. state_of ((c.in-Ok.ensures.reads clean).same i) (c.changes_above.ensures.pending i))))
 
 pub returns-in_default-get_mut : goal.returns-in_default-get_mut
 returns-in_default-get_mut g c = λ l name o.
@@ -52,7 +53,7 @@ returns g c = λ l name o.
     let version_fits : SFits w64 c.version-version.result = search rules in
     let mark : Mark = (c.site-site.result, to_z w64 (of_z w64 c.version-version.result)) in
     rw c.reply_of.ensures (rw (← c.self.view_is) (rw (map_set pair mid c.args.at _, map_set pair items c.args.from peer)
-    (since_taken l _ g.C.Cells.is_clean g.C.Cells.holding _ _ name c.args.at c.args.from c.args.seen (met_peer g.C.Cells.is_clean g.C.Cells.holding _ name c.args.at c.args.from c.args.seen (rw (← c.self.view_is) at o) _ there) _ refl c.changes_above.ensures.was_clean
-    (λ clean. (c.in-Ok.ensures.reads clean).same) c.in-Ok.changes.items c.in-Ok.ensures.stays_clean (λ clean. (c.in-Ok.ensures.reads clean).answers ∙ ap (changes_above (g.C.Cells.holding c.in-Some.peer.now.session)) (to_z-of_z fits))
+    (since_taken l _ (clean g.C.Cells.is_clean) (standing g.C.Cells.holding) _ _ name c.args.at c.args.from c.args.seen (met_peer (clean g.C.Cells.is_clean) (standing g.C.Cells.holding) _ name c.args.at c.args.from c.args.seen (rw (← c.self.view_is) at o) _ there) _ refl c.changes_above.ensures.was_clean
+    (λ clean i. state_of ((c.in-Ok.ensures.reads clean).same i) (c.changes_above.ensures.pending i)) c.in-Ok.changes.items c.in-Ok.ensures.stays_clean (λ clean. (c.in-Ok.ensures.reads clean).answers ∙ ap (changes_above (g.C.Cells.holding c.in-Some.peer.now.session.0)) (to_z-of_z fits))
     mark (λ clean. (λ i. (c.site-site.ensures clean i, (to_z-of_z version_fits ∙ c.version-version.ensures clean) i)) ∙ (λ i. (((c.in-Ok.ensures.reads clean).same i).site, ((c.in-Ok.ensures.reads clean).same i).version)))
     _ _ paired_mid refl c.take_all.result (rw c.deref.ensures.value at c.take_all.ensures))))

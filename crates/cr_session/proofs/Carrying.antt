@@ -1,0 +1,381 @@
+-- A statement is carried out as what it is once its names are resolved.
+use Rattle.std.proofs.Common.{◌≡◌, ◌⊎◌, inl, inr, ℕ, Bool, true, false, ◌&&◌, cond, List, [], Option, Some, None, option_map, Result, Ok, Err, refl, sym, ap, subst, ◌∙◌}
+use Rattle.std.specs.Prelude.{not, unwrap_or, if◌then◌else◌}
+use Rattle.std.specs.Option.{option_map_or}
+use Rattle.cr_value.specs.declared.value.Value.{Value}
+use Rattle.cr_lattice.specs.declared.catalog.Catalog.{Catalog}
+use Rattle.cr_tree.specs.declared.statement.Mode.{Mode}
+use Rattle.cr_tree.specs.declared.statement.Select.{Select}
+use Rattle.cr_tree.specs.declared.statement.Statement.{Statement}
+use Rattle.cr_tree.specs.declared.statement.Statement.TheVariants as s
+use Rattle.cr_term.specs.declared.query.Resolved.{Resolved as Answered}
+use Rattle.cr_term.specs.declared.query.Resolved.TheVariants as r
+use Rattle.cr_host.specs.declared.function.Definition.{Definition}
+use Rattle.cr_scalar.specs.Host.{Host as Means, host as means_of}
+use Rattle.cr_meaning.specs.View.{Ordered}
+use Rattle.cr_meaning.specs.Meaning.{exact, sized}
+use Rattle.cr_resolve.specs.Parameters.{fits}
+use Rattle.cr_resolve.specs.Known.{Known}
+use Rattle.cr_resolve.specs.Resolve.{marked, read, resolved, select_or_mark}
+use Rattle.cr_questions.specs.Questions.{Answers as Questioned, left_of}
+use Rattle.cr_fit.proofs.Suiting.{judged_left}
+use Rattle.cr_cells.specs.declared.store.CellsError.{CellsError}
+use Rattle.cr_cells.specs.Calls as calls
+use Rattle.cr_cells.specs.Holding.{Holding}
+use Rattle.cr_lattice.specs.declared.change.Change.{Change}
+use Rattle.cr_replica.specs.declared.snapshot.Snapshot.{Snapshot}
+use Rattle.cr_snapshot.specs.Seen.{IsSeen}
+use Rattle.cr_snapshot.proofs.Standing.{catalog_is}
+use Rattle.cr_world.specs.declared.command.Reply.{Reply}
+use Rattle.cr_world.specs.declared.refusal.Refusal.{Refusal}
+use Rattle.cr_world.specs.declared.refusal.Refusal.TheVariants as refusal
+use Rattle.cr_world.specs.Causes.{Cause, IsWant, Tells, or_else, of_result, where_true, first_cause}
+use Rattle.cr_world.specs.Language.{Language}
+use Rattle.cr_world.specs.Resolved.{Resolved}
+use Rattle.cr_world.specs.Resolved as world
+use Rattle.cr_world.specs.State.{State, catalog, in_transaction}
+use Rattle.cr_world.specs.Statement as statement
+use Rattle.cr_world.specs.Statement.{Host, Answers, stepped, cause_of, later_cause, rows_of, reply_to, left_by, result_ok, evaluated, causes_of, is_memory, ended, ends}
+use Rattle.cr_language.specs.Engines.{OrderOf, AreTotal, engine}
+use Rattle.cr_language.specs.Sql.{known as known_in, view, viewed, of_unresolved}
+use Rattle.cr_language.specs.SoFar.{is_carried_out, not_carried_out}
+use Rattle.cr_answer.specs.Allowing.{Allows, IsRefused, known_by}
+use Rattle.cr_resolve.specs.declared.refusal.Refusal.{Refusal as Unresolved}
+use Rattle.cr_world.specs.Refusals.{is_want, of_store}
+use Rattle.cr_session.specs.Performing.{Performs, Performed, Permits, against, is_commit, is_performed, is_transaction, refused}
+use Rattle.cr_session.specs.Sessions.{Sees, SessionOf, clean, standing, state_of}
+use Rattle.cr_session.proofs.Takings.{want_of_store, wanting}
+use Rattle.cr_session.specs.Scripts.{Carries}
+use Rattle.cr_session.specs.Speaking.{spoken}
+
+same_anyhow : {X : Type 0} (b c : Bool) (x : X) → cond b x (cond c x x) ≡ x
+same_anyhow true c x = refl
+same_anyhow false true x = refl
+same_anyhow false false x = refl
+
+-- ---- forms
+
+left_form : (answers : Questioned) (y : Answered) → is_performed (left_of answers y) ≡ is_performed y
+left_form answers (r.Select q) = refl
+left_form answers (r.MarkReplicated m) = refl
+left_form answers (r.Insert i) = refl
+left_form answers (r.Update u) = refl
+left_form answers (r.Delete d) = refl
+left_form answers (r.Create c) = refl
+left_form answers (r.Alter a) = refl
+left_form answers r.Begin = refl
+left_form answers r.Commit = refl
+left_form answers r.Rollback = refl
+
+select_form : (known : Known) (q : Select) (o : Option (List ℕ)) → is_performed (select_or_mark known q o).made ≡ true
+select_form known q None = refl
+select_form known q (Some name) = refl
+
+read_form : (known : Known) (x : Statement) → is_carried_out x ≡ true → is_transaction x ≡ false → is_performed (read known x).made ≡ true
+read_form known (s.Select q) e other = select_form known q (marked q)
+read_form known (s.Insert i) e other = refl
+read_form known (s.Update u) e other = refl
+read_form known (s.Delete d) e other = refl
+read_form known (s.Create c) e other = refl
+read_form known (s.Alter a) e other = absurd (let z : ⊥ = cc in z)
+read_form known (s.Begin mode) e other = absurd (let z : ⊥ = cc in z)
+read_form known s.Commit e other = absurd (let z : ⊥ = cc in z)
+read_form known s.Rollback e other = absurd (let z : ⊥ = cc in z)
+
+-- a statement of a form that is carried out, and that neither opens nor ends a transaction, stays one
+pub form_is : (known : Known) (answers : Questioned) (x : Statement) (y : Answered) → is_carried_out x ≡ true → is_transaction x ≡ false → resolved known answers x ≡ Ok y → is_performed y ≡ true
+form_is known answers x y out other e = ap is_performed (judged_left known answers x y e).0 ∙ left_form answers (read known x).made ∙ read_form known x out other
+
+-- and is no COMMIT
+not_commit : (y : Answered) → is_performed y ≡ true → is_commit (view y) ≡ false
+not_commit (r.Select q) e = refl
+not_commit (r.MarkReplicated m) e = refl
+not_commit (r.Insert i) e = refl
+not_commit (r.Update u) e = refl
+not_commit (r.Delete d) e = refl
+not_commit (r.Create c) e = refl
+not_commit (r.Alter a) e = refl
+not_commit r.Begin e = refl
+not_commit r.Commit e = absurd (let z : ⊥ = cc in z)
+not_commit r.Rollback e = refl
+
+none_of : (a b : Bool) → (a && (b && false)) ≡ false
+none_of true true = refl
+none_of true false = refl
+none_of false b = refl
+
+ended_so : (st end : State) (wants commits opened : Bool) → cond wants st (cond (commits && (opened && true)) end st) ≡ cond (commits && (opened && not wants)) end st
+ended_so st end true true true = refl
+ended_so st end true true false = refl
+ended_so st end true false opened = refl
+ended_so st end false true true = refl
+ended_so st end false true false = refl
+ended_so st end false false opened = refl
+
+-- ---- what opens or ends a transaction
+
+carried_out_too : (x : Statement) → is_transaction x ≡ true → is_carried_out x ≡ true
+carried_out_too (s.Begin mode) e = refl
+carried_out_too s.Commit e = refl
+carried_out_too s.Rollback e = refl
+carried_out_too (s.Select q) e = absurd (let z : ⊥ = cc in z)
+carried_out_too (s.Insert i) e = absurd (let z : ⊥ = cc in z)
+carried_out_too (s.Update u) e = absurd (let z : ⊥ = cc in z)
+carried_out_too (s.Delete d) e = absurd (let z : ⊥ = cc in z)
+carried_out_too (s.Create c) e = absurd (let z : ⊥ = cc in z)
+carried_out_too (s.Alter a) e = absurd (let z : ⊥ = cc in z)
+
+pub rollback_is : (x : Statement) → is_transaction x ≡ true → ((mode : Option Mode) → x ≡ s.Begin mode → ⊥) → (x ≡ s.Commit → ⊥) → x ≡ s.Rollback
+rollback_is (s.Begin mode) e no_begin no_commit = absurd (no_begin mode refl)
+rollback_is s.Commit e no_begin no_commit = absurd (no_commit refl)
+rollback_is s.Rollback e no_begin no_commit = refl
+rollback_is (s.Select q) e no_begin no_commit = absurd (let z : ⊥ = cc in z)
+rollback_is (s.Insert i) e no_begin no_commit = absurd (let z : ⊥ = cc in z)
+rollback_is (s.Update u) e no_begin no_commit = absurd (let z : ⊥ = cc in z)
+rollback_is (s.Delete d) e no_begin no_commit = absurd (let z : ⊥ = cc in z)
+rollback_is (s.Create c) e no_begin no_commit = absurd (let z : ⊥ = cc in z)
+rollback_is (s.Alter a) e no_begin no_commit = absurd (let z : ⊥ = cc in z)
+
+-- ---- a statement of any language
+
+module _ {S E : Type 0} (l : Language S E) (host : Host) (h : Holding) (pending : Option (List Change)) (x : S) where
+  abbrev at : State
+  at = state_of h pending
+
+  -- the reply may be given, and what is left is this
+  abbrev pub Replies : Result Reply Refusal → State → Type 0
+  Replies result new = Answers l host at [] x result [] × (stepped l host at [] x result [] ≡ new)
+
+  -- the cause, by what the statement is resolved to and whether its parameters fit
+  abbrev pub early_with : Result (Resolved E) Refusal → Bool → Cause
+  early_with o b = or_else (of_result o) (where_true (not b) refusal.Parameters)
+
+  abbrev pub cause_with : Result (Resolved E) Refusal → Bool → Cause
+  cause_with o b = or_else (early_with o b) (later_cause l host at [] (result_ok o))
+
+  pub cause_is : (o : Result (Resolved E) Refusal) (b : Bool) → l.resolved (catalog at) host.ask x ≡ o → l.fits x 0 ≡ b → cause_of l host at [] x ≡ cause_with o b
+  cause_is o b e f = λ i. cause_with (e i) (f i)
+
+  -- ---- it ends no transaction
+
+  abbrev pub ends_with : Result (Resolved E) Refusal → Bool → Bool
+  ends_with o b = statement.is_commit l host at [] (result_ok o) && (in_transaction at && statement.is_free l host at [] (early_with o b))
+
+  abbrev pub Lasts : Type 0
+  Lasts = ends l host at [] x ≡ false
+
+  lasts_unresolved : (f : Refusal) → l.resolved (catalog at) host.ask x ≡ Err f → Lasts
+  lasts_unresolved f e = λ i. ends_with (e i) (l.fits x 0)
+
+  lasts_unfit : (y : Resolved E) → l.resolved (catalog at) host.ask x ≡ Ok y → l.fits x 0 ≡ false → Lasts
+  lasts_unfit y e f = (λ i. ends_with (e i) (f i)) ∙ none_of (statement.is_commit l host at [] (Some y)) (in_transaction at)
+
+  pub lasts_other : statement.is_commit l host at [] (result_ok (l.resolved (catalog at) host.ask x)) ≡ false → Lasts
+  lasts_other e = ap (λ (b : Bool). b && (in_transaction at && statement.is_free l host at [] (early_with (l.resolved (catalog at) host.ask x) (l.fits x 0)))) e
+
+  -- ---- it is refused
+
+  pub refused_for : (f : Refusal) → Lasts → IsWant f ⊎ Tells (cause_of l host at [] x) f → Replies (Err f) at
+  refused_for f lasts told = ((told, refl), ap (λ (b : Bool). cond (is_memory f) at (cond b (ended at) at)) lasts ∙ same_anyhow (is_memory f) false at)
+
+  -- for want of memory, whatever it is
+  pub wants : Replies (Err refusal.Memory) at
+  wants = ((inl (inl refl), refl), refl)
+
+  pub not_resolved : (f : Refusal) → l.resolved (catalog at) host.ask x ≡ Err f → Replies (Err f) at
+  not_resolved f e = refused_for f (lasts_unresolved f e) (inr (subst (λ (c : Cause). Tells c f) (sym (cause_is (Err f) (l.fits x 0) e refl)) refl))
+
+  pub not_fitting : (y : Resolved E) → l.resolved (catalog at) host.ask x ≡ Ok y → l.fits x 0 ≡ false → Replies (Err refusal.Parameters) at
+  not_fitting y e f = refused_for refusal.Parameters (lasts_unfit y e f) (inr (subst (λ (c : Cause). Tells c refusal.Parameters) (sym (cause_is (Ok y) false e f)) refl))
+
+-- ---- a statement of this project's SQL
+
+commit_same : (l : Language Statement Ordered) (host : Host) (st : State) (v : Resolved Ordered) → statement.is_commit l host st [] (Some v) ≡ is_commit v
+commit_same l host st (world.Select names q) = refl
+commit_same l host st (world.Mark t b) = refl
+commit_same l host st (world.Insert t w) = refl
+commit_same l host st (world.Update t w) = refl
+commit_same l host st (world.Delete t w) = refl
+commit_same l host st (world.Create def b) = refl
+commit_same l host st (world.Alter t col) = refl
+commit_same l host st world.Begin = refl
+commit_same l host st world.Commit = refl
+commit_same l host st world.Rollback = refl
+
+module _ (l : Language Statement Ordered) (means : Means) (host : Host) (h : Holding) (pending : Option (List Change)) (x : Statement) (y : Answered)
+    (e : l.resolved (catalog (state_of h pending)) host.ask x ≡ Ok (view y)) (f : l.fits x 0 ≡ true) (ex : l.exact [] ≡ exact means []) (sz : l.sized [] ≡ sized means []) where
+  abbrev st : State
+  st = state_of h pending
+
+  against_is : cause_of l host st [] x ≡ against means host st (view y)
+  against_is = cause_is l host h pending x (Ok (view y)) true e f ∙ (λ i. first_cause (causes_of host st (view y) (evaluated (ex i) st (view y)) (evaluated (sz i) st (view y))))
+
+  -- where it leaves a session that refuses it
+  ends_so : (g : Refusal) → stepped l host st [] x (Err g) [] ≡ refused st (view y) g
+  ends_so g =
+      (λ i. cond (is_memory g) st (cond (ends_with l host h pending x (e i) (f i)) (ended st) st))
+      ∙ ap (λ (b : Bool). cond (is_memory g) st (cond (b && (in_transaction st && true)) (ended st) st)) (commit_same l host st (view y))
+      ∙ ended_so st (ended st) (is_memory g) (is_commit (view y)) (in_transaction st)
+
+  -- what it replies and leaves is what it does once its names are resolved
+  pub replies_performed : (result : Result Reply Refusal) (new : State) → Performs means host st (view y) result new → Replies l host h pending x result new
+  replies_performed (Ok reply) new p = (
+    (
+      against_is ∙ p.0,
+      ap (λ (o : Result (Resolved Ordered) Refusal). option_map (λ r. reply_to r (rows_of l host st [] r)) (result_ok o)) e
+          ∙ (λ i. Some (reply_to (view y) (unwrap_or (evaluated (sz i) st (view y)) []))) ∙ ap Some (sym p.1.0),
+      tt,
+    ),
+    ap (λ (o : Result (Resolved Ordered) Refusal). option_map_or (λ r. left_by st r (rows_of l host st [] r) []) (result_ok o) st) e
+        ∙ (λ i. left_by st (view y) (unwrap_or (evaluated (sz i) st (view y)) []) []) ∙ sym p.1.1,
+  )
+  replies_performed (Err g) new p = ((subst (λ (c : Cause). IsWant g ⊎ Tells c g) (sym against_is) p.0, refl), ends_so g ∙ sym p.1)
+
+module _ {C : Type 0} (function_of : List ℕ → ℕ → Option Definition) (scalar : ℕ → List Value → Result Value (List ℕ)) (step : ℕ → Value → List Value → Result Value (List ℕ)) (finish : ℕ → Value → Result Value (List ℕ))
+    (order_of : OrderOf) (total : AreTotal order_of) (has named : List ℕ → Bool) (names : has ≡ named) (under : Host) (is_clean : C → Type 0) (holding : C → Holding) where
+  abbrev language : Language Statement Ordered
+  language = spoken function_of scalar step finish order_of total has
+
+  abbrev means : Means
+  means = means_of function_of scalar step finish order_of
+
+  abbrev known_at : Catalog → (List ℕ → Bool) → Known
+  known_at c f = known_in (engine function_of scalar step finish order_of total f) c
+
+  abbrev resolved_by : Statement → Catalog → (List ℕ → Bool) → Result (Resolved Ordered) Refusal
+  resolved_by x c f = viewed (resolved (known_at c f) under.ask x)
+
+  abbrev Does : SessionOf C → Statement → Result Reply Refusal → SessionOf C → Type 0
+  Does old x result new = Carries language under (clean is_clean) (standing holding) old x result new
+
+  -- over the snapshot the statement is what it is in the session
+  abbrev pub Agrees : State → Snapshot → Statement → Type 0
+  Agrees st snap x = language.resolved (catalog st) under.ask x ≡ viewed (resolved (known_by function_of named order_of snap) under.ask x)
+
+  carried_out : (c : Catalog) (x : Statement) → is_carried_out x ≡ true → language.resolved c under.ask x ≡ resolved_by x c has
+  unfolding spoken
+  carried_out c x out = ap (λ (b : Bool). if b then resolved_by x c has else Err (not_carried_out x)) out
+
+  -- as the snapshot's catalog is the session's
+  resolves : (st : State) (snap : Snapshot) (x : Statement) → is_carried_out x ≡ true → IsSeen st snap → Agrees st snap x
+  resolves st snap x out is = carried_out (catalog st) x out ∙ (λ i. resolved_by x (catalog_is st snap is i) (names i))
+
+  -- or it names nothing
+  nothing_named : (known other : Known) (x : Statement) → is_transaction x ≡ true → resolved known under.ask x ≡ resolved other under.ask x
+  nothing_named known other (s.Begin mode) e = refl
+  nothing_named known other s.Commit e = refl
+  nothing_named known other s.Rollback e = refl
+  nothing_named known other (s.Select q) e = absurd (let z : ⊥ = cc in z)
+  nothing_named known other (s.Insert i) e = absurd (let z : ⊥ = cc in z)
+  nothing_named known other (s.Update u) e = absurd (let z : ⊥ = cc in z)
+  nothing_named known other (s.Delete d) e = absurd (let z : ⊥ = cc in z)
+  nothing_named known other (s.Create c) e = absurd (let z : ⊥ = cc in z)
+  nothing_named known other (s.Alter a) e = absurd (let z : ⊥ = cc in z)
+
+  transacts : (st : State) (snap : Snapshot) (x : Statement) → is_transaction x ≡ true → Agrees st snap x
+  transacts st snap x of = carried_out (catalog st) x (carried_out_too x of) ∙ ap viewed (nothing_named (known_at (catalog st) has) (known_by function_of named order_of snap) x of)
+
+  counts : (x : Statement) → language.fits x 0 ≡ fits x 0
+  unfolding spoken
+  counts x = refl
+
+  exactly : language.exact [] ≡ exact means []
+  unfolding spoken
+  exactly = refl
+
+  limited : language.sized [] ≡ sized means []
+  unfolding spoken
+  limited = refl
+
+  -- ---- it may not be carried out
+
+  refused_told : (h : Holding) (pending : Option (List Change)) (snap : Snapshot) (x : Statement) (f : Refusal) → Agrees (state_of h pending) snap x
+      → (f ≡ refusal.Memory) ⊎ IsRefused (known_by function_of named order_of snap) under.ask x 0 f → Replies language under h pending x (Err f) (state_of h pending)
+  refused_told h pending snap x f agrees (inl memory) = subst (λ (g : Refusal). Replies language under h pending x (Err g) (state_of h pending)) (sym memory) (wants language under h pending x)
+  refused_told h pending snap x f agrees (inr (inl u)) =
+      subst (λ (g : Refusal). Replies language under h pending x (Err g) (state_of h pending)) (sym u.1.1) (not_resolved language under h pending x (of_unresolved u.0) (agrees ∙ ap viewed u.1.0))
+  refused_told h pending snap x f agrees (inr (inr y)) =
+      subst (λ (g : Refusal). Replies language under h pending x (Err g) (state_of h pending)) (sym y.1.1.1) (not_fitting language under h pending x (view y.0) (agrees ∙ ap viewed y.1.0) (counts x ∙ y.1.1.0))
+
+  -- a statement that may not be carried out is refused, and nothing is changed
+  refused_so : (old new : SessionOf C) (x : Statement) (snap : Snapshot) (f : Refusal)
+      → (is_clean new.0 → is_clean old.0) → (is_clean old.0 → is_clean new.0) → (is_clean new.0 → Agrees (standing holding old) snap x) → (is_clean new.0 → standing holding new ≡ standing holding old)
+      → Allows (known_by function_of named order_of snap) under.ask x 0 (Err f) → Does old x (Err f) new
+  refused_so old new x snap f was stays agrees same h = record {
+    was_clean = was;
+    stays_clean = λ clean told. stays clean;
+    answers = λ clean. (refused_told (holding old.0) old.1 snap x f (agrees clean) h).0;
+    leaves = λ clean. (refused_told (holding old.0) old.1 snap x f (agrees clean) h).1 ∙ sym (same clean);
+  }
+
+  pub refuses_allowed : (old new : SessionOf C) (x : Statement) (snap : Snapshot) (f : Refusal) → is_carried_out x ≡ true
+      → (is_clean new.0 → is_clean old.0) → (is_clean old.0 → is_clean new.0) → (is_clean new.0 → Sees (standing holding old) (standing holding new) (Ok snap))
+      → Allows (known_by function_of named order_of snap) under.ask x 0 (Err f) → Does old x (Err f) new
+  refuses_allowed old new x snap f out was stays sees h =
+      refused_so old new x snap f was stays (λ clean. resolves (standing holding old) snap x out (sees clean).sees) (λ clean. (sees clean).same) h
+
+  pub refuses_permitted : (old : SessionOf C) (x : Statement) (snap : Snapshot) (f : Refusal) → is_transaction x ≡ true
+      → Allows (known_by function_of named order_of snap) under.ask x 0 (Err f) → Does old x (Err f) old
+  refuses_permitted old x snap f of h =
+      refused_so old old x snap f (λ clean. clean) (λ clean. clean) (λ clean. transacts (standing holding old) snap x of) (λ clean. refl) h
+
+  -- ---- what is seen can't be read
+
+  last_by : (here : State) (x : Statement) → is_carried_out x ≡ true → is_transaction x ≡ false → (o : Result Answered Unresolved) → resolved (known_at (catalog here) has) under.ask x ≡ o
+      → statement.is_commit language under here [] (result_ok (viewed o)) ≡ false
+  last_by here x out other (Ok y) e = commit_same language under here (view y) ∙ not_commit y (form_is (known_at (catalog here) has) under.ask x y out other e)
+  last_by here x out other (Err u) e = refl
+
+  lasts : (h : Holding) (pending : Option (List Change)) (x : Statement) → is_carried_out x ≡ true → is_transaction x ≡ false → Lasts language under h pending x
+  lasts h pending x out other =
+      lasts_other language under h pending x
+      (ap (λ (o : Result (Resolved Ordered) Refusal). statement.is_commit language under (state_of h pending) [] (result_ok o)) (carried_out (catalog (state_of h pending)) x out)
+      ∙ last_by (state_of h pending) x out other (resolved (known_at (catalog (state_of h pending)) has) under.ask x) refl)
+
+  pub unread_refuses : (old new : SessionOf C) (x : Statement) (e : CellsError) (f : Refusal) → f ≡ of_store e → is_carried_out x ≡ true → is_transaction x ≡ false
+      → (is_clean new.0 → is_clean old.0) → (is_clean old.0 → calls.is_want e ≡ false → is_clean new.0) → (is_clean new.0 → Sees (standing holding old) (standing holding new) (Err e)) → Does old x (Err f) new
+  unread_refuses old new x e f told out other was stays sees = record {
+    was_clean = was;
+    stays_clean = λ clean want. stays clean (sym (want_of_store e) ∙ ap is_want (sym told) ∙ want);
+    answers = λ clean. (replied clean).0;
+    leaves = λ clean. (replied clean).1 ∙ sym (sees clean).same;
+  } where
+    replied : is_clean new.0 → Replies language under (holding old.0) old.1 x (Err f) (standing holding old)
+    replied clean = refused_for language under (holding old.0) old.1 x f (lasts (holding old.0) old.1 x out other) (inl (subst IsWant (sym told) (wanting e (sees clean).sees)))
+
+  -- ---- it is carried out as what it is once its names are resolved
+
+  module _ (old middle new : SessionOf C) (x : Statement) (snap : Snapshot) (y : Answered) (result : Result Reply Refusal) (out : is_carried_out x ≡ true)
+      (sees : is_clean middle.0 → Sees (standing holding old) (standing holding middle) (Ok snap))
+      (allows : Allows (known_by function_of named order_of snap) under.ask x 0 (Ok y)) (done : Performed means under (clean is_clean) (standing holding) middle y result new) where
+    replied : is_clean new.0 → Replies language under (holding old.0) old.1 x result (standing holding new)
+    replied clean =
+        let first = sees (done.was_clean clean) in
+        replies_performed language means under (holding old.0) old.1 x y (resolves (standing holding old) snap x out first.sees ∙ ap viewed allows.0) (counts x ∙ allows.1) exactly limited
+        result (standing holding new) (subst (λ (st : State). Performs means under st (view y) result (standing holding new)) first.same (done.performs clean))
+
+    pub carries_performed : (is_clean middle.0 → is_clean old.0) → (is_clean old.0 → is_clean middle.0) → Does old x result new
+    carries_performed was stays = record {
+      was_clean = λ clean. was (done.was_clean clean);
+      stays_clean = λ clean. done.stays_clean (stays clean);
+      answers = λ clean. (replied clean).0;
+      leaves = λ clean. (replied clean).1;
+    }
+
+  -- a statement that opens or ends a transaction
+  module _ (old new : SessionOf C) (x : Statement) (snap : Snapshot) (z : Answered) (result : Result Reply Refusal) (of : is_transaction x ≡ true)
+      (is : (answers : Questioned) (known : Known) → left_of answers (read known x).made ≡ z) (done : Performed means under (clean is_clean) (standing holding) old z result new) where
+    transacted : Permits (known_by function_of named order_of snap) under.ask x (Ok tt) → is_clean new.0 → Replies language under (holding old.0) old.1 x result (standing holding new)
+    transacted permits clean =
+        let y : Answered = permits.0 in
+        let same : y ≡ z = (judged_left (known_by function_of named order_of snap) under.ask x y permits.1.0).0 ∙ is under.ask (known_by function_of named order_of snap) in
+        replies_performed language means under (holding old.0) old.1 x z (transacts (standing holding old) snap x of ∙ ap viewed (permits.1.0 ∙ ap Ok same)) (counts x ∙ permits.1.1) exactly limited
+        result (standing holding new) (done.performs clean)
+
+    pub carries_transacted : Permits (known_by function_of named order_of snap) under.ask x (Ok tt) → Does old x result new
+    carries_transacted permits = record {
+      was_clean = done.was_clean;
+      stays_clean = done.stays_clean;
+      answers = λ clean. (transacted permits clean).0;
+      leaves = λ clean. (transacted permits clean).1;
+    }

@@ -1,0 +1,12 @@
+pub mod Seeing
+pub mod Takings
+pub mod Defining
+pub mod Scripting
+pub mod Turning
+pub mod Selecting
+pub mod Carrying
+pub mod Making
+pub mod Changing
+pub mod Committing
+pub mod Receiving
+pub mod Transactions

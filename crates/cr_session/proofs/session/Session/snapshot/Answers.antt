@@ -1,0 +1,18 @@
+use Rattle.std.proofs.Common.{◌≡◌, ◌∙◌, ap, option_map, List}
+use Rattle.cr_lattice.specs.Keep.{join}
+use Rattle.cr_session.proofs.Seeing.{sees_inside, sees_outside, whole_inside}
+use Rattle.cr_session.proofs.session.Session.snapshot.Goals as goal
+
+pub returns-in_default-clause-sees : goal.returns-in_default-clause-sees
+returns-in_default-clause-sees g c = λ clean.
+    sees_outside g.C.Cells.holding c.args.self.now c.self.inside.replica c.snapshot.new.self (option_map (λ v. v.items) c.self.inside.pending) c.self.view_is c.in-Ok.snapshot (c.in-Ok.ensures.reads clean)
+    (ap (option_map (λ v. v.items)) c.in_default.is)
+
+pub returns-clause-sees : goal.returns-clause-sees
+returns-clause-sees g c = λ clean.
+    sees_inside g.C.Cells.holding c.args.self.now c.self.inside.replica c.snapshot.new.self (option_map (λ v. v.items) c.self.inside.pending) c.self.view_is c.in-Ok.snapshot (c.in-Ok.ensures.reads clean)
+    c.in-Some.pending.items c.new.result (ap (option_map (λ v. v.items)) c.in-Some.is) (c.new.ensures ∙ c.in_ok-kept.ensures ∙ (λ i. join (c.as_slice.ensures i) (c.deref.ensures.value i)))
+
+pub returns-clause-whole : goal.returns-clause-whole
+returns-clause-whole g c =
+    whole_inside c.in-Some.pending.items c.new.result c.in-Ok.snapshot c.in-Ok.ensures.whole (c.new.ensures ∙ c.in_ok-kept.ensures ∙ (λ i. join (c.as_slice.ensures i) (c.deref.ensures.value i)))

@@ -1,0 +1,4 @@
+pub mod Sessions
+pub mod Speaking
+pub mod Scripts
+pub mod Performing

@@ -1,0 +1,149 @@
+-- What a session makes of a statement that may be carried out. Source: this project's own.
+use Rattle.std.specs.Prelude.{◌≡◌, ◌⊎◌, ◌&&◌, ℕ, Bool, true, false, not, cond, List, [], ◌∷◌, unwrap_or, Option, None, Result, Ok, Err}
+use Rattle.cr_lattice.specs.declared.change.Change.{Change}
+use Rattle.cr_cells.specs.Calls.{UnlessWant, is_past_limit}
+use Rattle.cr_cells.specs.Holding.{kept_of}
+use Rattle.cr_cells.specs.Commit.{newly_kept}
+use Rattle.cr_tree.specs.declared.statement.Statement.{Statement}
+use Rattle.cr_tree.specs.declared.statement.Statement.TheVariants as s
+use Rattle.cr_questions.specs.Questions.{Answers}
+use Rattle.cr_resolve.specs.Known.{Known}
+use Rattle.cr_answer.specs.Allowing.{Allows}
+use Rattle.cr_term.specs.declared.query.Held.{Held}
+use Rattle.cr_term.specs.declared.query.Held.TheVariants as held
+use Rattle.cr_term.specs.declared.query.Relation.{Relation}
+use Rattle.cr_term.specs.declared.query.Resolved.{Resolved}
+use Rattle.cr_term.specs.declared.query.Resolved.TheVariants as r
+use Rattle.cr_scalar.specs.Host.{Host as Means}
+use Rattle.cr_meaning.specs.View.{Ordered}
+use Rattle.cr_meaning.specs.Meaning.{exact, sized}
+use Rattle.cr_query.specs.Query.{Row}
+use Rattle.cr_language.specs.Sql.{view}
+use Rattle.cr_world.specs.declared.command.Reply.{Reply}
+use Rattle.cr_world.specs.declared.command.Reply.TheVariants.{Done}
+use Rattle.cr_world.specs.declared.refusal.Refusal.{Refusal}
+use Rattle.cr_world.specs.declared.refusal.Refusal.TheVariants as refusal
+use Rattle.cr_world.specs.Refusals.{is_want}
+use Rattle.cr_world.specs.Causes.{Cause, Free, Tells, IsWant, first_cause, where_true}
+use Rattle.cr_world.specs.Resolved.{Resolved as Viewed}
+use Rattle.cr_world.specs.Resolved as viewed
+use Rattle.cr_world.specs.State.{State, in_transaction}
+use Rattle.cr_world.specs.Takings.{taking}
+use Rattle.cr_world.specs.Statement.{Host, adding, causes_of, ended, evaluated, is_memory, left_by, reply_to}
+
+-- passed where nothing holds; else what holds is told, or there is no memory to tell it
+abbrev pub Passes : Cause → Result (Unit {0}) Refusal → Type 0
+Passes c (Ok u) = c ≡ Free
+Passes c (Err f) = (f ≡ refusal.Memory) ⊎ Tells c f
+
+abbrev pub is_table : Held → Bool
+is_table (held.Table at is_replicated) = true
+is_table (held.Module at) = false
+
+-- a table that is not replicated
+abbrev pub unreplicated : Held → List ℕ → Cause
+unreplicated (held.Table at is_replicated) name = where_true (not is_replicated) (refusal.NotYet name)
+unreplicated (held.Module at) name = Free
+
+abbrev pub not_replicated : Relation → Cause
+not_replicated x = unreplicated x.held x.definition.name
+
+-- ---- transactions
+
+-- a statement that opens or ends one
+abbrev pub is_transaction : Statement → Bool
+is_transaction (s.Select q) = false
+is_transaction (s.Insert i) = false
+is_transaction (s.Update u) = false
+is_transaction (s.Delete d) = false
+is_transaction (s.Create c) = false
+is_transaction (s.Alter a) = false
+is_transaction (s.Begin mode) = true
+is_transaction s.Commit = true
+is_transaction s.Rollback = true
+
+abbrev pub is_commit : Viewed Ordered → Bool
+is_commit viewed.Commit = true
+is_commit x = false
+
+-- where a refused statement leaves a session: where it stood; but a COMMIT inside a transaction ends it, unless memory is
+-- wanting
+abbrev pub refused : State → Viewed Ordered → Refusal → State
+refused st x f = cond (is_commit x && (in_transaction st && not (is_memory f))) (ended st) st
+
+-- the statement is allowed, or why it isn't
+abbrev pub Permits : Known → Answers → Statement → Result (Unit {0}) Refusal → Type 0
+Permits known answers x (Ok u) = (y : Resolved) × Allows known answers x 0 (Ok y)
+Permits known answers x (Err f) = Allows known answers x 0 (Err f)
+
+-- ---- what is carried out
+
+-- a statement of a form that is carried out and neither opens nor ends a transaction
+abbrev pub is_performed : Resolved → Bool
+is_performed (r.Select q) = true
+is_performed (r.MarkReplicated m) = true
+is_performed (r.Insert i) = true
+is_performed (r.Update u) = true
+is_performed (r.Delete d) = true
+is_performed (r.Create c) = true
+is_performed (r.Alter a) = false
+is_performed r.Begin = false
+is_performed r.Commit = false
+is_performed r.Rollback = false
+
+module _ (means : Means) (host : Host) (st : State) (x : Viewed Ordered) where
+  -- what is evaluated, without a limit on values and with it
+  abbrev pub without_limit : Option (List Row)
+  without_limit = evaluated (exact means []) st x
+
+  abbrev pub with_limit : Option (List Row)
+  with_limit = evaluated (sized means []) st x
+
+  -- the first cause that holds against it
+  abbrev pub against : Cause
+  against = first_cause (causes_of host st x without_limit with_limit)
+
+  -- it is carried out where nothing holds against it; else the first cause is told, or want
+  abbrev pub Performs : Result Reply Refusal → State → Type 0
+  Performs (Ok reply) new = (against ≡ Free) × ((reply ≡ reply_to x (unwrap_or with_limit [])) × (new ≡ left_by st x (unwrap_or with_limit []) []))
+  Performs (Err f) new = (IsWant f ⊎ Tells against f) × (new ≡ refused st x f)
+
+-- A statement without parameters whose names are resolved. It holds where the store is clean after it, as it is where it was
+-- clean before and there was no want.
+pub record Performed {C : Type 0} (means : Means) (host : Host) (is_clean : C → Type 0) (stands : C → State) (old : C) (x : Resolved) (result : Result Reply Refusal) (new : C) : Type 0 where
+  pub was_clean : is_clean new → is_clean old
+  pub stays_clean : is_clean old → UnlessWant is_want result (is_clean new)
+  pub performs : is_clean new → Performs means host (stands old) (view x) result (stands new)
+
+-- ---- the changes of a write
+
+-- what holds against changes that are committed: a version past the greatest, then the veto
+abbrev pub commit_cause : Host → State → List Change → Cause
+commit_cause host st more =
+    first_cause (where_true (is_past_limit st.holding more) refusal.VersionLimit ∷ where_true (host.vetoes (newly_kept (kept_of st.holding) more)) refusal.Veto ∷ [])
+
+-- all are committed where nothing holds against them, and an open transaction stays; else the first cause is told, or want, and
+-- nothing is changed
+abbrev pub AreCommitted : Host → State → List Change → Result Reply Refusal → State → Type 0
+AreCommitted host old more (Ok reply) new = (commit_cause host old more ≡ Free) × ((reply ≡ Done) × (new ≡ taking more None old))
+AreCommitted host old more (Err f) new = (IsWant f ⊎ Tells (commit_cause host old more) f) × (new ≡ old)
+
+pub record Commits {C : Type 0} (host : Host) (is_clean : C → Type 0) (stands : C → State) (old : C) (more : List Change) (result : Result Reply Refusal) (new : C) : Type 0 where
+  pub was_clean : is_clean new → is_clean old
+  pub stays_clean : is_clean old → UnlessWant is_want result (is_clean new)
+  pub commits : is_clean new → AreCommitted host (stands old) more result (stands new)
+
+-- nothing holds against changes that an open transaction keeps
+abbrev pub adding_cause : Host → State → List Change → Cause
+adding_cause host st more = cond (in_transaction st) Free (commit_cause host st more)
+
+-- all are committed, or kept with those of the open transaction, where nothing holds against them; else the first cause is
+-- told, or want, and nothing is changed
+abbrev pub AreAdded : Host → State → List Change → Result Reply Refusal → State → Type 0
+AreAdded host old more (Ok reply) new = (adding_cause host old more ≡ Free) × ((reply ≡ Done) × (new ≡ adding more old))
+AreAdded host old more (Err f) new = (IsWant f ⊎ Tells (adding_cause host old more) f) × (new ≡ old)
+
+pub record Adds {C : Type 0} (host : Host) (is_clean : C → Type 0) (stands : C → State) (old : C) (more : List Change) (result : Result Reply Refusal) (new : C) : Type 0 where
+  pub was_clean : is_clean new → is_clean old
+  pub stays_clean : is_clean old → UnlessWant is_want result (is_clean new)
+  pub adds : is_clean new → AreAdded host (stands old) more result (stands new)

@@ -1,0 +1,59 @@
+-- What a session makes of the statements of a script, one after another. Source: this project's own.
+use Rattle.std.specs.Prelude.{◌≡◌, ◌⊎◌, ℕ, false, List, [], map, Option, Some, None, Result, Ok, Err}
+use Rattle.cr_lex.specs.declared.token.Token.{Token}
+use Rattle.cr_tree.specs.declared.statement.Statement.{Statement}
+use Rattle.cr_cells.specs.Calls.{UnlessWant}
+use Rattle.cr_sql.specs.Sql.{Refusal as Unread}
+use Rattle.cr_sql.specs.Scripts as scripts
+use Rattle.cr_world.specs.declared.command.Reply.{Reply}
+use Rattle.cr_world.specs.declared.refusal.Refusal.{Refusal}
+use Rattle.cr_world.specs.declared.refusal.Refusal.TheVariants as refusal
+use Rattle.cr_world.specs.Refusals.{is_want}
+use Rattle.cr_world.specs.Language.{Language, Piece}
+use Rattle.cr_world.specs.Statement.{Host, Answers, stepped}
+use Rattle.cr_world.specs.Scripts.{Runs}
+use Rattle.cr_world.specs.Answers.{script_wants}
+use Rattle.cr_language.specs.Sql.{piece, of_unread}
+use Rattle.cr_world.specs.State.{State}
+
+-- the next statement of what is left of a script
+unfoldable pub next : List ℕ → List Token → Result (Option (Statement × ℕ)) Unread
+next source tokens = scripts.next source tokens
+
+-- what is left of a script, in so many turns
+unfoldable pub pieces_left : ℕ → List ℕ → List Token → List (Piece Statement)
+pieces_left n source tokens = map piece (scripts.pieces_in n source tokens)
+
+module _ {S E C : Type 0} (l : Language S E) (host : Host) (is_clean : C → Type 0) (stands : C → State) where
+  -- A statement without parameters. It holds where the store is clean after it, as it is where it was clean before and there
+  -- was no want.
+  pub record Carries (old : C) (x : S) (result : Result Reply Refusal) (new : C) : Type 0 where
+    pub was_clean : is_clean new → is_clean old
+    pub stays_clean : is_clean old → UnlessWant is_want result (is_clean new)
+    pub answers : is_clean new → Answers l host (stands old) [] x result (stands old).modules
+    pub leaves : is_clean new → stepped l host (stands old) [] x result (stands old).modules ≡ stands new
+
+  -- the same of the pieces of a script, with these replies, and this refusal if there is one
+  pub record CarriesAll (old : C) (pieces : List (Piece S)) (replies : List Reply) (why : Option Refusal) (new : C) : Type 0 where
+    pub was_clean : is_clean new → is_clean old
+    pub stays_clean : is_clean old → script_wants why ≡ false → is_clean new
+    pub runs : is_clean new → Runs l host (stands old) pieces replies why (stands new)
+
+module _ {E C : Type 0} (l : Language Statement E) (host : Host) (is_clean : C → Type 0) (stands : C → State) where
+  -- The next statement of a script is refused: it can't be read, or it can't be carried out, or there is no memory for it.
+  abbrev pub Stops : C → Result (Option (Statement × ℕ)) Unread → Refusal → C → Type 0
+  Stops old found r new =
+      ((why : Unread) × (found ≡ Err why) × ((r ≡ of_unread why) ⊎ (r ≡ refusal.Memory)) × (new ≡ old))
+      ⊎ (((x : Statement) × (n : ℕ) × (found ≡ Ok (Some (x, n))) × Carries l host is_clean stands old x (Err r) new)
+      ⊎ ((r ≡ refusal.Memory) × (new ≡ old)))
+
+  pub record Goes (old : C) (found : Result (Option (Statement × ℕ)) Unread) (t : Reply × ℕ) (new : C) : Type 0 where
+    pub statement : Statement
+    pub is : found ≡ Ok (Some (statement, t.1))
+    pub carries : Carries l host is_clean stands old statement (Ok t.0) new
+
+  -- one statement, and how many tokens it takes; none where no statement is left
+  abbrev pub Turns : C → Result (Option (Statement × ℕ)) Unread → Result (Option (Reply × ℕ)) Refusal → C → Type 0
+  Turns old found (Ok None) new = (found ≡ Ok None) × (new ≡ old)
+  Turns old found (Ok (Some t)) new = Goes old found t new
+  Turns old found (Err r) new = Stops old found r new

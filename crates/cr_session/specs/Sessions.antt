@@ -1,0 +1,148 @@
+-- What a replica replies to a command that looks at no other, and where it then stands. Source: this project's own.
+use Rattle.std.specs.Prelude.{◌≡◌, ◌⊎◌, ℕ, Bool, true, false, List, [], ◌++◌, find, Option, Result, Ok, Err, MatchResult}
+use Rattle.cr_lattice.specs.declared.change.Change.{Change}
+use Rattle.cr_cells.specs.declared.store.CellsError.{CellsError}
+use Rattle.cr_cells.specs.Calls.{IsRefusal, UnlessWant}
+use Rattle.cr_cells.specs.Holding.{Holding}
+use Rattle.cr_cells.specs.Marks.{Mark}
+use Rattle.cr_cells.specs.Tables.{is_named}
+use Rattle.cr_guard.specs.Guard.{asked, vetoed}
+use Rattle.cr_guard.specs.Policy.{Rules}
+use Rattle.cr_replica.specs.declared.snapshot.Snapshot.{Snapshot}
+use Rattle.cr_replica.specs.ChangeRow.{change_of}
+use Rattle.cr_replica.specs.declared.definition.DefineError.{DefineError}
+use Rattle.cr_replica.specs.declared.definition.DefineError.TheVariants as define
+use Rattle.cr_snapshot.specs.Seen.{IsSeen}
+use Rattle.cr_world.specs.declared.command.Command.{Command}
+use Rattle.cr_world.specs.declared.command.Command.TheVariants.{Open, Use, Define, Take, Rows, Changes, Pull, PullSince, Policy, Sql}
+use Rattle.cr_world.specs.declared.command.Declaration.TheVariants.{Real, Table as Declared}
+use Rattle.cr_world.specs.declared.command.FleetReply.{FleetReply}
+use Rattle.cr_world.specs.declared.command.FleetReply.TheVariants.{Script, Rows as Shown, Changes as Told, Done, Refused}
+use Rattle.cr_world.specs.declared.command.Script.{Script as TheScript}
+use Rattle.cr_world.specs.declared.refusal.Refusal.{Refusal}
+use Rattle.cr_world.specs.declared.refusal.Refusal.TheVariants as refusal
+use Rattle.cr_world.specs.declared.refusal.OutOfProfile.TheVariants as out
+use Rattle.cr_world.specs.Refusals.{is_want}
+use Rattle.cr_world.specs.Language.{Language, Asked}
+use Rattle.cr_world.specs.State.{State}
+use Rattle.cr_world.specs.Causes.{Free, Tells, IsWant}
+use Rattle.cr_world.specs.Statement.{Host}
+use Rattle.cr_world.specs.Scripts.{Runs, after_script, added_by_script}
+use Rattle.cr_world.specs.World.{Member, Closures}
+use Rattle.cr_world.specs.Answers.{IsDone, Takes, ShowsRows, ShowsChanges, tells_want}
+use Rattle.cr_world.specs.Takings.{taking_cause, taking, define_cause, defining, taking_row}
+
+-- what authorizer and commit hook say
+abbrev pub closures : Asked → (List Change → Bool) → Closures
+closures allows refuses = record { allows = allows; refuses = refuses }
+
+-- the same under a policy
+abbrev pub host_under : Closures → Rules → Host
+host_under k rules = record { ask = asked rules k.allows; vetoes = vetoed rules k.refuses }
+
+-- the reply that tells whether a command was carried out
+abbrev pub reply_of : Result (Unit {0}) Refusal → FleetReply
+reply_of (Ok u) = Done
+reply_of (Err r) = Refused r
+
+-- ---- what a session is over: a store, and the changes of the open transaction, if there is one
+
+abbrev pub SessionOf : Type 0 → Type 0
+SessionOf C = C × Option (List Change)
+
+-- the device of its store gave back what was written
+abbrev pub clean : {C : Type 0} → (C → Type 0) → SessionOf C → Type 0
+clean is_clean s = is_clean s.0
+
+-- what the last commit left, the changes of the open transaction, and no modules
+abbrev pub state_of : Holding → Option (List Change) → State
+state_of h pending = record { holding = h; pending = pending; modules = [] }
+
+-- where it stands
+abbrev pub standing : {C : Type 0} → (C → Holding) → SessionOf C → State
+standing holding s = state_of (holding s.0) s.1
+
+-- a reading leaves a session where it stands, and gives what is seen there, or memory or the store does not suffice
+pub record Sees (old new : State) (result : Result Snapshot CellsError) : Type 0 where
+  pub same : new ≡ old
+  pub sees : MatchResult result (IsSeen old) IsRefusal
+
+-- ---- takings by a call
+
+-- all changes are taken, with a mark, or the first cause that holds is told, or want, and nothing is changed
+abbrev pub Taken : Host → State → List Change → Option Mark → Result (Unit {0}) Refusal → State → Type 0
+Taken host old more mark (Ok u) new = (taking_cause host old more ≡ Free) × (new ≡ taking more mark old)
+Taken host old more mark (Err r) new = (IsWant r ⊎ Tells (taking_cause host old more) r) × (new ≡ old)
+
+pub record TakesAll {C : Type 0} (host : Host) (is_clean : C → Type 0) (stands : C → State) (old : C) (more : List Change) (mark : Option Mark) (result : Result (Unit {0}) Refusal) (new : C) : Type 0 where
+  pub was_clean : is_clean new → is_clean old
+  pub stays_clean : is_clean old → UnlessWant is_want result (is_clean new)
+  pub takes : is_clean new → Taken host (stands old) more mark result (stands new)
+
+-- ---- commands
+
+-- what stands against a definition and is told before an open transaction: all but a default that a column lacks
+abbrev pub is_early : DefineError → Bool
+is_early define.Memory = true
+is_early (define.Store fault) = true
+is_early (define.Profile fault) = true
+is_early define.TableExists = true
+is_early (define.Duplicate i) = true
+is_early (define.NoSuchCollation i) = true
+is_early (define.NoDefault i) = false
+
+-- a command that the replica in use carries out by itself
+abbrev pub is_own : Command → Bool
+is_own (Open name site) = false
+is_own (Use name) = false
+is_own (Policy rule) = false
+is_own (Define declaration) = true
+is_own (Take row) = true
+is_own (Rows name) = true
+is_own (Changes n) = true
+is_own (Pull name) = false
+is_own (PullSince name) = false
+is_own (Sql text) = true
+
+module _ {S E : Type 0} (l : Language S E) (host : Host) where
+  abbrev pub RunsScript : State → List ℕ → FleetReply → Type 0
+  RunsScript st text (Script x) = (new : State) × Runs l host st (l.pieces text) x.replies x.refusal new
+  RunsScript st text (Refused r) = ⊥
+  RunsScript st text Done = ⊥
+  RunsScript st text (Shown rows) = ⊥
+  RunsScript st text (Told cells) = ⊥
+
+  -- the reply may be given where the replica stands so
+  abbrev pub OwnAnswers : State → Command → FleetReply → Type 0
+  OwnAnswers st (Define Real) reply = reply ≡ Refused (refusal.OutOfProfile out.Real)
+  OwnAnswers st (Define (Declared def)) reply = IsDone (define_cause l.has_collation st def) reply
+  OwnAnswers st (Take row) reply = Takes host st (change_of row) reply
+  OwnAnswers st (Rows name) reply = ShowsRows st.holding name (find (is_named name) st.holding.tables) reply
+  OwnAnswers st (Changes n) reply = ShowsChanges st.holding n reply
+  OwnAnswers st (Sql text) reply = RunsScript st text reply
+  OwnAnswers st (Open name site) reply = ⊥
+  OwnAnswers st (Use name) reply = ⊥
+  OwnAnswers st (Policy rule) reply = ⊥
+  OwnAnswers st (Pull name) reply = ⊥
+  OwnAnswers st (PullSince name) reply = ⊥
+
+  abbrev pub script_left : List ℕ → TheScript → Member → Member
+  script_left text x m = record m {
+    state = after_script l host m.state (l.pieces text) x.replies x.refusal;
+    held = m.held ++ added_by_script l host m.state (l.pieces text) x.replies;
+  }
+
+  -- what becomes of the replica
+  abbrev pub own_after : Command → FleetReply → Member → Member
+  own_after (Define (Declared def)) Done m = defining def m
+  own_after (Take row) Done m = taking_row (change_of row) m
+  own_after (Sql text) (Script x) m = script_left text x m
+  own_after command reply m = m
+
+  -- A command of one replica. It holds where the store is clean after it, as it is where it was clean before and the reply
+  -- does not tell of want.
+  pub record Does {C : Type 0} (is_clean : C → Type 0) (stands : C → State) (old : C) (command : Command) (reply : FleetReply) (new : C) : Type 0 where
+    pub was_clean : is_clean new → is_clean old
+    pub stays_clean : is_clean old → tells_want reply ≡ false → is_clean new
+    pub answers : is_clean new → OwnAnswers (stands old) command reply
+    pub leaves : is_clean new → (m : Member) → m.state ≡ stands old → (own_after command reply m).state ≡ stands new

@@ -1,0 +1,179 @@
+//! Statements that may be carried out, form by form.
+
+ghost use Rattle.std.specs.Prelude.{◌≡◌, IfOk};
+ghost use Rattle.cr_snapshot.specs.Seen.{IsSeen};
+ghost use Rattle.cr_term.specs.declared.query.Resolved.TheVariants as r;
+ghost use Rattle.cr_language.specs.Sql.{target, view};
+ghost use Rattle.cr_world.specs.Resolved as world;
+ghost use Rattle.cr_world.specs.State.{State};
+ghost use Rattle.cr_world.specs.Statement.{Host, marked_reply, no_default, not_a_table};
+ghost use Rattle.cr_session.specs.Performing.{Passes, Performs, not_replicated};
+
+use crate::session::Session;
+use crate::speaking::Watching;
+use cr_answer::selecting::answer_query;
+use cr_cells::store::NewCells;
+use cr_expr::given::Hosted;
+use cr_guard::guarding::Guarding;
+use cr_host::functions::Functions;
+use cr_lattice::profile::no_default;
+use cr_lattice::table::{Items, TableDef};
+use cr_replica::definition::DefineError;
+use cr_replica::snapshot::Snapshot;
+use cr_term::query::{Create, Held, MarkReplicated, Query, Relation, Resolved};
+use cr_value::text::Text;
+use cr_value::value::Value;
+use cr_world::command::Reply;
+use cr_world::refusal::{Refusal, of_definition};
+use std::alloc::{AllocError, Global};
+
+/// Only a table can be changed but by INSERT: a module is refused as `ReadOnly`.
+pub(crate) fn check_table(alloc: Global, relation: &Relation) -> Result<(), Refusal>
+    ensures { Passes (not_a_table (target relation.now)) result }
+{
+    match relation.held {
+        Held::Table(_, _) => Ok(()),
+        Held::Module(_) => Err(Refusal::ReadOnly(relation.definition.name.copy(alloc)?)),
+    }
+}
+
+/// Only a table that is replicated takes rows: another is refused as `NotYet`. A module passes.
+pub(crate) fn check_replicated(alloc: Global, relation: &Relation) -> Result<(), Refusal>
+    ensures { Passes (not_replicated relation.now) result }
+{
+    match relation.held {
+        Held::Table(_, false) => Err(Refusal::NotYet(relation.definition.name.copy(alloc)?)),
+        Held::Table(_, true) | Held::Module(_) => Ok(()),
+    }
+}
+
+// Each column outside the key that wants a value has a default.
+fn check_defaults(alloc: Global, def: &TableDef) -> Result<(), Refusal>
+    ensures { Passes (no_default (world.Table def.now)) result }
+{
+    match no_default(def) {
+        Some(place) => Err(of_definition(alloc, def, DefineError::NoDefault(place))),
+        None => Ok(()),
+    }
+}
+
+// What the call replies that makes a table replicated.
+fn marked_reply(alloc: Global, is_ignored: bool) -> Result<Reply, AllocError>
+    ensures { IfOk result (λ reply. reply ≡ marked_reply is_ignored) }
+{
+    let value = if is_ignored {
+        Value::Null
+    } else {
+        Value::Text(Text::from_str(alloc, "OK")?)
+    };
+    let mut row = Vec::new(alloc);
+    row.push(value)?;
+    let mut rows = Vec::new(alloc);
+    rows.push(Items::new(row))?;
+    Ok(Reply::Rows(Items::new(rows)))
+}
+
+// Answers a SELECT.
+fn select<F: Functions>(
+    alloc: Global,
+    functions: &F,
+    snapshot: &Snapshot,
+    query: &Query,
+) -> Result<Reply, Refusal>
+    requires { F.is_faithful functions.now }
+    ensures { (host : Host) (st : State) → IsSeen st snapshot.now → Performs (⟦<F as Hosted>⟧.means functions.now) host st (view (r.Select query.now)) result st }
+{
+    match answer_query(alloc, functions, snapshot, query, &[]) {
+        Ok(rows) => Ok(Reply::Rows(rows)),
+        Err(refusal) => Err(refusal),
+    }
+}
+
+impl<C: NewCells> Session<C> {
+    ghost use Rattle.std.specs.Prelude.{◌≡◌, true, false};
+    ghost use Rattle.cr_cells.specs.Tables.{IsNewTable};
+    ghost use Rattle.cr_fit.specs.Suited.{HasRelation, Suits};
+    ghost use Rattle.cr_replica.specs.Snapshots.{IsWhole};
+    ghost use Rattle.cr_scalar.specs.Host.{Host as Means};
+    ghost use Rattle.cr_snapshot.specs.Seen.{IsSeen, catalog_of};
+    ghost use Rattle.cr_term.specs.declared.query.Resolved.TheVariants as r;
+    ghost use Rattle.cr_world.specs.State.{catalog};
+    ghost use Rattle.cr_world.specs.Statement.{Host};
+    ghost use Rattle.cr_session.specs.Performing.{Performed, is_performed, is_table};
+    ghost use Rattle.cr_session.specs.Sessions.{clean, standing};
+
+    // Makes a new table outside of transactions, unless its name is taken and that is no matter.
+    fn create(&mut self, alloc: Global, create: &Create) -> Result<Reply, Refusal>
+        requires { C.is_clean self.old.0 → create.now.is_there ≡ false → IsNewTable (C.holding self.old.0).tables create.now.definition }
+        ensures { (means : Means) (host : Host) → Performed means host (clean C.is_clean) (standing C.holding) self.old (r.Create create.now) result self.new }
+    {
+        if self.in_transaction() {
+            return Err(Refusal::TransactionState);
+        }
+        if create.is_there {
+            return Ok(Reply::Done);
+        }
+        match self.replica.add_table(alloc, &create.definition) {
+            Ok(()) => Ok(Reply::Done),
+            Err(error) => Err(Refusal::from(error)),
+        }
+    }
+
+    // Makes a table replicated outside of transactions, unless the authorizer ignores the call.
+    fn mark_replicated(&mut self, alloc: Global, mark: &MarkReplicated) -> Result<Reply, Refusal>
+        requires { C.is_clean self.old.0 → HasRelation (catalog (standing C.holding self.old)) mark.now.relation }
+        ensures { (means : Means) (host : Host) → Performed means host (clean C.is_clean) (standing C.holding) self.old (r.MarkReplicated mark.now) result self.new }
+    {
+        if self.in_transaction() {
+            return Err(Refusal::TransactionState);
+        }
+        if let Err(refusal) = check_table(alloc, &mark.relation) {
+            return Err(refusal);
+        }
+        if let Err(refusal) = check_defaults(alloc, &mark.relation.definition) {
+            return Err(refusal);
+        }
+        let reply = marked_reply(alloc, mark.is_ignored)?;
+        if mark.is_ignored {
+            return Ok(reply);
+        }
+        match self
+            .replica
+            .mark_crr(alloc, mark.relation.definition.name.as_str())
+        {
+            Ok(()) => Ok(reply),
+            Err(error) => Err(Refusal::from(error)),
+        }
+    }
+
+    /// Carries out a statement that neither opens nor ends a transaction, over what is seen.
+    pub(crate) fn perform<F: Functions, G: Guarding>(
+        &mut self,
+        alloc: Global,
+        functions: &F,
+        guard: &G,
+        snapshot: &Snapshot,
+        statement: &Resolved,
+    ) -> Result<Reply, Refusal>
+        requires functions { F.is_faithful functions.now }
+        requires guard { G.is_faithful guard.now }
+        requires seen { C.is_clean self.old.0 → IsSeen (standing C.holding self.old) snapshot.now }
+        requires whole { IsWhole snapshot.now }
+        requires suits { Suits (catalog_of snapshot.now) statement.now }
+        requires form { is_performed statement.now ≡ true }
+        ensures { Performed (⟦<F as Hosted>⟧.means functions.now) (⟦<G as Watching>⟧.host guard.now) (clean C.is_clean) (standing C.holding) self.old statement.now result self.new }
+    {
+        match statement {
+            Resolved::Select(query) => select(alloc, functions, snapshot, query),
+            Resolved::MarkReplicated(mark) => self.mark_replicated(alloc, mark),
+            Resolved::Create(create) => self.create(alloc, create),
+            Resolved::Insert(insert) => self.insert(alloc, functions, guard, snapshot, insert),
+            Resolved::Update(update) => self.update(alloc, functions, guard, snapshot, update),
+            Resolved::Delete(delete) => self.delete(alloc, functions, guard, snapshot, delete),
+            // No such statement comes here: it is refused before its names are looked at, or carried out without them.
+            Resolved::Alter(_) | Resolved::Begin | Resolved::Commit | Resolved::Rollback => {
+                Err(Refusal::TransactionState)
+            }
+        }
+    }
+}

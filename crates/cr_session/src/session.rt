@@ -1,0 +1,314 @@
+//! A session over one replica: the commands that look at no other.
+
+ghost use Rattle.std.specs.Prelude.{◌≡◌};
+ghost use Rattle.cr_session.specs.Sessions.{is_early, reply_of};
+
+use crate::speaking::{Speaking, Watching};
+use cr_cells::marks::Mark;
+use cr_cells::store::{CellsError, NewCells};
+use cr_guard::guarding::Guarding;
+use cr_host::functions::Functions;
+use cr_lattice::change::{Change, Site};
+use cr_lattice::check::BadChange;
+use cr_lattice::merge::merge;
+use cr_lattice::table::{Items, TableDef};
+use cr_replica::change_row::ChangeRow;
+use cr_replica::definition::{DefineError, accept};
+use cr_replica::replica::Replica;
+use cr_replica::snapshot::Snapshot;
+use cr_value::text::Text;
+use cr_world::command::{Command, Declaration, FleetReply};
+use cr_world::refusal::{OutOfProfile, Refusal, of_definition, of_rows};
+use std::alloc::{AllocError, Global};
+use std::marker::Model;
+
+/// Done, or why not.
+pub fn reply_of(outcome: Result<(), Refusal>) -> FleetReply
+    ensures { result ≡ reply_of outcome }
+{
+    match outcome {
+        Ok(()) => FleetReply::Done,
+        Err(refusal) => FleetReply::Refused(refusal),
+    }
+}
+
+// Whether what stands against a definition is told before an open transaction.
+fn is_early(error: DefineError) -> bool
+    ensures { result ≡ is_early error }
+{
+    !matches!(error, DefineError::NoDefault(_))
+}
+
+/// A replica, with the changes of its open transaction.
+#[derive(Drop)]
+pub struct Session<C: Drop> {
+    pub(crate) replica: Replica<C>,
+    // In the order in which they were made; none outside of transactions.
+    pub(crate) pending: Option<Vec<Change>>,
+}
+
+impl<C: Drop> Model for Session<C> {
+    ghost use Rattle.std.specs.Option.{option_map};
+    ghost use Rattle.cr_session.specs.Sessions.{SessionOf};
+
+    ghost Value = { SessionOf C };
+
+    ghost view = { λ s. (s.replica, option_map (λ v. v.items) s.pending) };
+}
+
+impl<C: NewCells> Session<C> {
+    ghost use Rattle.std.specs.Prelude.{◌≡◌, ◌≤ℤ◌, ℕ, Bool, List, None, pos, true, is_some, IfOk};
+    ghost use Rattle.std.specs.Option.{ForSome};
+    ghost use Rattle.cr_cells.specs.Calls.{Reads, is_want, UnlessWant};
+    ghost use Rattle.cr_cells.specs.Holding.{IsSound, since, changes_of};
+    ghost use Rattle.cr_cells.specs.Marks.{seen_of};
+    ghost use Rattle.cr_replica.specs.Snapshots.{IsWhole};
+    ghost use Rattle.cr_world.specs.declared.command.Command.TheVariants.{Define, Take, Rows, Changes, Sql};
+    ghost use Rattle.cr_world.specs.declared.command.Declaration.TheVariants as declared;
+    ghost use Rattle.cr_world.specs.declared.command.FleetReply.TheVariants.{Refused};
+    ghost use Rattle.cr_world.specs.Answers.{IsReady};
+    ghost use Rattle.cr_world.specs.Language.{Language};
+    ghost use Rattle.cr_world.specs.Statement.{Host};
+    ghost use Rattle.cr_meaning.specs.View.{Ordered};
+    ghost use Rattle.cr_tree.specs.declared.statement.Statement.{Statement};
+    ghost use Rattle.cr_session.specs.Sessions.{Does, TakesAll, Sees, clean, is_own, standing};
+
+    /// A session over the store, which may hold something already.
+    pub fn new(cells: C) -> Session<C>
+        ensures { result ≡ (cells, None) }
+    {
+        Session {
+            replica: Replica::new(cells),
+            pending: None,
+        }
+    }
+
+    /// Whether a transaction is open.
+    pub fn in_transaction(&self) -> bool
+        ensures { result ≡ is_some self.now.1 }
+    {
+        self.pending.is_some()
+    }
+
+    /// The site that the replica was made with.
+    pub fn site(&self) -> Site
+        ensures { C.is_clean self.now.0 → result ≡ (C.holding self.now.0).site }
+    {
+        self.replica.site_id()
+    }
+
+    /// How many commits changed a kept change.
+    pub fn version(&self) -> i64
+        ensures { C.is_clean self.now.0 → result ≡ (C.holding self.now.0).version }
+    {
+        self.replica.db_version()
+    }
+
+    /// The kept changes that are stamped above a version, by their stamps.
+    ///
+    /// # Errors
+    /// `Memory`, or `Store(Refused)`.
+    pub fn changes_above(&mut self, alloc: Global, version: i64) -> Result<Vec<Change>, CellsError>
+        ensures was_clean { C.is_clean self.new.0 → C.is_clean self.old.0 }
+        ensures stays_clean { C.is_clean self.old.0 → UnlessWant is_want result (C.is_clean self.new.0) }
+        ensures sound { C.is_clean self.new.0 → IsSound (C.holding self.new.0) }
+        ensures reads { C.is_clean self.new.0 → Reads (C.holding self.old.0) (C.holding self.new.0) result
+            (λ changes. changes.items ≡ changes_of (since (C.holding self.old.0).cells version)) }
+        ensures pending { self.new.1 ≡ self.old.1 }
+    {
+        self.replica.changes_above(alloc, version)
+    }
+
+    /// What a statement sees, which is answered without asking the store again: what the replica holds, and with what it keeps
+    /// the changes of the open transaction.
+    ///
+    /// # Errors
+    /// `Memory`, or `Store(Refused)`.
+    pub fn snapshot(&mut self, alloc: Global) -> Result<Snapshot, CellsError>
+        ensures was_clean { C.is_clean self.new.0 → C.is_clean self.old.0 }
+        ensures stays_clean { C.is_clean self.old.0 → UnlessWant is_want result (C.is_clean self.new.0) }
+        ensures sound { C.is_clean self.new.0 → IsSound (C.holding self.new.0) }
+        ensures sees { C.is_clean self.new.0 → Sees (standing C.holding self.old) (standing C.holding self.new) result }
+        ensures whole { IfOk result IsWhole }
+    {
+        let mut snapshot = match self.replica.snapshot(alloc) {
+            Ok(snapshot) => snapshot,
+            Err(error) => return Err(error),
+        };
+        let Some(pending) = &self.pending else {
+            return Ok(snapshot);
+        };
+        let kept = merge(alloc, snapshot.kept.as_slice(), pending)?;
+        snapshot.kept = Items::new(kept);
+        Ok(snapshot)
+    }
+
+    /// The version up to which the changes of a peer were taken, by the peer's site: 0 where it has no mark.
+    ///
+    /// # Errors
+    /// `Memory`, or `Store(Refused)`.
+    pub fn seen(&mut self, alloc: Global, site: Site) -> Result<i64, CellsError>
+        ensures was_clean { C.is_clean self.new.0 → C.is_clean self.old.0 }
+        ensures stays_clean { C.is_clean self.old.0 → UnlessWant is_want result (C.is_clean self.new.0) }
+        ensures reads { C.is_clean self.new.0 → Reads (C.holding self.old.0) (C.holding self.new.0) result
+            (λ version. version ≡ seen_of (C.holding self.old.0).marks site) }
+        ensures pending { self.new.1 ≡ self.old.1 }
+    {
+        self.replica.seen(alloc, site)
+    }
+
+    /// Takes changes, all in one commit or none, and with them the mark of a peer: its site, and its version, at least 0,
+    /// up to which they were taken. Those that lose change nothing. An open transaction stays as it is: whether one forbids the
+    /// taking is the caller's to ask.
+    ///
+    /// # Errors
+    /// `BadChange` where a change is not well formed; `VersionLimit` where a kept change would change at the greatest
+    /// version; `Veto` where policy or commit hook refuse what would come in; `Memory`, or `Store`. Then nothing is changed.
+    pub fn take_all<G: Guarding>(
+        &mut self,
+        alloc: Global,
+        guard: &G,
+        changes: &[Change],
+        mark: Option<Mark>,
+    ) -> Result<(), Refusal>
+        requires faithful { G.is_faithful guard.now }
+        requires from_0 { ForSome mark (λ m. pos 0 ≤ℤ m.1) }
+        ensures { TakesAll (⟦<G as Watching>⟧.host guard.now) (clean C.is_clean) (standing C.holding) self.old changes.now mark result self.new }
+    {
+        let taking = match self.replica.prepare(alloc, changes) {
+            Ok(taking) => taking,
+            Err(error) => return Err(Refusal::from(error)),
+        };
+        if guard.vetoes(taking.newly_kept.as_slice()) {
+            return Err(Refusal::Veto);
+        }
+        match self.replica.commit(alloc, &taking, mark) {
+            Ok(()) => Ok(()),
+            Err(error) => Err(Refusal::from(error)),
+        }
+    }
+
+    // Why a table is not defined inside a transaction: what stands against it comes first, but for its columns' defaults.
+    fn refuse_definition<F: Functions>(
+        &mut self,
+        alloc: Global,
+        functions: &F,
+        def: &TableDef,
+    ) -> Refusal
+        requires { is_some self.old.1 ≡ true }
+        ensures { (has : List ℕ → Bool) (host : Host) → Does (⟦<F as Speaking>⟧.language functions.now has) host (clean C.is_clean) (standing C.holding) self.old (Define (declared.Table def.now)) (Refused result) self.new }
+    {
+        let snapshot = match self.replica.snapshot(alloc) {
+            Ok(snapshot) => snapshot,
+            Err(error) => return Refusal::from(error),
+        };
+        match accept(functions, snapshot.tables.as_slice(), def) {
+            Ok(()) => Refusal::TransactionState,
+            Err(error) => {
+                if is_early(error) {
+                    of_definition(alloc, def, error)
+                } else {
+                    Refusal::TransactionState
+                }
+            }
+        }
+    }
+
+    fn define<F: Functions>(
+        &mut self,
+        alloc: Global,
+        functions: &F,
+        declaration: &Declaration,
+    ) -> FleetReply
+        requires { IsReady (Define declaration.now) }
+        ensures { (has : List ℕ → Bool) (host : Host) → Does (⟦<F as Speaking>⟧.language functions.now has) host (clean C.is_clean) (standing C.holding) self.old (Define declaration.now) result self.new }
+    {
+        let Declaration::Table(def) = declaration else {
+            return FleetReply::Refused(Refusal::OutOfProfile(OutOfProfile::Real));
+        };
+        if self.in_transaction() {
+            return FleetReply::Refused(self.refuse_definition(alloc, functions, def));
+        }
+        match self.replica.define(alloc, functions, def) {
+            Ok(()) => FleetReply::Done,
+            Err(error) => FleetReply::Refused(of_definition(alloc, def, error)),
+        }
+    }
+
+    fn take<G: Guarding>(&mut self, alloc: Global, guard: &G, row: &ChangeRow) -> FleetReply
+        requires { G.is_faithful guard.now }
+        ensures { (l : Language Statement Ordered) → Does l (⟦<G as Watching>⟧.host guard.now) (clean C.is_clean) (standing C.holding) self.old (Take row.now) result self.new }
+    {
+        if self.in_transaction() {
+            return FleetReply::Refused(Refusal::TransactionState);
+        }
+        let change = match row.change(alloc) {
+            Ok(Some(change)) => change,
+            Ok(None) => return FleetReply::Refused(Refusal::BadChange(BadChange::Shape)),
+            Err(AllocError) => return FleetReply::Refused(Refusal::Memory),
+        };
+        reply_of(self.take_all(alloc, guard, &[change], None))
+    }
+
+    fn rows(&mut self, alloc: Global, name: &Text) -> FleetReply
+        ensures { (l : Language Statement Ordered) (host : Host) → Does l host (clean C.is_clean) (standing C.holding) self.old (Rows name.now) result self.new }
+    {
+        match self.replica.rows_of(alloc, name.as_str()) {
+            Ok(rows) => FleetReply::Rows(rows),
+            Err(error) => FleetReply::Refused(of_rows(alloc, name, error)),
+        }
+    }
+
+    fn changes(&mut self, alloc: Global, version: &i64) -> FleetReply
+        ensures { (l : Language Statement Ordered) (host : Host) → Does l host (clean C.is_clean) (standing C.holding) self.old (Changes version.now) result self.new }
+    {
+        match self.replica.changes_since(alloc, *version) {
+            Ok(cells) => FleetReply::Changes(Items::new(cells)),
+            Err(error) => FleetReply::Refused(Refusal::from(error)),
+        }
+    }
+
+    fn sql<F: Functions, G: Guarding>(
+        &mut self,
+        alloc: Global,
+        functions: &F,
+        guard: &G,
+        source: &Text,
+    ) -> FleetReply
+        requires functions { F.is_faithful functions.now }
+        requires guard { G.is_faithful guard.now }
+        ensures { (has : List ℕ → Bool) → ⟦<F as Speaking>⟧.are_names functions.now has
+            → Does (⟦<F as Speaking>⟧.language functions.now has) (⟦<G as Watching>⟧.host guard.now) (clean C.is_clean) (standing C.holding) self.old (Sql source.now) result self.new }
+    {
+        FleetReply::Script(self.script(alloc, functions, guard, source.as_str()))
+    }
+
+    /// Carries out a command that looks at no other replica.
+    pub fn step<F: Functions, G: Guarding>(
+        &mut self,
+        alloc: Global,
+        functions: &F,
+        guard: &G,
+        command: &Command,
+    ) -> FleetReply
+        requires functions { F.is_faithful functions.now }
+        requires guard { G.is_faithful guard.now }
+        requires ready { IsReady command.now }
+        requires own { is_own command.now ≡ true }
+        ensures { (has : List ℕ → Bool) → ⟦<F as Speaking>⟧.are_names functions.now has
+            → Does (⟦<F as Speaking>⟧.language functions.now has) (⟦<G as Watching>⟧.host guard.now) (clean C.is_clean) (standing C.holding) self.old command.now result self.new }
+    {
+        match command {
+            Command::Define(declaration) => self.define(alloc, functions, declaration),
+            Command::Take(row) => self.take(alloc, guard, row),
+            Command::Rows(name) => self.rows(alloc, name),
+            Command::Changes(version) => self.changes(alloc, version),
+            Command::Sql(source) => self.sql(alloc, functions, guard, source),
+            Command::Open(_, _)
+            | Command::Use(_)
+            | Command::Pull(_)
+            | Command::PullSince(_)
+            | Command::Policy(_) => FleetReply::Refused(Refusal::Command),
+        }
+    }
+}

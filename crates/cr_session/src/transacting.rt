@@ -1,0 +1,130 @@
+//! BEGIN, COMMIT and ROLLBACK.
+
+ghost use Rattle.std.specs.Prelude.{◌≡◌};
+ghost use Rattle.cr_guard.specs.Guard.{asked};
+ghost use Rattle.cr_world.specs.Statement.{is_memory};
+ghost use Rattle.cr_answer.specs.Allowing.{known_by};
+ghost use Rattle.cr_session.specs.Performing.{Permits};
+
+use crate::session::Session;
+use crate::speaking::{Speaking, Watching};
+use cr_answer::allowing::allowed;
+use cr_cells::store::NewCells;
+use cr_guard::guarding::Guarding;
+use cr_host::functions::Functions;
+use cr_lattice::change::Site;
+use cr_lattice::table::Items;
+use cr_replica::snapshot::Snapshot;
+use cr_tree::statement::Statement;
+use cr_world::command::Reply;
+use cr_world::refusal::Refusal;
+use std::alloc::Global;
+
+fn is_memory(refusal: &Refusal) -> bool
+    ensures { result ≡ is_memory refusal.now }
+{
+    matches!(refusal, Refusal::Memory)
+}
+
+// A replica without tables, which a statement that names none may as well be asked of.
+fn empty_snapshot(alloc: Global, site: Site) -> Snapshot {
+    Snapshot {
+        tables: Items::new(Vec::new(alloc)),
+        site,
+        version: 0,
+        cells: Items::new(Vec::new(alloc)),
+        kept: Items::new(Vec::new(alloc)),
+    }
+}
+
+// Whether authorizer and policy allow a statement that opens or ends a transaction.
+fn check_allowed<F: Functions, G: Guarding>(
+    alloc: Global,
+    functions: &F,
+    guard: &G,
+    snapshot: &Snapshot,
+    statement: &Statement,
+) -> Result<(), Refusal>
+    requires { G.is_faithful guard.now }
+    ensures { Permits (known_by (F.function_of functions.now) (F.names_function functions.now) (F.order_of functions.now) snapshot.now) (asked (G.rules guard.now) (G.allows guard.now)) statement.now result }
+{
+    match allowed(alloc, functions, guard, snapshot, statement, 0) {
+        Ok(_) => Ok(()),
+        Err(refusal) => Err(refusal),
+    }
+}
+
+impl<C: NewCells> Session<C> {
+    ghost use Rattle.std.specs.Prelude.{◌≡◌, true, ℕ, Bool, List};
+    ghost use Rattle.cr_scalar.specs.Host.{Host as Means};
+    ghost use Rattle.cr_world.specs.Statement.{Host};
+    ghost use Rattle.cr_term.specs.declared.query.Resolved.TheVariants as r;
+    ghost use Rattle.cr_session.specs.Performing.{Performed, is_transaction};
+    ghost use Rattle.cr_session.specs.Scripts.{Carries};
+    ghost use Rattle.cr_session.specs.Sessions.{clean, standing};
+
+    // Opens a transaction.
+    fn begin(&mut self, alloc: Global) -> Result<Reply, Refusal>
+        ensures { (means : Means) (host : Host) → Performed means host (clean C.is_clean) (standing C.holding) self.old r.Begin result self.new }
+    {
+        if self.in_transaction() {
+            return Err(Refusal::TransactionState);
+        }
+        self.pending = Some(Vec::new(alloc));
+        Ok(Reply::Done)
+    }
+
+    // Commits the changes of the open transaction, all or none, and ends it; where memory is wanting, it stays open.
+    fn commit<G: Guarding>(&mut self, alloc: Global, guard: &G) -> Result<Reply, Refusal>
+        requires { G.is_faithful guard.now }
+        ensures { (means : Means) → Performed means (⟦<G as Watching>⟧.host guard.now) (clean C.is_clean) (standing C.holding) self.old r.Commit result self.new }
+    {
+        let Some(changes) = self.pending.take() else {
+            return Err(Refusal::TransactionState);
+        };
+        match self.commit_changes(alloc, guard, &changes) {
+            Ok(reply) => Ok(reply),
+            Err(refusal) => {
+                if is_memory(&refusal) {
+                    self.pending = Some(changes);
+                }
+                Err(refusal)
+            }
+        }
+    }
+
+    // Ends the open transaction: its changes are gone.
+    fn rollback(&mut self) -> Result<Reply, Refusal>
+        ensures { (means : Means) (host : Host) → Performed means host (clean C.is_clean) (standing C.holding) self.old r.Rollback result self.new }
+    {
+        match self.pending.take() {
+            Some(_) => Ok(Reply::Done),
+            None => Err(Refusal::TransactionState),
+        }
+    }
+
+    /// Carries out BEGIN, COMMIT or ROLLBACK. They name no table, so that the store isn't asked which there are: it may be
+    /// broken, and a COMMIT that it refuses ends its transaction.
+    pub(crate) fn transact<F: Functions, G: Guarding>(
+        &mut self,
+        alloc: Global,
+        functions: &F,
+        guard: &G,
+        statement: &Statement,
+    ) -> Result<Reply, Refusal>
+        requires guard { G.is_faithful guard.now }
+        requires form { is_transaction statement.now ≡ true }
+        ensures { (has : List ℕ → Bool) → ⟦<F as Speaking>⟧.are_names functions.now has
+            → Carries (⟦<F as Speaking>⟧.language functions.now has) (⟦<G as Watching>⟧.host guard.now) (clean C.is_clean) (standing C.holding) self.old statement.now result self.new }
+    {
+        let nothing = empty_snapshot(alloc, self.site());
+        if let Err(refusal) = check_allowed(alloc, functions, guard, &nothing, statement) {
+            return Err(refusal);
+        }
+        match statement {
+            Statement::Begin(_) => self.begin(alloc),
+            Statement::Commit => self.commit(alloc, guard),
+            _ => self.rollback(),
+        }
+    }
+}
