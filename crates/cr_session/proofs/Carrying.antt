@@ -1,5 +1,5 @@
 -- A statement is carried out as what it is once its names are resolved.
-use Rattle.std.proofs.Common.{◌≡◌, ◌⊎◌, inl, inr, ℕ, Bool, true, false, ◌&&◌, cond, List, [], Option, Some, None, option_map, Result, Ok, Err, refl, sym, ap, subst, ◌∙◌}
+use Rattle.std.proofs.Common.{◌≡◌, ◌⊎◌, inl, inr, ℕ, Bool, true, false, ◌&&◌, cond, List, [], Option, Some, None, option_map, Result, Ok, Err, length, refl, sym, ap, subst, ◌∙◌}
 use Rattle.std.specs.Prelude.{not, unwrap_or, if◌then◌else◌}
 use Rattle.std.specs.Option.{option_map_or}
 use Rattle.cr_value.specs.declared.value.Value.{Value}
@@ -138,44 +138,44 @@ rollback_is (s.Alter a) e no_begin no_commit = absurd (let z : ⊥ = cc in z)
 
 -- ---- a statement of any language
 
-module _ {S E : Type 0} (l : Language S E) (host : Host) (h : Holding) (pending : Option (List Change)) (x : S) where
+module _ {S E : Type 0} (l : Language S E) (host : Host) (h : Holding) (pending : Option (List Change)) (params : List Value) (x : S) where
   abbrev at : State
   at = state_of h pending
 
   -- the reply may be given, and what is left is this
   abbrev pub Replies : Result Reply Refusal → State → Type 0
-  Replies result new = Answers l host at [] x result [] × (stepped l host at [] x result [] ≡ new)
+  Replies result new = Answers l host at params x result [] × (stepped l host at params x result [] ≡ new)
 
   -- the cause, by what the statement is resolved to and whether its parameters fit
   abbrev pub early_with : Result (Resolved E) Refusal → Bool → Cause
   early_with o b = or_else (of_result o) (where_true (not b) refusal.Parameters)
 
   abbrev pub cause_with : Result (Resolved E) Refusal → Bool → Cause
-  cause_with o b = or_else (early_with o b) (later_cause l host at [] (result_ok o))
+  cause_with o b = or_else (early_with o b) (later_cause l host at params (result_ok o))
 
-  pub cause_is : (o : Result (Resolved E) Refusal) (b : Bool) → l.resolved (catalog at) host.ask x ≡ o → l.fits x 0 ≡ b → cause_of l host at [] x ≡ cause_with o b
+  pub cause_is : (o : Result (Resolved E) Refusal) (b : Bool) → l.resolved (catalog at) host.ask x ≡ o → l.fits x (length params) ≡ b → cause_of l host at params x ≡ cause_with o b
   cause_is o b e f = λ i. cause_with (e i) (f i)
 
   -- ---- it ends no transaction
 
   abbrev pub ends_with : Result (Resolved E) Refusal → Bool → Bool
-  ends_with o b = statement.is_commit l host at [] (result_ok o) && (in_transaction at && statement.is_free l host at [] (early_with o b))
+  ends_with o b = statement.is_commit l host at params (result_ok o) && (in_transaction at && statement.is_free l host at params (early_with o b))
 
   abbrev pub Lasts : Type 0
-  Lasts = ends l host at [] x ≡ false
+  Lasts = ends l host at params x ≡ false
 
   lasts_unresolved : (f : Refusal) → l.resolved (catalog at) host.ask x ≡ Err f → Lasts
-  lasts_unresolved f e = λ i. ends_with (e i) (l.fits x 0)
+  lasts_unresolved f e = λ i. ends_with (e i) (l.fits x (length params))
 
-  lasts_unfit : (y : Resolved E) → l.resolved (catalog at) host.ask x ≡ Ok y → l.fits x 0 ≡ false → Lasts
-  lasts_unfit y e f = (λ i. ends_with (e i) (f i)) ∙ none_of (statement.is_commit l host at [] (Some y)) (in_transaction at)
+  lasts_unfit : (y : Resolved E) → l.resolved (catalog at) host.ask x ≡ Ok y → l.fits x (length params) ≡ false → Lasts
+  lasts_unfit y e f = (λ i. ends_with (e i) (f i)) ∙ none_of (statement.is_commit l host at params (Some y)) (in_transaction at)
 
-  pub lasts_other : statement.is_commit l host at [] (result_ok (l.resolved (catalog at) host.ask x)) ≡ false → Lasts
-  lasts_other e = ap (λ (b : Bool). b && (in_transaction at && statement.is_free l host at [] (early_with (l.resolved (catalog at) host.ask x) (l.fits x 0)))) e
+  pub lasts_other : statement.is_commit l host at params (result_ok (l.resolved (catalog at) host.ask x)) ≡ false → Lasts
+  lasts_other e = ap (λ (b : Bool). b && (in_transaction at && statement.is_free l host at params (early_with (l.resolved (catalog at) host.ask x) (l.fits x (length params))))) e
 
   -- ---- it is refused
 
-  pub refused_for : (f : Refusal) → Lasts → IsWant f ⊎ Tells (cause_of l host at [] x) f → Replies (Err f) at
+  pub refused_for : (f : Refusal) → Lasts → IsWant f ⊎ Tells (cause_of l host at params x) f → Replies (Err f) at
   refused_for f lasts told = ((told, refl), ap (λ (b : Bool). cond (is_memory f) at (cond b (ended at) at)) lasts ∙ same_anyhow (is_memory f) false at)
 
   -- for want of memory, whatever it is
@@ -183,56 +183,56 @@ module _ {S E : Type 0} (l : Language S E) (host : Host) (h : Holding) (pending 
   wants = ((inl (inl refl), refl), refl)
 
   pub not_resolved : (f : Refusal) → l.resolved (catalog at) host.ask x ≡ Err f → Replies (Err f) at
-  not_resolved f e = refused_for f (lasts_unresolved f e) (inr (subst (λ (c : Cause). Tells c f) (sym (cause_is (Err f) (l.fits x 0) e refl)) refl))
+  not_resolved f e = refused_for f (lasts_unresolved f e) (inr (subst (λ (c : Cause). Tells c f) (sym (cause_is (Err f) (l.fits x (length params)) e refl)) refl))
 
-  pub not_fitting : (y : Resolved E) → l.resolved (catalog at) host.ask x ≡ Ok y → l.fits x 0 ≡ false → Replies (Err refusal.Parameters) at
+  pub not_fitting : (y : Resolved E) → l.resolved (catalog at) host.ask x ≡ Ok y → l.fits x (length params) ≡ false → Replies (Err refusal.Parameters) at
   not_fitting y e f = refused_for refusal.Parameters (lasts_unfit y e f) (inr (subst (λ (c : Cause). Tells c refusal.Parameters) (sym (cause_is (Ok y) false e f)) refl))
 
 -- ---- a statement of this project's SQL
 
-commit_same : (l : Language Statement Ordered) (host : Host) (st : State) (v : Resolved Ordered) → statement.is_commit l host st [] (Some v) ≡ is_commit v
-commit_same l host st (world.Select names q) = refl
-commit_same l host st (world.Mark t b) = refl
-commit_same l host st (world.Insert t w) = refl
-commit_same l host st (world.Update t w) = refl
-commit_same l host st (world.Delete t w) = refl
-commit_same l host st (world.Create def b) = refl
-commit_same l host st (world.Alter t col) = refl
-commit_same l host st world.Begin = refl
-commit_same l host st world.Commit = refl
-commit_same l host st world.Rollback = refl
+commit_same : (l : Language Statement Ordered) (host : Host) (st : State) (params : List Value) (v : Resolved Ordered) → statement.is_commit l host st params (Some v) ≡ is_commit v
+commit_same l host st params (world.Select names q) = refl
+commit_same l host st params (world.Mark t b) = refl
+commit_same l host st params (world.Insert t w) = refl
+commit_same l host st params (world.Update t w) = refl
+commit_same l host st params (world.Delete t w) = refl
+commit_same l host st params (world.Create def b) = refl
+commit_same l host st params (world.Alter t col) = refl
+commit_same l host st params world.Begin = refl
+commit_same l host st params world.Commit = refl
+commit_same l host st params world.Rollback = refl
 
-module _ (l : Language Statement Ordered) (means : Means) (host : Host) (h : Holding) (pending : Option (List Change)) (x : Statement) (y : Answered)
-    (e : l.resolved (catalog (state_of h pending)) host.ask x ≡ Ok (view y)) (f : l.fits x 0 ≡ true) (ex : l.exact [] ≡ exact means []) (sz : l.sized [] ≡ sized means []) where
+module _ (l : Language Statement Ordered) (means : Means) (params : List Value) (host : Host) (h : Holding) (pending : Option (List Change)) (x : Statement) (y : Answered)
+    (e : l.resolved (catalog (state_of h pending)) host.ask x ≡ Ok (view y)) (f : l.fits x (length params) ≡ true) (ex : l.exact params ≡ exact means params) (sz : l.sized params ≡ sized means params) where
   abbrev st : State
   st = state_of h pending
 
-  against_is : cause_of l host st [] x ≡ against means host st (view y)
-  against_is = cause_is l host h pending x (Ok (view y)) true e f ∙ (λ i. first_cause (causes_of host st (view y) (evaluated (ex i) st (view y)) (evaluated (sz i) st (view y))))
+  against_is : cause_of l host st params x ≡ against means params host st (view y)
+  against_is = cause_is l host h pending params x (Ok (view y)) true e f ∙ (λ i. first_cause (causes_of host st (view y) (evaluated (ex i) st (view y)) (evaluated (sz i) st (view y))))
 
   -- where it leaves a session that refuses it
-  ends_so : (g : Refusal) → stepped l host st [] x (Err g) [] ≡ refused st (view y) g
+  ends_so : (g : Refusal) → stepped l host st params x (Err g) [] ≡ refused st (view y) g
   ends_so g =
-      (λ i. cond (is_memory g) st (cond (ends_with l host h pending x (e i) (f i)) (ended st) st))
-      ∙ ap (λ (b : Bool). cond (is_memory g) st (cond (b && (in_transaction st && true)) (ended st) st)) (commit_same l host st (view y))
+      (λ i. cond (is_memory g) st (cond (ends_with l host h pending params x (e i) (f i)) (ended st) st))
+      ∙ ap (λ (b : Bool). cond (is_memory g) st (cond (b && (in_transaction st && true)) (ended st) st)) (commit_same l host st params (view y))
       ∙ ended_so st (ended st) (is_memory g) (is_commit (view y)) (in_transaction st)
 
   -- what it replies and leaves is what it does once its names are resolved
-  pub replies_performed : (result : Result Reply Refusal) (new : State) → Performs means host st (view y) result new → Replies l host h pending x result new
+  pub replies_performed : (result : Result Reply Refusal) (new : State) → Performs means params host st (view y) result new → Replies l host h pending params x result new
   replies_performed (Ok reply) new p = (
     (
       against_is ∙ p.0,
-      ap (λ (o : Result (Resolved Ordered) Refusal). option_map (λ r. reply_to r (rows_of l host st [] r)) (result_ok o)) e
+      ap (λ (o : Result (Resolved Ordered) Refusal). option_map (λ r. reply_to r (rows_of l host st params r)) (result_ok o)) e
           ∙ (λ i. Some (reply_to (view y) (unwrap_or (evaluated (sz i) st (view y)) []))) ∙ ap Some (sym p.1.0),
       tt,
     ),
-    ap (λ (o : Result (Resolved Ordered) Refusal). option_map_or (λ r. left_by st r (rows_of l host st [] r) []) (result_ok o) st) e
+    ap (λ (o : Result (Resolved Ordered) Refusal). option_map_or (λ r. left_by st r (rows_of l host st params r) []) (result_ok o) st) e
         ∙ (λ i. left_by st (view y) (unwrap_or (evaluated (sz i) st (view y)) []) []) ∙ sym p.1.1,
   )
   replies_performed (Err g) new p = ((subst (λ (c : Cause). IsWant g ⊎ Tells c g) (sym against_is) p.0, refl), ends_so g ∙ sym p.1)
 
 module _ {C : Type 0} (function_of : List ℕ → ℕ → Option Definition) (scalar : ℕ → List Value → Result Value (List ℕ)) (step : ℕ → Value → List Value → Result Value (List ℕ)) (finish : ℕ → Value → Result Value (List ℕ))
-    (order_of : OrderOf) (total : AreTotal order_of) (has named : List ℕ → Bool) (names : has ≡ named) (under : Host) (is_clean : C → Type 0) (holding : C → Holding) where
+    (order_of : OrderOf) (total : AreTotal order_of) (has named : List ℕ → Bool) (names : has ≡ named) (under : Host) (is_clean : C → Type 0) (holding : C → Holding) (params : List Value) where
   abbrev language : Language Statement Ordered
   language = spoken function_of scalar step finish order_of total has
 
@@ -246,7 +246,7 @@ module _ {C : Type 0} (function_of : List ℕ → ℕ → Option Definition) (sc
   resolved_by x c f = viewed (resolved (known_at c f) under.ask x)
 
   abbrev Does : SessionOf C → Statement → Result Reply Refusal → SessionOf C → Type 0
-  Does old x result new = Carries language under (clean is_clean) (standing holding) old x result new
+  Does old x result new = Carries language under (clean is_clean) (standing holding) old params x result new
 
   -- over the snapshot the statement is what it is in the session
   abbrev pub Agrees : State → Snapshot → Statement → Type 0
@@ -275,32 +275,32 @@ module _ {C : Type 0} (function_of : List ℕ → ℕ → Option Definition) (sc
   transacts : (st : State) (snap : Snapshot) (x : Statement) → is_transaction x ≡ true → Agrees st snap x
   transacts st snap x of = carried_out (catalog st) x (carried_out_too x of) ∙ ap viewed (nothing_named (known_at (catalog st) has) (known_by function_of named order_of snap) x of)
 
-  counts : (x : Statement) → language.fits x 0 ≡ fits x 0
+  counts : (x : Statement) → language.fits x (length params) ≡ fits x (length params)
   unfolding spoken
   counts x = refl
 
-  exactly : language.exact [] ≡ exact means []
+  exactly : language.exact params ≡ exact means params
   unfolding spoken
   exactly = refl
 
-  limited : language.sized [] ≡ sized means []
+  limited : language.sized params ≡ sized means params
   unfolding spoken
   limited = refl
 
   -- ---- it may not be carried out
 
   refused_told : (h : Holding) (pending : Option (List Change)) (snap : Snapshot) (x : Statement) (f : Refusal) → Agrees (state_of h pending) snap x
-      → (f ≡ refusal.Memory) ⊎ IsRefused (known_by function_of named order_of snap) under.ask x 0 f → Replies language under h pending x (Err f) (state_of h pending)
-  refused_told h pending snap x f agrees (inl memory) = subst (λ (g : Refusal). Replies language under h pending x (Err g) (state_of h pending)) (sym memory) (wants language under h pending x)
+      → (f ≡ refusal.Memory) ⊎ IsRefused (known_by function_of named order_of snap) under.ask x (length params) f → Replies language under h pending params x (Err f) (state_of h pending)
+  refused_told h pending snap x f agrees (inl memory) = subst (λ (g : Refusal). Replies language under h pending params x (Err g) (state_of h pending)) (sym memory) (wants language under h pending params x)
   refused_told h pending snap x f agrees (inr (inl u)) =
-      subst (λ (g : Refusal). Replies language under h pending x (Err g) (state_of h pending)) (sym u.1.1) (not_resolved language under h pending x (of_unresolved u.0) (agrees ∙ ap viewed u.1.0))
+      subst (λ (g : Refusal). Replies language under h pending params x (Err g) (state_of h pending)) (sym u.1.1) (not_resolved language under h pending params x (of_unresolved u.0) (agrees ∙ ap viewed u.1.0))
   refused_told h pending snap x f agrees (inr (inr y)) =
-      subst (λ (g : Refusal). Replies language under h pending x (Err g) (state_of h pending)) (sym y.1.1.1) (not_fitting language under h pending x (view y.0) (agrees ∙ ap viewed y.1.0) (counts x ∙ y.1.1.0))
+      subst (λ (g : Refusal). Replies language under h pending params x (Err g) (state_of h pending)) (sym y.1.1.1) (not_fitting language under h pending params x (view y.0) (agrees ∙ ap viewed y.1.0) (counts x ∙ y.1.1.0))
 
   -- a statement that may not be carried out is refused, and nothing is changed
   refused_so : (old new : SessionOf C) (x : Statement) (snap : Snapshot) (f : Refusal)
       → (is_clean new.0 → is_clean old.0) → (is_clean old.0 → is_clean new.0) → (is_clean new.0 → Agrees (standing holding old) snap x) → (is_clean new.0 → standing holding new ≡ standing holding old)
-      → Allows (known_by function_of named order_of snap) under.ask x 0 (Err f) → Does old x (Err f) new
+      → Allows (known_by function_of named order_of snap) under.ask x (length params) (Err f) → Does old x (Err f) new
   refused_so old new x snap f was stays agrees same h = record {
     was_clean = was;
     stays_clean = λ clean told. stays clean;
@@ -310,26 +310,26 @@ module _ {C : Type 0} (function_of : List ℕ → ℕ → Option Definition) (sc
 
   pub refuses_allowed : (old new : SessionOf C) (x : Statement) (snap : Snapshot) (f : Refusal) → is_carried_out x ≡ true
       → (is_clean new.0 → is_clean old.0) → (is_clean old.0 → is_clean new.0) → (is_clean new.0 → Sees (standing holding old) (standing holding new) (Ok snap))
-      → Allows (known_by function_of named order_of snap) under.ask x 0 (Err f) → Does old x (Err f) new
+      → Allows (known_by function_of named order_of snap) under.ask x (length params) (Err f) → Does old x (Err f) new
   refuses_allowed old new x snap f out was stays sees h =
       refused_so old new x snap f was stays (λ clean. resolves (standing holding old) snap x out (sees clean).sees) (λ clean. (sees clean).same) h
 
   pub refuses_permitted : (old : SessionOf C) (x : Statement) (snap : Snapshot) (f : Refusal) → is_transaction x ≡ true
-      → Allows (known_by function_of named order_of snap) under.ask x 0 (Err f) → Does old x (Err f) old
+      → Allows (known_by function_of named order_of snap) under.ask x (length params) (Err f) → Does old x (Err f) old
   refuses_permitted old x snap f of h =
       refused_so old old x snap f (λ clean. clean) (λ clean. clean) (λ clean. transacts (standing holding old) snap x of) (λ clean. refl) h
 
   -- ---- what is seen can't be read
 
   last_by : (here : State) (x : Statement) → is_carried_out x ≡ true → is_transaction x ≡ false → (o : Result Answered Unresolved) → resolved (known_at (catalog here) has) under.ask x ≡ o
-      → statement.is_commit language under here [] (result_ok (viewed o)) ≡ false
-  last_by here x out other (Ok y) e = commit_same language under here (view y) ∙ not_commit y (form_is (known_at (catalog here) has) under.ask x y out other e)
+      → statement.is_commit language under here params (result_ok (viewed o)) ≡ false
+  last_by here x out other (Ok y) e = commit_same language under here params (view y) ∙ not_commit y (form_is (known_at (catalog here) has) under.ask x y out other e)
   last_by here x out other (Err u) e = refl
 
-  lasts : (h : Holding) (pending : Option (List Change)) (x : Statement) → is_carried_out x ≡ true → is_transaction x ≡ false → Lasts language under h pending x
+  lasts : (h : Holding) (pending : Option (List Change)) (x : Statement) → is_carried_out x ≡ true → is_transaction x ≡ false → Lasts language under h pending params x
   lasts h pending x out other =
-      lasts_other language under h pending x
-      (ap (λ (o : Result (Resolved Ordered) Refusal). statement.is_commit language under (state_of h pending) [] (result_ok o)) (carried_out (catalog (state_of h pending)) x out)
+      lasts_other language under h pending params x
+      (ap (λ (o : Result (Resolved Ordered) Refusal). statement.is_commit language under (state_of h pending) params (result_ok o)) (carried_out (catalog (state_of h pending)) x out)
       ∙ last_by (state_of h pending) x out other (resolved (known_at (catalog (state_of h pending)) has) under.ask x) refl)
 
   pub unread_refuses : (old new : SessionOf C) (x : Statement) (e : CellsError) (f : Refusal) → f ≡ of_store e → is_carried_out x ≡ true → is_transaction x ≡ false
@@ -340,19 +340,19 @@ module _ {C : Type 0} (function_of : List ℕ → ℕ → Option Definition) (sc
     answers = λ clean. (replied clean).0;
     leaves = λ clean. (replied clean).1 ∙ sym (sees clean).same;
   } where
-    replied : is_clean new.0 → Replies language under (holding old.0) old.1 x (Err f) (standing holding old)
-    replied clean = refused_for language under (holding old.0) old.1 x f (lasts (holding old.0) old.1 x out other) (inl (subst IsWant (sym told) (wanting e (sees clean).sees)))
+    replied : is_clean new.0 → Replies language under (holding old.0) old.1 params x (Err f) (standing holding old)
+    replied clean = refused_for language under (holding old.0) old.1 params x f (lasts (holding old.0) old.1 x out other) (inl (subst IsWant (sym told) (wanting e (sees clean).sees)))
 
   -- ---- it is carried out as what it is once its names are resolved
 
   module _ (old middle new : SessionOf C) (x : Statement) (snap : Snapshot) (y : Answered) (result : Result Reply Refusal) (out : is_carried_out x ≡ true)
       (sees : is_clean middle.0 → Sees (standing holding old) (standing holding middle) (Ok snap))
-      (allows : Allows (known_by function_of named order_of snap) under.ask x 0 (Ok y)) (done : Performed means under (clean is_clean) (standing holding) middle y result new) where
-    replied : is_clean new.0 → Replies language under (holding old.0) old.1 x result (standing holding new)
+      (allows : Allows (known_by function_of named order_of snap) under.ask x (length params) (Ok y)) (done : Performed means params under (clean is_clean) (standing holding) middle y result new) where
+    replied : is_clean new.0 → Replies language under (holding old.0) old.1 params x result (standing holding new)
     replied clean =
         let first = sees (done.was_clean clean) in
-        replies_performed language means under (holding old.0) old.1 x y (resolves (standing holding old) snap x out first.sees ∙ ap viewed allows.0) (counts x ∙ allows.1) exactly limited
-        result (standing holding new) (subst (λ (st : State). Performs means under st (view y) result (standing holding new)) first.same (done.performs clean))
+        replies_performed language means params under (holding old.0) old.1 x y (resolves (standing holding old) snap x out first.sees ∙ ap viewed allows.0) (counts x ∙ allows.1) exactly limited
+        result (standing holding new) (subst (λ (st : State). Performs means params under st (view y) result (standing holding new)) first.same (done.performs clean))
 
     pub carries_performed : (is_clean middle.0 → is_clean old.0) → (is_clean old.0 → is_clean middle.0) → Does old x result new
     carries_performed was stays = record {
@@ -364,15 +364,15 @@ module _ {C : Type 0} (function_of : List ℕ → ℕ → Option Definition) (sc
 
   -- a statement that opens or ends a transaction
   module _ (old new : SessionOf C) (x : Statement) (snap : Snapshot) (z : Answered) (result : Result Reply Refusal) (of : is_transaction x ≡ true)
-      (is : (answers : Questioned) (known : Known) → left_of answers (read known x).made ≡ z) (done : Performed means under (clean is_clean) (standing holding) old z result new) where
-    transacted : Permits (known_by function_of named order_of snap) under.ask x (Ok tt) → is_clean new.0 → Replies language under (holding old.0) old.1 x result (standing holding new)
+      (is : (answers : Questioned) (known : Known) → left_of answers (read known x).made ≡ z) (done : Performed means params under (clean is_clean) (standing holding) old z result new) where
+    transacted : Permits (known_by function_of named order_of snap) under.ask x (length params) (Ok tt) → is_clean new.0 → Replies language under (holding old.0) old.1 params x result (standing holding new)
     transacted permits clean =
         let y : Answered = permits.0 in
         let same : y ≡ z = (judged_left (known_by function_of named order_of snap) under.ask x y permits.1.0).0 ∙ is under.ask (known_by function_of named order_of snap) in
-        replies_performed language means under (holding old.0) old.1 x z (transacts (standing holding old) snap x of ∙ ap viewed (permits.1.0 ∙ ap Ok same)) (counts x ∙ permits.1.1) exactly limited
+        replies_performed language means params under (holding old.0) old.1 x z (transacts (standing holding old) snap x of ∙ ap viewed (permits.1.0 ∙ ap Ok same)) (counts x ∙ permits.1.1) exactly limited
         result (standing holding new) (done.performs clean)
 
-    pub carries_transacted : Permits (known_by function_of named order_of snap) under.ask x (Ok tt) → Does old x result new
+    pub carries_transacted : Permits (known_by function_of named order_of snap) under.ask x (length params) (Ok tt) → Does old x result new
     carries_transacted permits = record {
       was_clean = done.was_clean;
       stays_clean = done.stays_clean;

@@ -2,6 +2,7 @@
 use Rattle.std.proofs.Common.{◌≡◌, ◌⊎◌, inl, inr, ℕ, Bool, true, false, not, ◌&&◌, cond, List, [], Option, Some, None, Result, Ok, Err, refl, sym, ap, subst, ◌∙◌, find}
 use Rattle.std.specs.Prelude.{is_some, unwrap_or}
 use Rattle.std.specs.Option.{option_map_or}
+use Rattle.cr_value.specs.declared.value.Value.{Value}
 use Rattle.cr_lattice.specs.declared.change.Change.{Change}
 use Rattle.cr_lattice.specs.declared.table.Table.{Table}
 use Rattle.cr_lattice.specs.declared.table.TableDef.{TableDef}
@@ -132,7 +133,7 @@ pub not_yet_by : (st : State) (def : TableDef) (b : Bool) → find (is_named def
     → not_yet st (world.Table def) ≡ where_true (not b) (refusal.NotYet def.name)
 not_yet_by st def b e = ap (λ (o : Option Table). where_true (not (option_map_or (λ t. t.is_replicated) o false)) (refusal.NotYet def.name)) e
 
-module _ (means : Means) (host : Host) (st : State) (def : TableDef) (x : Resolved Ordered) (f : Meaning Ordered → List Row → Option (List Row)) (is : IsWrite host st def x f) where
+module _ (means : Means) (params : List Value) (host : Host) (st : State) (def : TableDef) (x : Resolved Ordered) (f : Meaning Ordered → List Row → Option (List Row)) (is : IsWrite host st def x f) where
   -- a refused write leaves all as it was
   lasts : (r : Refusal) → refused st x r ≡ st
   lasts r = ap (λ (b : Bool). cond (b && (in_transaction st && not (is_memory r))) (ended st) st) is.no_commit
@@ -149,24 +150,24 @@ module _ (means : Means) (host : Host) (st : State) (def : TableDef) (x : Resolv
 
     -- what may stand against it once it is replicated
     abbrev rest : Cause
-    rest = or_else (evaluation_cause (Some def) (stage (exact means [])) (stage (sized means []))) (of_rows host st def (unwrap_or (stage (sized means [])) []) (changes_now st def (unwrap_or (stage (sized means [])) [])))
+    rest = or_else (evaluation_cause (Some def) (stage (exact means params)) (stage (sized means params))) (of_rows host st def (unwrap_or (stage (sized means params)) []) (changes_now st def (unwrap_or (stage (sized means params)) [])))
 
-    cause_is : against means host st x ≡ rest
+    cause_is : against means params host st x ≡ rest
     cause_is =
-        is.cause (without_limit means host st x) (with_limit means host st x) ∙ (λ i. of_write host st def (evaluated_is (exact means []) i) (evaluated_is (sized means []) i))
+        is.cause (without_limit means params host st x) (with_limit means params host st x) ∙ (λ i. of_write host st def (evaluated_is (exact means params) i) (evaluated_is (sized means params) i))
         ∙ ap (λ (c : Cause). or_else c rest) yet
 
     -- the rows are wanted under both meanings
-    module _ (out : List Row) (both : IsBoth means [] stage out) where
+    module _ (out : List Row) (both : IsBoth means params stage out) where
       abbrev of_key : Cause
       of_key = cond (has_long_key def out) (Evaluation false) Free
 
       abbrev more : List Change
       more = changes_to def st.holding.site (now st) out
 
-      rows_cause : against means host st x ≡ or_else of_key (of_rows host st def out more)
+      rows_cause : against means params host st x ≡ or_else of_key (of_rows host st def out more)
       rows_cause =
-          cause_is ∙ ap (λ (p : Option (List Row)). or_else (evaluation_cause (Some def) (stage (exact means [])) p) (of_rows host st def (unwrap_or p []) (changes_now st def (unwrap_or p [])))) both.sized
+          cause_is ∙ ap (λ (p : Option (List Row)). or_else (evaluation_cause (Some def) (stage (exact means params)) p) (of_rows host st def (unwrap_or p []) (changes_now st def (unwrap_or p [])))) both.sized
 
       long_is : (b : Bool) → has_long_key def out ≡ b → of_key ≡ cond b (Evaluation false) Free
       long_is b e = ap (λ (b : Bool). cond b (Evaluation false) Free) e
@@ -174,7 +175,7 @@ module _ (means : Means) (host : Host) (st : State) (def : TableDef) (x : Resolv
       where_is : (g : Bool) (b : Bool) (r : Refusal) → g ≡ b → where_true g r ≡ where_true b r
       where_is g b r e = ap (λ (b : Bool). where_true b r) e
 
-      stands_told : (r : Refusal) → Stands def st.holding.site (now st) out r → Tells (against means host st x) r
+      stands_told : (r : Refusal) → Stands def st.holding.site (now st) out r → Tells (against means params host st x) r
       stands_told r s = subst (λ (c : Cause). Tells c r) (sym rows_cause) (of_stands s) where
         of_stands : Stands def st.holding.site (now st) out r → Tells (or_else of_key (of_rows host st def out more)) r
         of_stands (inl (long, told)) = told_first of_key _ r (subst (λ (c : Cause). Tells c r) (sym (long_is true long)) told)
@@ -189,36 +190,36 @@ module _ (means : Means) (host : Host) (st : State) (def : TableDef) (x : Resolv
             (told_first (where_true (passes_limit more) refusal.VersionLimit) _ r (subst (λ (c : Cause). Tells c r) (sym (where_is (passes_limit more) true refusal.VersionLimit past)) told))))
 
       -- where nothing stands against the rows, what holds against the changes is what is left
-      commit_left : has_long_key def out ≡ false → lacks_value def out ≡ false → has_twice def out ≡ false → passes_limit more ≡ false → against means host st x ≡ adding_cause host st more
+      commit_left : has_long_key def out ≡ false → lacks_value def out ≡ false → has_twice def out ≡ false → passes_limit more ≡ false → against means params host st x ≡ adding_cause host st more
       commit_left short whole once within =
           rows_cause ∙ (λ i. or_else (long_is false short i) (or_else (where_is (lacks_value def out) false refusal.NotNull whole i) (or_else (where_is (has_twice def out) false refusal.PrimaryKey once i)
           (or_else (where_is (passes_limit more) false refusal.VersionLimit within i) (adding_cause host st more)))))
 
       -- a write with those changes
       makes : (changes : List Change) (result : Result Reply Refusal) (new : State) → changes ≡ more → has_long_key def out ≡ false → lacks_value def out ≡ false → has_twice def out ≡ false → passes_limit more ≡ false
-          → AreAdded host st changes result new → Performs means host st x result new
+          → AreAdded host st changes result new → Performs means params host st x result new
       makes changes result new e short whole once within c = done result (subst (λ (cs : List Change). AreAdded host st cs result new) e c) where
-        same : adding_cause host st more ≡ against means host st x
+        same : adding_cause host st more ≡ against means params host st x
         same = sym (commit_left short whole once within)
 
-        leaves : adding more st ≡ left_by st x (unwrap_or (with_limit means host st x) []) []
-        leaves = sym (is.leaves out) ∙ ap (λ (p : Option (List Row)). left_by st x (unwrap_or p []) []) (sym (evaluated_is (sized means []) ∙ both.sized))
+        leaves : adding more st ≡ left_by st x (unwrap_or (with_limit means params host st x) []) []
+        leaves = sym (is.leaves out) ∙ ap (λ (p : Option (List Row)). left_by st x (unwrap_or p []) []) (sym (evaluated_is (sized means params) ∙ both.sized))
 
-        done : (result : Result Reply Refusal) → AreAdded host st more result new → Performs means host st x result new
-        done (Ok reply) a = (sym same ∙ a.0, (a.1.0 ∙ sym (is.replies (unwrap_or (with_limit means host st x) [])), a.1.1 ∙ leaves))
+        done : (result : Result Reply Refusal) → AreAdded host st more result new → Performs means params host st x result new
+        done (Ok reply) a = (sym same ∙ a.0, (a.1.0 ∙ sym (is.replies (unwrap_or (with_limit means params host st x) [])), a.1.1 ∙ leaves))
         done (Err r) a = (subst (λ (c : Cause). IsWant r ⊎ Tells c r) same a.0, a.1 ∙ sym (lasts r))
 
     -- a write that is refused before its changes are added
-    pub refuses_write : (r : Refusal) → Gains (stage (sized means [])) (stage (exact means [])) → IsRefused means [] def st.holding.site (now st) stage r → Performs means host st x (Err r) st
+    pub refuses_write : (r : Refusal) → Gains (stage (sized means params)) (stage (exact means params)) → IsRefused means params def st.holding.site (now st) stage r → Performs means params host st x (Err r) st
     refuses_write r gains (inl e) = (inl (inl e), sym (lasts r))
     refuses_write r gains (inr (inl (e, is_told, faults))) =
-        (subst (λ (y : Refusal). IsWant y ⊎ Tells (against means host st x) y) (sym is_told) (first (fault_told (Some def) means stage gains e faults)), sym (lasts r)) where
-          first : {y : Refusal} → IsWant y ⊎ Tells (evaluation_cause (Some def) (stage (exact means [])) (stage (sized means []))) y → IsWant y ⊎ Tells (against means host st x) y
+        (subst (λ (y : Refusal). IsWant y ⊎ Tells (against means params host st x) y) (sym is_told) (first (fault_told (Some def) means params stage gains e faults)), sym (lasts r)) where
+          first : {y : Refusal} → IsWant y ⊎ Tells (evaluation_cause (Some def) (stage (exact means params)) (stage (sized means params))) y → IsWant y ⊎ Tells (against means params host st x) y
           first (inl w) = inl w
           first {y} (inr t) = inr (subst (λ (c : Cause). Tells c y) (sym cause_is) (told_first _ _ y t))
     refuses_write r gains (inr (inr (out, both, stands))) = (inr (stands_told out both r stands), sym (lasts r))
 
     -- a write whose changes are added, or refused as they are
-    pub performs_write : (changes : List Change) (result : Result Reply Refusal) (new : State) (leads : Leads means [] def st.holding.site (now st) stage changes)
-        → AreAdded host st changes result new → Performs means host st x result new
+    pub performs_write : (changes : List Change) (result : Result Reply Refusal) (new : State) (leads : Leads means params def st.holding.site (now st) stage changes)
+        → AreAdded host st changes result new → Performs means params host st x result new
     performs_write changes result new leads c = makes leads.rows leads.both changes result new leads.are leads.short leads.whole leads.once leads.within c

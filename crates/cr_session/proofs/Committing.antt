@@ -3,6 +3,7 @@ use Rattle.std.proofs.Common.{◌≡◌, ℕ, Bool, true, false, ◌&&◌, cond,
 use Rattle.std.specs.Prelude.{if◌then◌else◌}
 use Rattle.std.specs.Option.{is_none}
 use Rattle.std.specs.List.{list_all}
+use Rattle.cr_value.specs.declared.value.Value.{Value}
 use Rattle.cr_lattice.specs.declared.catalog.Catalog.{Catalog}
 use Rattle.cr_lattice.specs.declared.change.Change.{Change}
 use Rattle.cr_lattice.specs.declared.profile.ProfileFault.{ProfileFault}
@@ -100,27 +101,27 @@ has_key_there snap d whole e =
 pub replicated_seen : (st : State) (snap : Snapshot) (d : TableDef) → IsSeen st snap → find (is_named d.name) snap.tables ≡ Some (record { definition = d; is_replicated = true }) → Replicated st d
 replicated_seen st snap d is e = subst (λ (ts : List Table). find (is_named d.name) ts ≡ Some (record { definition = d; is_replicated = true })) is.tables e
 
-module _ (means : Means) (st : State) (snap : Snapshot) (is : IsSeen st snap) (def : TableDef) (g : List Row → Stage (List Row)) where
-  leads_there : (changes : List Change) → Leads means [] def snap.site snap.kept (g (rows snap.kept def)) changes → Leads means [] def st.holding.site (now st) (g (rows (now st) def)) changes
+module _ (means : Means) (params : List Value) (st : State) (snap : Snapshot) (is : IsSeen st snap) (def : TableDef) (g : List Row → Stage (List Row)) where
+  leads_there : (changes : List Change) → Leads means params def snap.site snap.kept (g (rows snap.kept def)) changes → Leads means params def st.holding.site (now st) (g (rows (now st) def)) changes
   leads_there changes l =
-      subst (λ (site : List ℕ). Leads means [] def site (now st) (g (rows (now st) def)) changes) is.site
-      (subst (λ (kept : List Change). Leads means [] def snap.site kept (g (rows kept def)) changes) is.kept l)
+      subst (λ (site : List ℕ). Leads means params def site (now st) (g (rows (now st) def)) changes) is.site
+      (subst (λ (kept : List Change). Leads means params def snap.site kept (g (rows kept def)) changes) is.kept l)
 
-  refused_there : (f : Refusal) → IsRefused means [] def snap.site snap.kept (g (rows snap.kept def)) f → IsRefused means [] def st.holding.site (now st) (g (rows (now st) def)) f
+  refused_there : (f : Refusal) → IsRefused means params def snap.site snap.kept (g (rows snap.kept def)) f → IsRefused means params def st.holding.site (now st) (g (rows (now st) def)) f
   refused_there f l =
-      subst (λ (site : List ℕ). IsRefused means [] def site (now st) (g (rows (now st) def)) f) is.site
-      (subst (λ (kept : List Change). IsRefused means [] def snap.site kept (g (rows kept def)) f) is.kept l)
+      subst (λ (site : List ℕ). IsRefused means params def site (now st) (g (rows (now st) def)) f) is.site
+      (subst (λ (kept : List Change). IsRefused means params def snap.site kept (g (rows kept def)) f) is.kept l)
 
 -- a limit on values takes rows away and changes none
-module _ (means : Means) (shown : List Row) where
-  insert_gains : (cols : List ColumnDef) (w : queries.Insert Ordered) → Gains (wanted_by_insert (sized means []) cols w shown) (wanted_by_insert (exact means []) cols w shown)
-  insert_gains cols w = insert_refines (sized means []) (exact means []) (refines means []) cols w shown
+module _ (means : Means) (params : List Value) (shown : List Row) where
+  insert_gains : (cols : List ColumnDef) (w : queries.Insert Ordered) → Gains (wanted_by_insert (sized means params) cols w shown) (wanted_by_insert (exact means params) cols w shown)
+  insert_gains cols w = insert_refines (sized means params) (exact means params) (refines means params) cols w shown
 
-  update_gains : (cols : List ColumnDef) (w : queries.Update Ordered) → Gains (wanted_by_update (sized means []) cols w shown) (wanted_by_update (exact means []) cols w shown)
-  update_gains cols w = update_refines (sized means []) (exact means []) (refines means []) cols w shown
+  update_gains : (cols : List ColumnDef) (w : queries.Update Ordered) → Gains (wanted_by_update (sized means params) cols w shown) (wanted_by_update (exact means params) cols w shown)
+  update_gains cols w = update_refines (sized means params) (exact means params) (refines means params) cols w shown
 
-  delete_gains : (w : queries.Delete Ordered) → Gains (wanted_by_delete (sized means []) w shown) (wanted_by_delete (exact means []) w shown)
-  delete_gains w = delete_refines (sized means []) (exact means []) (refines means []) w shown
+  delete_gains : (w : queries.Delete Ordered) → Gains (wanted_by_delete (sized means params) w shown) (wanted_by_delete (exact means params) w shown)
+  delete_gains w = delete_refines (sized means params) (exact means params) (refines means params) w shown
 
 -- ---- statements by their tables
 
@@ -136,19 +137,19 @@ delete_view d e = λ j. world.Delete (target_is d.relation e j) (delete d)
 
 -- ---- of a session
 
-module _ {C : Type 0} (means : Means) (host : Host) (is_clean : C → Type 0) (holding : C → Holding) (old : SessionOf C) (snap : Snapshot) (seen : is_clean old.0 → IsSeen (standing holding old) snap) where
+module _ {C : Type 0} (means : Means) (params : List Value) (host : Host) (is_clean : C → Type 0) (holding : C → Holding) (old : SessionOf C) (snap : Snapshot) (seen : is_clean old.0 → IsSeen (standing holding old) snap) where
   abbrev here : State
   here = standing holding old
 
   abbrev Does : Answered → Result Reply Refusal → SessionOf C → Type 0
-  Does x result new = Performed means host (clean is_clean) (standing holding) old x result new
+  Does x result new = Performed means params host (clean is_clean) (standing holding) old x result new
 
   abbrev Added : List Change → Result Reply Refusal → SessionOf C → Type 0
   Added changes result new = Adds host (clean is_clean) (standing holding) old changes result new
 
   -- a write whose changes are added
   added_as : (new : SessionOf C) (x : Answered) (changes : List Change) (result : Result Reply Refusal) → Added changes result new
-      → (is_clean old.0 → AreAdded host here changes result (standing holding new) → Performs means host here (view x) result (standing holding new)) → Does x result new
+      → (is_clean old.0 → AreAdded host here changes result (standing holding new) → Performs means params host here (view x) result (standing holding new)) → Does x result new
   added_as new x changes result c p = record {
     was_clean = c.was_clean;
     stays_clean = c.stays_clean;
@@ -169,20 +170,20 @@ module _ {C : Type 0} (means : Means) (host : Host) (is_clean : C → Type 0) (h
       held_there clean = replicated_seen here snap def (seen clean) (replicated_there snap i.relation has e yet)
 
       -- the rows can't be inserted
-      pub insert_refused_rows : (f : Refusal) → i.is_ignored ≡ false → IsRefused means [] def snap.site snap.kept (insert_wants snap i) f → Does (r.Insert i) (Err f) old
-      insert_refused_rows f ig l = untouched means host (clean is_clean) (standing holding) old (r.Insert i) (Err f) (λ clean.
-          subst (λ (x : Resolved Ordered). Performs means host here x (Err f) here) (sym (insert_view i false e ig))
-          (refuses_write means host here def _ _ (insert_write host (holding old.0) old.1 def (insert i).places (insert i).tuples) (held_there clean) f (insert_gains means (rows (now here) def) def.columns (inserting false))
-          (refused_there means here snap (seen clean) def (λ shown m. wanted_by_insert m def.columns (inserting false) shown) f
-          (subst (λ (b : Bool). IsRefused means [] def snap.site snap.kept (λ m. wanted_by_insert m def.columns (inserting b) (rows snap.kept def)) f) ig l))))
+      pub insert_refused_rows : (f : Refusal) → i.is_ignored ≡ false → IsRefused means params def snap.site snap.kept (insert_wants snap i) f → Does (r.Insert i) (Err f) old
+      insert_refused_rows f ig l = untouched means params host (clean is_clean) (standing holding) old (r.Insert i) (Err f) (λ clean.
+          subst (λ (x : Resolved Ordered). Performs means params host here x (Err f) here) (sym (insert_view i false e ig))
+          (refuses_write means params host here def _ _ (insert_write host (holding old.0) old.1 def (insert i).places (insert i).tuples) (held_there clean) f (insert_gains means params (rows (now here) def) def.columns (inserting false))
+          (refused_there means params here snap (seen clean) def (λ shown m. wanted_by_insert m def.columns (inserting false) shown) f
+          (subst (λ (b : Bool). IsRefused means params def snap.site snap.kept (λ m. wanted_by_insert m def.columns (inserting b) (rows snap.kept def)) f) ig l))))
 
-      pub inserts : (new : SessionOf C) (changes : List Change) (result : Result Reply Refusal) → i.is_ignored ≡ false → Leads means [] def snap.site snap.kept (insert_wants snap i) changes
+      pub inserts : (new : SessionOf C) (changes : List Change) (result : Result Reply Refusal) → i.is_ignored ≡ false → Leads means params def snap.site snap.kept (insert_wants snap i) changes
           → Added changes result new → Does (r.Insert i) result new
       inserts new changes result ig l c = added_as new (r.Insert i) changes result c (λ clean a.
-          subst (λ (x : Resolved Ordered). Performs means host here x result (standing holding new)) (sym (insert_view i false e ig))
-          (performs_write means host here def _ _ (insert_write host (holding old.0) old.1 def (insert i).places (insert i).tuples) (held_there clean) changes result (standing holding new)
-          (leads_there means here snap (seen clean) def (λ shown m. wanted_by_insert m def.columns (inserting false) shown) changes
-          (subst (λ (b : Bool). Leads means [] def snap.site snap.kept (λ m. wanted_by_insert m def.columns (inserting b) (rows snap.kept def)) changes) ig l)) a))
+          subst (λ (x : Resolved Ordered). Performs means params host here x result (standing holding new)) (sym (insert_view i false e ig))
+          (performs_write means params host here def _ _ (insert_write host (holding old.0) old.1 def (insert i).places (insert i).tuples) (held_there clean) changes result (standing holding new)
+          (leads_there means params here snap (seen clean) def (λ shown m. wanted_by_insert m def.columns (inserting false) shown) changes
+          (subst (λ (b : Bool). Leads means params def snap.site snap.kept (λ m. wanted_by_insert m def.columns (inserting b) (rows snap.kept def)) changes) ig l)) a))
 
   -- ---- UPDATE
 
@@ -195,18 +196,18 @@ module _ {C : Type 0} (means : Means) (host : Host) (is_clean : C → Type 0) (h
         changed_there : is_clean old.0 → Replicated here changed
         changed_there clean = replicated_seen here snap changed (seen clean) (replicated_there snap u.relation has e yet)
 
-        pub update_refused_rows : (f : Refusal) → IsRefused means [] changed snap.site snap.kept (update_wants snap u) f → Does (r.Update u) (Err f) old
-        update_refused_rows f l = untouched means host (clean is_clean) (standing holding) old (r.Update u) (Err f) (λ clean.
-            subst (λ (x : Resolved Ordered). Performs means host here x (Err f) here) (sym (update_view u e))
-            (refuses_write means host here changed _ _ (update_write host (holding old.0) old.1 changed (update u)) (changed_there clean) f (update_gains means (rows (now here) changed) changed.columns (update u))
-            (refused_there means here snap (seen clean) changed (λ shown m. wanted_by_update m changed.columns (update u) shown) f l)))
+        pub update_refused_rows : (f : Refusal) → IsRefused means params changed snap.site snap.kept (update_wants snap u) f → Does (r.Update u) (Err f) old
+        update_refused_rows f l = untouched means params host (clean is_clean) (standing holding) old (r.Update u) (Err f) (λ clean.
+            subst (λ (x : Resolved Ordered). Performs means params host here x (Err f) here) (sym (update_view u e))
+            (refuses_write means params host here changed _ _ (update_write host (holding old.0) old.1 changed (update u)) (changed_there clean) f (update_gains means params (rows (now here) changed) changed.columns (update u))
+            (refused_there means params here snap (seen clean) changed (λ shown m. wanted_by_update m changed.columns (update u) shown) f l)))
 
-        pub updates : (new : SessionOf C) (changes : List Change) (result : Result Reply Refusal) → Leads means [] changed snap.site snap.kept (update_wants snap u) changes
+        pub updates : (new : SessionOf C) (changes : List Change) (result : Result Reply Refusal) → Leads means params changed snap.site snap.kept (update_wants snap u) changes
             → Added changes result new → Does (r.Update u) result new
         updates new changes result l c = added_as new (r.Update u) changes result c (λ clean a.
-            subst (λ (x : Resolved Ordered). Performs means host here x result (standing holding new)) (sym (update_view u e))
-            (performs_write means host here changed _ _ (update_write host (holding old.0) old.1 changed (update u)) (changed_there clean) changes result (standing holding new)
-            (leads_there means here snap (seen clean) changed (λ shown m. wanted_by_update m changed.columns (update u) shown) changes l) a))
+            subst (λ (x : Resolved Ordered). Performs means params host here x result (standing holding new)) (sym (update_view u e))
+            (performs_write means params host here changed _ _ (update_write host (holding old.0) old.1 changed (update u)) (changed_there clean) changes result (standing holding new)
+            (leads_there means params here snap (seen clean) changed (λ shown m. wanted_by_update m changed.columns (update u) shown) changes l) a))
 
   -- ---- DELETE
 
@@ -219,15 +220,15 @@ module _ {C : Type 0} (means : Means) (host : Host) (is_clean : C → Type 0) (h
         thinned_there : is_clean old.0 → Replicated here thinned
         thinned_there clean = replicated_seen here snap thinned (seen clean) (replicated_there snap d.relation has e yet)
 
-        pub delete_refused_rows : (f : Refusal) → IsRefused means [] thinned snap.site snap.kept (delete_wants snap d) f → Does (r.Delete d) (Err f) old
-        delete_refused_rows f l = untouched means host (clean is_clean) (standing holding) old (r.Delete d) (Err f) (λ clean.
-            subst (λ (x : Resolved Ordered). Performs means host here x (Err f) here) (sym (delete_view d e))
-            (refuses_write means host here thinned _ _ (delete_write host (holding old.0) old.1 thinned (delete d)) (thinned_there clean) f (delete_gains means (rows (now here) thinned) (delete d))
-            (refused_there means here snap (seen clean) thinned (λ shown m. wanted_by_delete m (delete d) shown) f l)))
+        pub delete_refused_rows : (f : Refusal) → IsRefused means params thinned snap.site snap.kept (delete_wants snap d) f → Does (r.Delete d) (Err f) old
+        delete_refused_rows f l = untouched means params host (clean is_clean) (standing holding) old (r.Delete d) (Err f) (λ clean.
+            subst (λ (x : Resolved Ordered). Performs means params host here x (Err f) here) (sym (delete_view d e))
+            (refuses_write means params host here thinned _ _ (delete_write host (holding old.0) old.1 thinned (delete d)) (thinned_there clean) f (delete_gains means params (rows (now here) thinned) (delete d))
+            (refused_there means params here snap (seen clean) thinned (λ shown m. wanted_by_delete m (delete d) shown) f l)))
 
-        pub deletes : (new : SessionOf C) (changes : List Change) (result : Result Reply Refusal) → Leads means [] thinned snap.site snap.kept (delete_wants snap d) changes
+        pub deletes : (new : SessionOf C) (changes : List Change) (result : Result Reply Refusal) → Leads means params thinned snap.site snap.kept (delete_wants snap d) changes
             → Added changes result new → Does (r.Delete d) result new
         deletes new changes result l c = added_as new (r.Delete d) changes result c (λ clean a.
-            subst (λ (x : Resolved Ordered). Performs means host here x result (standing holding new)) (sym (delete_view d e))
-            (performs_write means host here thinned _ _ (delete_write host (holding old.0) old.1 thinned (delete d)) (thinned_there clean) changes result (standing holding new)
-            (leads_there means here snap (seen clean) thinned (λ shown m. wanted_by_delete m (delete d) shown) changes l) a))
+            subst (λ (x : Resolved Ordered). Performs means params host here x result (standing holding new)) (sym (delete_view d e))
+            (performs_write means params host here thinned _ _ (delete_write host (holding old.0) old.1 thinned (delete d)) (thinned_there clean) changes result (standing holding new)
+            (leads_there means params here snap (seen clean) thinned (λ shown m. wanted_by_delete m (delete d) shown) changes l) a))

@@ -9,4 +9,4 @@ pub mod Making
 pub mod Changing
 pub mod Committing
 pub mod Receiving
-pub mod Transactions
+pub mod Executions

@@ -3,6 +3,7 @@ use Rattle.std.proofs.Common.{◌≡◌, inl, inr, ℕ, Bool, true, false, not, 
 use Rattle.std.specs.Prelude.{is_some, if◌then◌else◌}
 use Rattle.std.specs.Option.{option_map}
 use Rattle.std.specs.List.{list_any}
+use Rattle.cr_value.specs.declared.value.Value.{Value}
 use Rattle.cr_lattice.specs.declared.change.Change.{Change}
 use Rattle.cr_lattice.specs.declared.table.TableDef.{TableDef}
 use Rattle.cr_lattice.specs.declared.table.Table.{Table}
@@ -26,12 +27,12 @@ use Rattle.cr_world.specs.declared.command.Reply.{Reply}
 use Rattle.cr_world.specs.declared.refusal.Refusal.{Refusal}
 use Rattle.cr_world.specs.declared.refusal.Refusal.TheVariants as refusal
 use Rattle.cr_world.specs.Refusals.{is_want, of_store}
-use Rattle.cr_world.specs.Causes.{Cause, Free, Is, Evaluation, IsWant, Tells, or_else, of_option, where_true}
+use Rattle.cr_world.specs.Causes.{Cause, Free, Is, Evaluation, IsWant, Tells, or_else, of_option}
 use Rattle.cr_world.specs.Resolved as world
-use Rattle.cr_world.specs.State.{State, catalog, changes_name, in_transaction, name_of}
+use Rattle.cr_world.specs.State.{State, catalog, changes_name, name_of}
 use Rattle.cr_world.specs.Statement.{Host, ended, marked_reply, no_default, not_a_table, column_name, with_tables}
 use Rattle.cr_fit.specs.Suited.{HasRelation}
-use Rattle.cr_session.specs.Performing.{Passes, Performs, Performed, against, is_commit, is_table, refused}
+use Rattle.cr_session.specs.Performing.{Passes, Performs, Performed, against, is_commit, is_table}
 use Rattle.cr_session.specs.Sessions.{clean, standing, state_of}
 use Rattle.cr_session.proofs.Selecting.{or_free}
 use Rattle.cr_session.proofs.Takings.{want_of_store, wanting}
@@ -54,9 +55,9 @@ still (Ok x) P p = p
 still (Err f) P p = λ e. p
 
 -- nothing of the store is asked for
-pub untouched : {C : Type 0} (means : Means) (host : Host) (is_clean : C → Type 0) (stands : C → State) (old : C) (x : Resolved) (result : Result Reply Refusal)
-    → (is_clean old → Performs means host (stands old) (view x) result (stands old)) → Performed means host is_clean stands old x result old
-untouched means host is_clean stands old x result p = record {
+pub untouched : {C : Type 0} (means : Means) (params : List Value) (host : Host) (is_clean : C → Type 0) (stands : C → State) (old : C) (x : Resolved) (result : Result Reply Refusal)
+    → (is_clean old → Performs means params host (stands old) (view x) result (stands old)) → Performed means params host is_clean stands old x result old
+untouched means params host is_clean stands old x result p = record {
   was_clean = λ clean. clean;
   stays_clean = λ clean. still result (is_clean old) clean;
   performs = p;
@@ -64,17 +65,17 @@ untouched means host is_clean stands old x result p = record {
 
 -- ---- a definition of a store
 
-module _ {C : Type 0} (means : Means) (host : Host) (is_clean : C → Type 0) (holding : C → Holding) (old new : C) (x : Resolved) (wanted : Holding)
+module _ {C : Type 0} (means : Means) (params : List Value) (host : Host) (is_clean : C → Type 0) (holding : C → Holding) (old new : C) (x : Resolved) (wanted : Holding)
     (was : is_clean new → is_clean old) where
   abbrev Does : Result Reply Refusal → Type 0
-  Does result = Performed means host (clean is_clean) (standing holding) (old, None) x result (new, None)
+  Does result = Performed means params host (clean is_clean) (standing holding) (old, None) x result (new, None)
 
   pub defined : (reply : Reply) → (is_clean old → is_clean new) → (is_clean new → Defines (holding old) (holding new) (Ok tt) wanted)
-      → (is_clean new → Performs means host (standing holding (old, None)) (view x) (Ok reply) (state_of wanted None)) → Does (Ok reply)
+      → (is_clean new → Performs means params host (standing holding (old, None)) (view x) (Ok reply) (state_of wanted None)) → Does (Ok reply)
   defined reply stays defines p = record {
     was_clean = was;
     stays_clean = stays;
-    performs = λ clean. subst (λ (h : Holding). Performs means host (standing holding (old, None)) (view x) (Ok reply) (state_of h None)) (sym (defines clean)) (p clean);
+    performs = λ clean. subst (λ (h : Holding). Performs means params host (standing holding (old, None)) (view x) (Ok reply) (state_of h None)) (sym (defines clean)) (p clean);
   }
 
   pub not_defined : (e : CellsError) (f : Refusal) → f ≡ of_store e → is_commit (view x) ≡ false → (is_clean old → calls.is_want e ≡ false → is_clean new) → (is_clean new → Defines (holding old) (holding new) (Err e) wanted)
@@ -85,24 +86,15 @@ module _ {C : Type 0} (means : Means) (host : Host) (is_clean : C → Type 0) (h
     performs = λ clean. (inl (subst IsWant (sym told) (wanting e (defines clean).1)), ap (λ (h : Holding). state_of h None) (defines clean).0 ∙ sym (ap (λ (b : Bool). cond (b && false) (ended (standing holding (old, None))) (standing holding (old, None))) lasts));
   }
 
--- ---- inside a transaction
-
--- it is refused there, whatever it would do
-pub forbidden : {C : Type 0} (means : Means) (host : Host) (is_clean : C → Type 0) (stands : C → State) (old : C) (x : Resolved) (later : Cause)
-    → against means host (stands old) (view x) ≡ or_else (where_true (in_transaction (stands old)) refusal.TransactionState) later → refused (stands old) (view x) refusal.TransactionState ≡ stands old
-    → in_transaction (stands old) ≡ true → Performed means host is_clean stands old x (Err refusal.TransactionState) old
-forbidden means host is_clean stands old x later e stays inside = untouched means host is_clean stands old x (Err refusal.TransactionState) (λ clean.
-    (inr (subst (λ (c : Cause). Tells c refusal.TransactionState) (sym (e ∙ ap (λ (b : Bool). or_else (where_true b refusal.TransactionState) later) inside)) refl), sym stays))
-
 none_is : {X : Type 0} (o : Option X) → is_some o ≡ false → o ≡ None
 none_is None e = refl
 none_is (Some x) e = absurd (let z : ⊥ = cc in z)
 
 -- outside of transactions
-pub outside : {C : Type 0} (means : Means) (host : Host) (is_clean : C → Type 0) (holding : C → Holding) (old new : C) (x : Resolved) (result : Result Reply Refusal) (pending : Option (List Change)) → is_some pending ≡ false
-    → Performed means host (clean is_clean) (standing holding) (old, None) x result (new, None) → Performed means host (clean is_clean) (standing holding) (old, pending) x result (new, pending)
-outside means host is_clean holding old new x result pending e =
-    subst (λ (p : Option (List Change)). Performed means host (clean is_clean) (standing holding) (old, p) x result (new, p)) (sym (none_is pending e))
+pub outside : {C : Type 0} (means : Means) (params : List Value) (host : Host) (is_clean : C → Type 0) (holding : C → Holding) (old new : C) (x : Resolved) (result : Result Reply Refusal) (pending : Option (List Change)) → is_some pending ≡ false
+    → Performed means params host (clean is_clean) (standing holding) (old, None) x result (new, None) → Performed means params host (clean is_clean) (standing holding) (old, pending) x result (new, pending)
+outside means params host is_clean holding old new x result pending e =
+    subst (λ (p : Option (List Change)). Performed means params host (clean is_clean) (standing holding) (old, p) x result (new, p)) (sym (none_is pending e))
 
 -- ---- what stands for a name
 
@@ -172,22 +164,22 @@ markable h x name has table defaults e =
     (any_found (is_named x.definition.name) (λ t. has_defaults t.definition) (record { definition = x.definition; is_replicated = found.0 }) h.tables found.1
     (ap not (none_lacks (position lacks_default x.definition.columns) (λ i. refusal.NoDefault (column_name x.definition.columns i)) defaults)))
 
-module _ (means : Means) (host : Host) (h : Holding) (m : MarkReplicated) where
+module _ (means : Means) (params : List Value) (host : Host) (h : Holding) (m : MarkReplicated) where
   abbrev st : State
   st = state_of h None
 
-  mark_cause : against means host st (view (r.MarkReplicated m)) ≡ or_else (not_a_table (target m.relation)) (no_default (target m.relation))
+  mark_cause : against means params host st (view (r.MarkReplicated m)) ≡ or_else (not_a_table (target m.relation)) (no_default (target m.relation))
   mark_cause = ap (or_else (not_a_table (target m.relation))) (or_free (no_default (target m.relation)))
 
   -- the columns are the table's
   defaults_are : not_a_table (target m.relation) ≡ Free → no_default (target m.relation) ≡ no_default (world.Table m.relation.definition)
   defaults_are e = ap no_default (target_is m.relation (passed_is_table m.relation e))
 
-  free : not_a_table (target m.relation) ≡ Free → no_default (world.Table m.relation.definition) ≡ Free → against means host st (view (r.MarkReplicated m)) ≡ Free
+  free : not_a_table (target m.relation) ≡ Free → no_default (world.Table m.relation.definition) ≡ Free → against means params host st (view (r.MarkReplicated m)) ≡ Free
   free e d = mark_cause ∙ both_free (not_a_table (target m.relation)) (no_default (target m.relation)) e (defaults_are e ∙ d)
 
   pub performs_marked : (reply : Reply) (name : List ℕ) → m.is_ignored ≡ false → reply ≡ marked_reply m.is_ignored → not_a_table (target m.relation) ≡ Free → no_default (world.Table m.relation.definition) ≡ Free → name ≡ m.relation.definition.name
-      → Performs means host st (view (r.MarkReplicated m)) (Ok reply) (state_of (record h { tables = with_replicated name h.tables }) None)
+      → Performs means params host st (view (r.MarkReplicated m)) (Ok reply) (state_of (record h { tables = with_replicated name h.tables }) None)
   performs_marked reply name marks is e d named = (
     free e d,
     (

@@ -3,6 +3,7 @@ use Rattle.std.proofs.Common.{◌≡◌, ◌⊎◌, inl, inr, Bool, true, false,
 use Rattle.std.specs.Prelude.{unwrap_or}
 use Rattle.std.specs.List.{filter_map}
 use Rattle.std.specs.Option.{option_map}
+use Rattle.cr_value.specs.declared.value.Value.{Value}
 use Rattle.cr_lattice.specs.declared.change.Change.{Change}
 use Rattle.cr_lattice.specs.declared.check.BadChange.{BadChange}
 use Rattle.cr_lattice.specs.declared.table.Table.{Table}
@@ -67,7 +68,7 @@ target_of (held.Module at) d e same = ap module_target same
 
 -- ---- what it does
 
-module _ (means : Means) (host : Host) (h : Holding) (pending : Option (List Change)) (w : queries.Insert Ordered) where
+module _ (means : Means) (params : List Value) (host : Host) (h : Holding) (pending : Option (List Change)) (w : queries.Insert Ordered) where
   abbrev here : State
   here = state_of h pending
 
@@ -75,7 +76,7 @@ module _ (means : Means) (host : Host) (h : Holding) (pending : Option (List Cha
   receiving b = world.Insert world.Changes (record { places = w.places; tuples = w.tuples; is_ignored = b })
 
   -- where it is ignored nothing is done
-  performs_ignored : Performs means host here (receiving true) (Ok Done) here
+  performs_ignored : Performs means params host here (receiving true) (Ok Done) here
   performs_ignored = (ap (λ (b : Bool). or_else (where_true b refusal.TransactionState) Free) (never (in_transaction here)), (refl, refl))
 
   abbrev brought : Stage (List Row)
@@ -93,43 +94,43 @@ module _ (means : Means) (host : Host) (h : Holding) (pending : Option (List Cha
   causes o p = or_else (evaluation_cause None o p) (or_else (bad_cause (unwrap_or p [])) (adding_cause host here (filter_map change_of_row (unwrap_or p []))))
 
   -- a fault of an expression, then a row that is no change, then what holds against a commit
-  cause_is : against means host here (receiving false) ≡ causes (brought (exact means [])) (brought (sized means []))
-  cause_is = λ i. causes_at (brought (exact means [])) (brought (sized means [])) (never (in_transaction here) i) (judged_is host here (filter_map change_of_row (unwrap_or (brought (sized means [])) [])) (in_transaction here) i)
+  cause_is : against means params host here (receiving false) ≡ causes (brought (exact means params)) (brought (sized means params))
+  cause_is = λ i. causes_at (brought (exact means params)) (brought (sized means params)) (never (in_transaction here) i) (judged_is host here (filter_map change_of_row (unwrap_or (brought (sized means params)) [])) (in_transaction here) i)
 
-  brought_gains : Gains (brought (sized means [])) (brought (exact means []))
-  brought_gains = rows_refine (sized means []) (exact means []) (refines means []) changes_columns (record { places = w.places; tuples = w.tuples; is_ignored = false })
+  brought_gains : Gains (brought (sized means params)) (brought (exact means params))
+  brought_gains = rows_refine (sized means params) (exact means params) (refines means params) changes_columns (record { places = w.places; tuples = w.tuples; is_ignored = false })
 
-  module _ (rows : List Row) (both : IsBoth means [] brought rows) where
-    rows_cause : against means host here (receiving false) ≡ or_else (bad_cause rows) (adding_cause host here (filter_map change_of_row rows))
-    rows_cause = cause_is ∙ ap (λ (p : Option (List Row)). causes (brought (exact means [])) p) both.sized
+  module _ (rows : List Row) (both : IsBoth means params brought rows) where
+    rows_cause : against means params host here (receiving false) ≡ or_else (bad_cause rows) (adding_cause host here (filter_map change_of_row rows))
+    rows_cause = cause_is ∙ ap (λ (p : Option (List Row)). causes (brought (exact means params)) p) both.sized
 
-    bad_told : (b : BadChange) (f : Refusal) → first_bad here rows ≡ Some b → f ≡ refusal.BadChange b → Tells (against means host here (receiving false)) f
+    bad_told : (b : BadChange) (f : Refusal) → first_bad here rows ≡ Some b → f ≡ refusal.BadChange b → Tells (against means params host here (receiving false)) f
     bad_told b f bad told =
         subst (λ (c : Cause). Tells c f) (sym rows_cause) (told_first (bad_cause rows) _ f (subst (λ (o : Option BadChange). Tells (of_option (option_map refusal.BadChange o)) f) (sym bad) told))
 
-    good_cause : first_bad here rows ≡ None → against means host here (receiving false) ≡ adding_cause host here (filter_map change_of_row rows)
+    good_cause : first_bad here rows ≡ None → against means params host here (receiving false) ≡ adding_cause host here (filter_map change_of_row rows)
     good_cause good = rows_cause ∙ ap (λ (o : Option BadChange). or_else (of_option (option_map refusal.BadChange o)) (adding_cause host here (filter_map change_of_row rows))) good
 
-    leaves : left_by here (receiving false) (unwrap_or (with_limit means host here (receiving false)) []) [] ≡ adding (filter_map change_of_row rows) here
+    leaves : left_by here (receiving false) (unwrap_or (with_limit means params host here (receiving false)) []) [] ≡ adding (filter_map change_of_row rows) here
     leaves = ap (λ (p : Option (List Row)). left_by here (receiving false) (unwrap_or p []) []) both.sized ∙ added_to h (filter_map change_of_row rows) pending
 
     performs_received : (changes : List Change) (result : Result Reply Refusal) (new : State) → changes ≡ filter_map change_of_row rows → first_bad here rows ≡ None
-        → AreAdded host here changes result new → Performs means host here (receiving false) result new
+        → AreAdded host here changes result new → Performs means params host here (receiving false) result new
     performs_received changes result new e good c = done result (subst (λ (cs : List Change). AreAdded host here cs result new) e c) where
-      done : (result : Result Reply Refusal) → AreAdded host here (filter_map change_of_row rows) result new → Performs means host here (receiving false) result new
+      done : (result : Result Reply Refusal) → AreAdded host here (filter_map change_of_row rows) result new → Performs means params host here (receiving false) result new
       done (Ok reply) a = (good_cause good ∙ a.0, (a.1.0, a.1.1 ∙ sym leaves))
       done (Err f) a = (subst (λ (c : Cause). IsWant f ⊎ Tells c f) (sym (good_cause good)) a.0, a.1)
 
-  first_told : (f : Refusal) → IsWant f ⊎ Tells (evaluation_cause None (brought (exact means [])) (brought (sized means []))) f → IsWant f ⊎ Tells (against means host here (receiving false)) f
+  first_told : (f : Refusal) → IsWant f ⊎ Tells (evaluation_cause None (brought (exact means params)) (brought (sized means params))) f → IsWant f ⊎ Tells (against means params host here (receiving false)) f
   first_told f (inl want) = inl want
-  first_told f (inr t) = inr (subst (λ (c : Cause). Tells c f) (sym cause_is) (told_first (evaluation_cause None (brought (exact means [])) (brought (sized means []))) _ f t))
+  first_told f (inr t) = inr (subst (λ (c : Cause). Tells c f) (sym cause_is) (told_first (evaluation_cause None (brought (exact means params)) (brought (sized means params))) _ f t))
 
-  faulty : (f : Refusal) (e : EvalFault) → f ≡ of_fault e → Faults means [] brought e → Performs means host here (receiving false) (Err f) here
-  faulty f e told faults = (first_told f (subst (λ (y : Refusal). IsWant y ⊎ Tells (evaluation_cause None (brought (exact means [])) (brought (sized means []))) y) (sym told) (fault_told None means brought brought_gains e faults)), refl)
+  faulty : (f : Refusal) (e : EvalFault) → f ≡ of_fault e → Faults means params brought e → Performs means params host here (receiving false) (Err f) here
+  faulty f e told faults = (first_told f (subst (λ (y : Refusal). IsWant y ⊎ Tells (evaluation_cause None (brought (exact means params)) (brought (sized means params))) y) (sym told) (fault_told None means params brought brought_gains e faults)), refl)
 
 -- ---- of a session
 
-module _ {C : Type 0} (means : Means) (host : Host) (is_clean : C → Type 0) (holding : C → Holding) (old : SessionOf C) (snap : Snapshot) (seen : is_clean old.0 → IsSeen (standing holding old) snap)
+module _ {C : Type 0} (means : Means) (params : List Value) (host : Host) (is_clean : C → Type 0) (holding : C → Holding) (old : SessionOf C) (snap : Snapshot) (seen : is_clean old.0 → IsSeen (standing holding old) snap)
     (i : Insert) (has : HasRelation (catalog_of snap) i.relation) (e : is_table i.relation.held ≡ false) where
   received_view : (b : Bool) → i.is_ignored ≡ b → view (r.Insert i) ≡ world.Insert world.Changes (record { places = (insert i).places; tuples = (insert i).tuples; is_ignored = b })
   received_view b ig = λ j. world.Insert (target_of i.relation.held i.relation.definition e (is_changes snap i.relation has e) j) (record { places = (insert i).places; tuples = (insert i).tuples; is_ignored = ig j })
@@ -138,13 +139,13 @@ module _ {C : Type 0} (means : Means) (host : Host) (is_clean : C → Type 0) (h
   at = standing holding old
 
   abbrev Does : Bool → Result Reply Refusal → State → Type 0
-  Does b result new = Performs means host at (world.Insert world.Changes (record { places = (insert i).places; tuples = (insert i).tuples; is_ignored = b })) result new
+  Does b result new = Performs means params host at (world.Insert world.Changes (record { places = (insert i).places; tuples = (insert i).tuples; is_ignored = b })) result new
 
-  as_insert : (b : Bool) (result : Result Reply Refusal) (new : State) → i.is_ignored ≡ b → Does b result new → Performs means host at (view (r.Insert i)) result new
-  as_insert b result new ig p = subst (λ (x : Resolved Ordered). Performs means host at x result new) (sym (received_view b ig)) p
+  as_insert : (b : Bool) (result : Result Reply Refusal) (new : State) → i.is_ignored ≡ b → Does b result new → Performs means params host at (view (r.Insert i)) result new
+  as_insert b result new ig p = subst (λ (x : Resolved Ordered). Performs means params host at x result new) (sym (received_view b ig)) p
 
-  pub receive_ignored : i.is_ignored ≡ true → Performed means host (clean is_clean) (standing holding) old (r.Insert i) (Ok Done) old
-  receive_ignored ig = untouched means host (clean is_clean) (standing holding) old (r.Insert i) (Ok Done) (λ clean. as_insert true (Ok Done) at ig (performs_ignored means host (holding old.0) old.1 (insert i)))
+  pub receive_ignored : i.is_ignored ≡ true → Performed means params host (clean is_clean) (standing holding) old (r.Insert i) (Ok Done) old
+  receive_ignored ig = untouched means params host (clean is_clean) (standing holding) old (r.Insert i) (Ok Done) (λ clean. as_insert true (Ok Done) at ig (performs_ignored means params host (holding old.0) old.1 (insert i)))
 
   -- the tables are those of the store
   bad_is : is_clean old.0 → (rows : List Row) → first_bad at rows ≡ first_bad_in snap.tables rows
@@ -154,24 +155,24 @@ module _ {C : Type 0} (means : Means) (host : Host) (is_clean : C → Type 0) (h
   abbrev brought_by : (b : Bool) → Stage (List Row)
   brought_by b m = inserted_rows m changes_columns (record { places = (insert i).places; tuples = (insert i).tuples; is_ignored = b })
 
-  refused_so : is_clean old.0 → (f : Refusal) → i.is_ignored ≡ false → (f ≡ refusal.Memory) ⊎ (IsFaulty means [] snap.tables i f ⊎ IsBad means [] snap.tables i f) → Does false (Err f) at
+  refused_so : is_clean old.0 → (f : Refusal) → i.is_ignored ≡ false → (f ≡ refusal.Memory) ⊎ (IsFaulty means params snap.tables i f ⊎ IsBad means params snap.tables i f) → Does false (Err f) at
   refused_so clean f ig (inl memory) = (inl (inl memory), refl)
   refused_so clean f ig (inr (inl (fault, told, faults))) =
-      faulty means host (holding old.0) old.1 (insert i) f fault told (subst (λ (b : Bool). Faults means [] (brought_by b) fault) ig faults)
+      faulty means params host (holding old.0) old.1 (insert i) f fault told (subst (λ (b : Bool). Faults means params (brought_by b) fault) ig faults)
   refused_so clean f ig (inr (inr bad)) = by_first bad.first where
     by_first : IsToldOf (first_bad_in snap.tables bad.rows) f → Does false (Err f) at
     by_first (b, is, told) =
-        (inr (bad_told means host (holding old.0) old.1 (insert i) bad.rows (subst (λ (b : Bool). IsBoth means [] (brought_by b) bad.rows) ig bad.brought) b f (bad_is clean bad.rows ∙ is) told), refl)
+        (inr (bad_told means params host (holding old.0) old.1 (insert i) bad.rows (subst (λ (b : Bool). IsBoth means params (brought_by b) bad.rows) ig bad.brought) b f (bad_is clean bad.rows ∙ is) told), refl)
 
-  pub receive_refused : (f : Refusal) → i.is_ignored ≡ false → (f ≡ refusal.Memory) ⊎ (IsFaulty means [] snap.tables i f ⊎ IsBad means [] snap.tables i f) → Performed means host (clean is_clean) (standing holding) old (r.Insert i) (Err f) old
-  receive_refused f ig l = untouched means host (clean is_clean) (standing holding) old (r.Insert i) (Err f) (λ clean. as_insert false (Err f) at ig (refused_so clean f ig l))
+  pub receive_refused : (f : Refusal) → i.is_ignored ≡ false → (f ≡ refusal.Memory) ⊎ (IsFaulty means params snap.tables i f ⊎ IsBad means params snap.tables i f) → Performed means params host (clean is_clean) (standing holding) old (r.Insert i) (Err f) old
+  receive_refused f ig l = untouched means params host (clean is_clean) (standing holding) old (r.Insert i) (Err f) (λ clean. as_insert false (Err f) at ig (refused_so clean f ig l))
 
-  pub receives : (new : SessionOf C) (changes : List Change) (result : Result Reply Refusal) → i.is_ignored ≡ false → AreReceived means [] snap.tables i changes → Adds host (clean is_clean) (standing holding) old changes result new
-      → Performed means host (clean is_clean) (standing holding) old (r.Insert i) result new
+  pub receives : (new : SessionOf C) (changes : List Change) (result : Result Reply Refusal) → i.is_ignored ≡ false → AreReceived means params snap.tables i changes → Adds host (clean is_clean) (standing holding) old changes result new
+      → Performed means params host (clean is_clean) (standing holding) old (r.Insert i) result new
   receives new changes result ig l c = record {
     was_clean = c.was_clean;
     stays_clean = c.stays_clean;
     performs = λ clean. as_insert false result (standing holding new) ig
-        (performs_received means host (holding old.0) old.1 (insert i) l.rows (subst (λ (b : Bool). IsBoth means [] (brought_by b) l.rows) ig l.brought) changes result (standing holding new)
+        (performs_received means params host (holding old.0) old.1 (insert i) l.rows (subst (λ (b : Bool). IsBoth means params (brought_by b) l.rows) ig l.brought) changes result (standing holding new)
         l.changes_of_rows (bad_is (c.was_clean clean) l.rows ∙ l.well_formed) (c.adds clean));
   }

@@ -49,25 +49,25 @@ module _ {C : Type 0} (function_of : List ℕ → ℕ → Option Definition) (sc
   unfolding spoken
   no_resolution c x e = ap (λ (b : Bool). if b then (whole_sql (engine function_of scalar step finish order_of total has)).resolved c host.ask x else Err (not_carried_out x)) e
 
-  abbrev Refused : SessionOf C → Statement → Refusal → Type 0
-  Refused old x y = Replies meant host (holding old.0) old.1 x (Err y) (standing holding old)
+  abbrev Refused : SessionOf C → List Value → Statement → Refusal → Type 0
+  Refused old params x y = Replies meant host (holding old.0) old.1 params x (Err y) (standing holding old)
 
   -- a statement that isn't carried out is refused, and nothing is changed
-  pub refuses : (old : SessionOf C) (x : Statement) (r : Refusal) → is_carried_out x ≡ false → (r ≡ not_carried_out x) ⊎ (r ≡ Memory) → Carries meant host (clean is_clean) (standing holding) old x (Err r) old
-  refuses old x r e told = record {
+  pub refuses : (old : SessionOf C) (params : List Value) (x : Statement) (r : Refusal) → is_carried_out x ≡ false → (r ≡ not_carried_out x) ⊎ (r ≡ Memory) → Carries meant host (clean is_clean) (standing holding) old params x (Err r) old
+  refuses old params x r e told = record {
     was_clean = λ clean. clean;
     stays_clean = λ clean want. clean;
     answers = λ clean. (replies told).0;
     leaves = λ clean. (replies told).1;
   } where
-    replies : (r ≡ not_carried_out x) ⊎ (r ≡ Memory) → Refused old x r
-    replies (inl f) = subst (Refused old x) (sym f) (not_resolved meant host (holding old.0) old.1 x (not_carried_out x) (no_resolution (catalog (standing holding old)) x e))
-    replies (inr f) = subst (Refused old x) (sym f) (told_want meant host (holding old.0) old.1 x)
+    replies : (r ≡ not_carried_out x) ⊎ (r ≡ Memory) → Refused old params x r
+    replies (inl f) = subst (Refused old params x) (sym f) (not_resolved meant host (holding old.0) old.1 params x (not_carried_out x) (no_resolution (catalog (standing holding old)) x e))
+    replies (inr f) = subst (Refused old params x) (sym f) (told_want meant host (holding old.0) old.1 params x)
 
 -- ---- the next statement
 
 -- what reading answers
-abbrev ReadsNext : List ℕ → List Token → Result (Option (Statement × ℕ)) SqlError → Type 0
+abbrev pub ReadsNext : List ℕ → List Token → Result (Option (Statement × ℕ)) SqlError → Type 0
 ReadsNext source tokens answer = (answer ≡ Err sql.Memory → ⊥) → scripts.says_next answer ≡ scripts.next source tokens
 
 pub found : (source : List ℕ) (tokens : List Token) (answer : Result (Option (Statement × ℕ)) SqlError) (x : Option (Statement × ℕ)) → ReadsNext source tokens answer → answer ≡ Ok x → next source tokens ≡ Ok x
@@ -80,7 +80,7 @@ pub folded : (source : List ℕ) (tokens : List Token) (x : Statement) (n : ℕ)
 unfolding next
 folded source tokens x n e = are_names_folded source tokens x n e
 
-abbrev Told : SqlError → Refusal → Type 0
+abbrev pub Told : SqlError → Refusal → Type 0
 Told error r = (r ≡ of_unread (says error)) ⊎ (r ≡ Memory)
 
 module _ {E C : Type 0} (l : Language Statement E) (host : Host) (is_clean : C → Type 0) (stands : C → State) where

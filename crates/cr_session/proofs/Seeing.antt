@@ -1,5 +1,5 @@
 -- What is seen of a session: what was read of its store, with the changes of the open transaction.
-use Rattle.std.proofs.Common.{◌≡◌, Bool, List, ◌++◌, Option, Some, None, Ok, refl, sym, ap, subst, ◌∙◌}
+use Rattle.std.proofs.Common.{◌≡◌, List, ◌++◌, Option, Some, None, Ok, refl, sym, ap, subst, ◌∙◌}
 use Rattle.cr_lattice.specs.declared.change.Change.{Change}
 use Rattle.cr_lattice.specs.Keep.{join, keep}
 use Rattle.cr_lattice.proofs.KeepLaws.{keep_keep}
@@ -7,7 +7,7 @@ use Rattle.cr_cells.specs.Calls.{Reads}
 use Rattle.cr_cells.specs.Holding.{Holding, kept_of}
 use Rattle.cr_replica.specs.declared.snapshot.Snapshot.{Snapshot}
 use Rattle.cr_replica.specs.Snapshots.{IsSnapshot, IsWhole}
-use Rattle.cr_world.specs.State.{State, now}
+use Rattle.cr_world.specs.State.{now}
 use Rattle.cr_session.specs.Sessions.{Sees, SessionOf, standing, state_of}
 
 now_outside : (h : Holding) → now (state_of h None) ≡ kept_of h

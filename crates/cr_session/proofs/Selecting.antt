@@ -1,6 +1,7 @@
 -- What is evaluated over a snapshot, and the rows of a SELECT.
 use Rattle.std.proofs.Common.{◌≡◌, ◌⊎◌, inl, inr, true, List, [], ◌∷◌, Option, Some, None, Result, Ok, Err, refl, sym, ap, subst, ◌∙◌, map}
 use Rattle.std.specs.Prelude.{unwrap_or}
+use Rattle.cr_value.specs.declared.value.Value.{Value}
 use Rattle.cr_lattice.specs.declared.table.TableDef.{TableDef}
 use Rattle.cr_term.specs.declared.query.Joined.{Joined}
 use Rattle.cr_term.specs.declared.query.Query.{Query}
@@ -52,20 +53,20 @@ too_big def None None e = inr refl
 too_big def (Some rows) None e = refl
 too_big def o (Some rows) e = absurd (let z : ⊥ = cc in z)
 
-module _ (def : Option TableDef) (means : Means) (f : Stage (List Row)) (more : Gains (f (sized means [])) (f (exact means []))) where
+module _ (def : Option TableDef) (means : Means) (params : List Value) (f : Stage (List Row)) (more : Gains (f (sized means params)) (f (exact means params))) where
   -- why it faults
   abbrev fault_cause : Cause
-  fault_cause = evaluation_cause def (f (exact means [])) (f (sized means []))
+  fault_cause = evaluation_cause def (f (exact means params)) (f (sized means params))
 
-  evaluating : (e : Refusal) → IsFault true e → f (exact means []) ≡ None → IsWant e ⊎ Tells fault_cause e
-  evaluating e is none = inr (faulty def (f (exact means [])) (f (sized means [])) e none (none_limited (f (exact means [])) (f (sized means [])) more none) is)
+  evaluating : (e : Refusal) → IsFault true e → f (exact means params) ≡ None → IsWant e ⊎ Tells fault_cause e
+  evaluating e is none = inr (faulty def (f (exact means params)) (f (sized means params)) e none (none_limited (f (exact means params)) (f (sized means params)) more none) is)
 
-  pub fault_told : (e : EvalFault) → Faults means [] f e → IsWant (of_fault e) ⊎ Tells fault_cause (of_fault e)
+  pub fault_told : (e : EvalFault) → Faults means params f e → IsWant (of_fault e) ⊎ Tells fault_cause (of_fault e)
   fault_told fault.Overflow h = evaluating (of_fault fault.Overflow) (inl (told.Overflow, refl)) h
   fault_told fault.NotANumber h = evaluating (of_fault fault.NotANumber) (inl (told.NotANumber, refl)) h
   fault_told fault.NotUtf8 h = evaluating (of_fault fault.NotUtf8) (inl (told.NotUtf8, refl)) h
   fault_told (fault.Host text) h = evaluating (of_fault (fault.Host text)) (inl (told.Host text, refl)) h
-  fault_told fault.TooBig h = inr (too_big def (f (exact means [])) (f (sized means [])) h)
+  fault_told fault.TooBig h = inr (too_big def (f (exact means params)) (f (sized means params)) h)
   fault_told fault.Memory h = inl (inl refl)
 
 -- ---- a SELECT
@@ -78,30 +79,30 @@ tables_are : (st : State) (snap : Snapshot) → IsSeen st snap → (js : List Jo
 tables_are st snap is [] = refl
 tables_are st snap is (j ∷ js) = λ i. rows_are st snap (name_of j) is i ∷ tables_are st snap is js i
 
-module _ (means : Means) (host : Host) (st : State) (snap : Snapshot) (is : IsSeen st snap) (x : Query) where
-  exact_seen : without_limit means host st (view (r.Select x)) ≡ answer_seen snap x (exact means [])
-  exact_seen = λ i. answer (exact means []) (query x) (tables_are st snap is x.joined i)
+module _ (means : Means) (params : List Value) (host : Host) (st : State) (snap : Snapshot) (is : IsSeen st snap) (x : Query) where
+  exact_seen : without_limit means params host st (view (r.Select x)) ≡ answer_seen snap x (exact means params)
+  exact_seen = λ i. answer (exact means params) (query x) (tables_are st snap is x.joined i)
 
-  sized_seen : with_limit means host st (view (r.Select x)) ≡ answer_seen snap x (sized means [])
-  sized_seen = λ i. answer (sized means []) (query x) (tables_are st snap is x.joined i)
+  sized_seen : with_limit means params host st (view (r.Select x)) ≡ answer_seen snap x (sized means params)
+  sized_seen = λ i. answer (sized means params) (query x) (tables_are st snap is x.joined i)
 
-  seen_gains : Gains (answer_seen snap x (sized means [])) (answer_seen snap x (exact means []))
-  seen_gains = answer_refines (sized means []) (exact means []) (refines means []) (query x) (map (λ j. rows_seen snap (name_of j)) x.joined)
+  seen_gains : Gains (answer_seen snap x (sized means params)) (answer_seen snap x (exact means params))
+  seen_gains = answer_refines (sized means params) (exact means params) (refines means params) (query x) (map (λ j. rows_seen snap (name_of j)) x.joined)
 
-  select_cause : against means host st (view (r.Select x)) ≡ evaluation_cause None (answer_seen snap x (exact means [])) (answer_seen snap x (sized means []))
-  select_cause = or_free (evaluation_cause None (without_limit means host st (view (r.Select x))) (with_limit means host st (view (r.Select x)))) ∙ (λ i. evaluation_cause None (exact_seen i) (sized_seen i))
+  select_cause : against means params host st (view (r.Select x)) ≡ evaluation_cause None (answer_seen snap x (exact means params)) (answer_seen snap x (sized means params))
+  select_cause = or_free (evaluation_cause None (without_limit means params host st (view (r.Select x))) (with_limit means params host st (view (r.Select x)))) ∙ (λ i. evaluation_cause None (exact_seen i) (sized_seen i))
 
-  performs_given : (result : Result (List Row) Refusal) → Gives means [] (answer_seen snap x) result → Performs means host st (view (r.Select x)) (shown result) st
+  performs_given : (result : Result (List Row) Refusal) → Gives means params (answer_seen snap x) result → Performs means params host st (view (r.Select x)) (shown result) st
   performs_given (Ok rows) v = (
-    select_cause ∙ ap (λ (o : Option (List Row)). evaluation_cause None (answer_seen snap x (exact means [])) o) v.sized,
+    select_cause ∙ ap (λ (o : Option (List Row)). evaluation_cause None (answer_seen snap x (exact means params)) o) v.sized,
     (ap (λ (o : Option (List Row)). Rows (unwrap_or o [])) (sym (sized_seen ∙ v.sized)), refl),
   )
   performs_given (Err t) v = (
-    subst (λ (y : Refusal). IsWant y ⊎ Tells (against means host st (view (r.Select x))) y) (sym v.1.0)
-        (subst (λ (c : Cause). IsWant (of_fault v.0) ⊎ Tells c (of_fault v.0)) (sym select_cause) (fault_told None means (answer_seen snap x) seen_gains v.0 v.1.1)),
+    subst (λ (y : Refusal). IsWant y ⊎ Tells (against means params host st (view (r.Select x))) y) (sym v.1.0)
+        (subst (λ (c : Cause). IsWant (of_fault v.0) ⊎ Tells c (of_fault v.0)) (sym select_cause) (fault_told None means params (answer_seen snap x) seen_gains v.0 v.1.1)),
     refl,
   )
 
   -- what a SELECT replies is what was answered
-  pub performs_select : (given : Result (List Row) Refusal) (result : Result Reply Refusal) → Gives means [] (answer_seen snap x) given → result ≡ shown given → Performs means host st (view (r.Select x)) result st
-  performs_select given result v e = subst (λ (o : Result Reply Refusal). Performs means host st (view (r.Select x)) o st) (sym e) (performs_given given v)
+  pub performs_select : (given : Result (List Row) Refusal) (result : Result Reply Refusal) → Gives means params (answer_seen snap x) given → result ≡ shown given → Performs means params host st (view (r.Select x)) result st
+  performs_select given result v e = subst (λ (o : Result Reply Refusal). Performs means params host st (view (r.Select x)) o st) (sym e) (performs_given given v)

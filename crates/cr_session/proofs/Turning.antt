@@ -217,7 +217,7 @@ module _ {E C : Type 0} (l : Language Statement E) (host : Host) (is_clean : C �
       subst (λ (ps : List (Piece Statement)). Runs l host st ps [] (Some r) st) (sym (unread_left n source rest why e)) (told, refl)
 
   refuses_runs : (source : List ℕ) (rest : List Token) (now new : C) (n : ℕ) (x : Statement) (k : ℕ) (r : Refusal) → length rest ≤ n → next source rest ≡ Ok (Some (x, k))
-      → Carries l host is_clean stands now x (Err r) new → is_clean new → Runs l host (stands now) (pieces_left n source rest) [] (Some r) (stands new)
+      → Carries l host is_clean stands now [] x (Err r) new → is_clean new → Runs l host (stands now) (pieces_left n source rest) [] (Some r) (stands new)
   refuses_runs source rest now new zero x k r few e carries clean = let some = takes source rest x k e in absurd (omega (arith, few, some.0, some.1))
   refuses_runs source rest now new (suc n) x k r few e carries clean =
       subst (λ (ps : List (Piece Statement)). Runs l host (stands now) ps [] (Some r) (stands new)) (sym (one_left n source rest x k e)) (carries.answers clean, sym (carries.leaves clean))

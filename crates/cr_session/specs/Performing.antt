@@ -1,5 +1,6 @@
 -- What a session makes of a statement that may be carried out. Source: this project's own.
 use Rattle.std.specs.Prelude.{◌≡◌, ◌⊎◌, ◌&&◌, ℕ, Bool, true, false, not, cond, List, [], ◌∷◌, unwrap_or, Option, None, Result, Ok, Err}
+use Rattle.cr_value.specs.declared.value.Value.{Value}
 use Rattle.cr_lattice.specs.declared.change.Change.{Change}
 use Rattle.cr_cells.specs.Calls.{UnlessWant, is_past_limit}
 use Rattle.cr_cells.specs.Holding.{kept_of}
@@ -71,10 +72,10 @@ is_commit x = false
 abbrev pub refused : State → Viewed Ordered → Refusal → State
 refused st x f = cond (is_commit x && (in_transaction st && not (is_memory f))) (ended st) st
 
--- the statement is allowed, or why it isn't
-abbrev pub Permits : Known → Answers → Statement → Result (Unit {0}) Refusal → Type 0
-Permits known answers x (Ok u) = (y : Resolved) × Allows known answers x 0 (Ok y)
-Permits known answers x (Err f) = Allows known answers x 0 (Err f)
+-- the statement is allowed with so many parameters, or why it isn't
+abbrev pub Permits : Known → Answers → Statement → ℕ → Result (Unit {0}) Refusal → Type 0
+Permits known answers x count (Ok u) = (y : Resolved) × Allows known answers x count (Ok y)
+Permits known answers x count (Err f) = Allows known answers x count (Err f)
 
 -- ---- what is carried out
 
@@ -91,13 +92,13 @@ is_performed r.Begin = false
 is_performed r.Commit = false
 is_performed r.Rollback = false
 
-module _ (means : Means) (host : Host) (st : State) (x : Viewed Ordered) where
+module _ (means : Means) (params : List Value) (host : Host) (st : State) (x : Viewed Ordered) where
   -- what is evaluated, without a limit on values and with it
   abbrev pub without_limit : Option (List Row)
-  without_limit = evaluated (exact means []) st x
+  without_limit = evaluated (exact means params) st x
 
   abbrev pub with_limit : Option (List Row)
-  with_limit = evaluated (sized means []) st x
+  with_limit = evaluated (sized means params) st x
 
   -- the first cause that holds against it
   abbrev pub against : Cause
@@ -108,12 +109,12 @@ module _ (means : Means) (host : Host) (st : State) (x : Viewed Ordered) where
   Performs (Ok reply) new = (against ≡ Free) × ((reply ≡ reply_to x (unwrap_or with_limit [])) × (new ≡ left_by st x (unwrap_or with_limit []) []))
   Performs (Err f) new = (IsWant f ⊎ Tells against f) × (new ≡ refused st x f)
 
--- A statement without parameters whose names are resolved. It holds where the store is clean after it, as it is where it was
+-- A statement whose names are resolved, with these parameters. It holds where the store is clean after it, as it is where it was
 -- clean before and there was no want.
-pub record Performed {C : Type 0} (means : Means) (host : Host) (is_clean : C → Type 0) (stands : C → State) (old : C) (x : Resolved) (result : Result Reply Refusal) (new : C) : Type 0 where
+pub record Performed {C : Type 0} (means : Means) (params : List Value) (host : Host) (is_clean : C → Type 0) (stands : C → State) (old : C) (x : Resolved) (result : Result Reply Refusal) (new : C) : Type 0 where
   pub was_clean : is_clean new → is_clean old
   pub stays_clean : is_clean old → UnlessWant is_want result (is_clean new)
-  pub performs : is_clean new → Performs means host (stands old) (view x) result (stands new)
+  pub performs : is_clean new → Performs means params host (stands old) (view x) result (stands new)
 
 -- ---- the changes of a write
 

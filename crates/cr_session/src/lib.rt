@@ -1,6 +1,7 @@
 //! Sessions: one replica each, with the changes of its open transaction, and what it replies to commands and statements.
 #![tactic(auto)]
 
+mod executing;
 mod performing;
 mod script;
 pub mod session;

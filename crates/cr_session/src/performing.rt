@@ -79,22 +79,24 @@ fn select<F: Functions>(
     functions: &F,
     snapshot: &Snapshot,
     query: &Query,
+    params: &[Value],
 ) -> Result<Reply, Refusal>
     requires { F.is_faithful functions.now }
-    ensures { (host : Host) (st : State) → IsSeen st snapshot.now → Performs (⟦<F as Hosted>⟧.means functions.now) host st (view (r.Select query.now)) result st }
+    ensures { (host : Host) (st : State) → IsSeen st snapshot.now → Performs (⟦<F as Hosted>⟧.means functions.now) params.now host st (view (r.Select query.now)) result st }
 {
-    match answer_query(alloc, functions, snapshot, query, &[]) {
+    match answer_query(alloc, functions, snapshot, query, params) {
         Ok(rows) => Ok(Reply::Rows(rows)),
         Err(refusal) => Err(refusal),
     }
 }
 
 impl<C: NewCells> Session<C> {
-    ghost use Rattle.std.specs.Prelude.{◌≡◌, true, false};
+    ghost use Rattle.std.specs.Prelude.{◌≡◌, true, false, List};
     ghost use Rattle.cr_cells.specs.Tables.{IsNewTable};
     ghost use Rattle.cr_fit.specs.Suited.{HasRelation, Suits};
     ghost use Rattle.cr_replica.specs.Snapshots.{IsWhole};
     ghost use Rattle.cr_scalar.specs.Host.{Host as Means};
+    ghost use Rattle.cr_value.specs.declared.value.Value.{Value};
     ghost use Rattle.cr_snapshot.specs.Seen.{IsSeen, catalog_of};
     ghost use Rattle.cr_term.specs.declared.query.Resolved.TheVariants as r;
     ghost use Rattle.cr_world.specs.State.{catalog};
@@ -105,7 +107,7 @@ impl<C: NewCells> Session<C> {
     // Makes a new table outside of transactions, unless its name is taken and that is no matter.
     fn create(&mut self, alloc: Global, create: &Create) -> Result<Reply, Refusal>
         requires { C.is_clean self.old.0 → create.now.is_there ≡ false → IsNewTable (C.holding self.old.0).tables create.now.definition }
-        ensures { (means : Means) (host : Host) → Performed means host (clean C.is_clean) (standing C.holding) self.old (r.Create create.now) result self.new }
+        ensures { (means : Means) (params : List Value) (host : Host) → Performed means params host (clean C.is_clean) (standing C.holding) self.old (r.Create create.now) result self.new }
     {
         if self.in_transaction() {
             return Err(Refusal::TransactionState);
@@ -122,7 +124,7 @@ impl<C: NewCells> Session<C> {
     // Makes a table replicated outside of transactions, unless the authorizer ignores the call.
     fn mark_replicated(&mut self, alloc: Global, mark: &MarkReplicated) -> Result<Reply, Refusal>
         requires { C.is_clean self.old.0 → HasRelation (catalog (standing C.holding self.old)) mark.now.relation }
-        ensures { (means : Means) (host : Host) → Performed means host (clean C.is_clean) (standing C.holding) self.old (r.MarkReplicated mark.now) result self.new }
+        ensures { (means : Means) (params : List Value) (host : Host) → Performed means params host (clean C.is_clean) (standing C.holding) self.old (r.MarkReplicated mark.now) result self.new }
     {
         if self.in_transaction() {
             return Err(Refusal::TransactionState);
@@ -146,7 +148,8 @@ impl<C: NewCells> Session<C> {
         }
     }
 
-    /// Carries out a statement that neither opens nor ends a transaction, over what is seen.
+    /// Carries out a statement that neither opens nor ends a transaction, over what is seen, with these
+    /// parameters.
     pub(crate) fn perform<F: Functions, G: Guarding>(
         &mut self,
         alloc: Global,
@@ -154,6 +157,7 @@ impl<C: NewCells> Session<C> {
         guard: &G,
         snapshot: &Snapshot,
         statement: &Resolved,
+        params: &[Value],
     ) -> Result<Reply, Refusal>
         requires functions { F.is_faithful functions.now }
         requires guard { G.is_faithful guard.now }
@@ -161,15 +165,21 @@ impl<C: NewCells> Session<C> {
         requires whole { IsWhole snapshot.now }
         requires suits { Suits (catalog_of snapshot.now) statement.now }
         requires form { is_performed statement.now ≡ true }
-        ensures { Performed (⟦<F as Hosted>⟧.means functions.now) (⟦<G as Watching>⟧.host guard.now) (clean C.is_clean) (standing C.holding) self.old statement.now result self.new }
+        ensures { Performed (⟦<F as Hosted>⟧.means functions.now) params.now (⟦<G as Watching>⟧.host guard.now) (clean C.is_clean) (standing C.holding) self.old statement.now result self.new }
     {
         match statement {
-            Resolved::Select(query) => select(alloc, functions, snapshot, query),
+            Resolved::Select(query) => select(alloc, functions, snapshot, query, params),
             Resolved::MarkReplicated(mark) => self.mark_replicated(alloc, mark),
             Resolved::Create(create) => self.create(alloc, create),
-            Resolved::Insert(insert) => self.insert(alloc, functions, guard, snapshot, insert),
-            Resolved::Update(update) => self.update(alloc, functions, guard, snapshot, update),
-            Resolved::Delete(delete) => self.delete(alloc, functions, guard, snapshot, delete),
+            Resolved::Insert(insert) => self.insert(
+                alloc, functions, guard, snapshot, insert, params,
+            ),
+            Resolved::Update(update) => self.update(
+                alloc, functions, guard, snapshot, update, params,
+            ),
+            Resolved::Delete(delete) => self.delete(
+                alloc, functions, guard, snapshot, delete, params,
+            ),
             // No such statement comes here: it is refused before its names are looked at, or carried out without them.
             Resolved::Alter(_) | Resolved::Begin | Resolved::Commit | Resolved::Rollback => {
                 Err(Refusal::TransactionState)

@@ -22,6 +22,7 @@ use cr_sql::script::next_statement;
 use cr_tree::limits::LimitKind;
 use cr_tree::statement::Statement;
 use cr_value::text::Text;
+use cr_value::value::Value;
 use cr_world::command::{Reply, Script};
 use cr_world::refusal::{Limit, OutOfProfile, Refusal};
 use std::alloc::{AllocError, Global};
@@ -113,8 +114,8 @@ fn is_transaction(statement: &Statement) -> bool
     }
 }
 
-// The tokens behind the first so many.
-fn behind(tokens: &[Token], len: usize) -> &[Token]
+/// The tokens behind the first so many.
+pub(crate) fn behind(tokens: &[Token], len: usize) -> &[Token]
     requires { len ≤ length tokens.now }
     ensures { result.now ≡ drop len tokens.now }
 {
@@ -127,35 +128,36 @@ impl<C: NewCells> Session<C> {
     ghost use Rattle.cr_session.specs.Scripts.{Carries, CarriesAll, Turns, next, pieces_left};
     ghost use Rattle.cr_session.specs.Sessions.{clean, standing};
 
-    // Carries out a statement that has no parameters.
-    fn statement<F: Functions, G: Guarding>(
+    /// Carries out a statement, with values for its parameters.
+    pub(crate) fn statement<F: Functions, G: Guarding>(
         &mut self,
         alloc: Global,
         functions: &F,
         guard: &G,
         statement: &Statement,
+        params: &[Value],
     ) -> Result<Reply, Refusal>
         requires functions { F.is_faithful functions.now }
         requires guard { G.is_faithful guard.now }
         requires folded { DefinesFolded statement.now }
         ensures { (has : List ℕ → Bool) → ⟦<F as Speaking>⟧.are_names functions.now has
-            → Carries (⟦<F as Speaking>⟧.language functions.now has) (⟦<G as Watching>⟧.host guard.now) (clean C.is_clean) (standing C.holding) self.old statement.now result self.new }
+            → Carries (⟦<F as Speaking>⟧.language functions.now has) (⟦<G as Watching>⟧.host guard.now) (clean C.is_clean) (standing C.holding) self.old params.now statement.now result self.new }
     {
         if !is_carried_out(statement) {
             return Err(not_carried_out(alloc, statement));
         }
         if is_transaction(statement) {
-            return self.transact(alloc, functions, guard, statement);
+            return self.transact(alloc, functions, guard, statement, params);
         }
         let snapshot = match self.snapshot(alloc) {
             Ok(snapshot) => snapshot,
             Err(error) => return Err(Refusal::from(error)),
         };
-        let resolved = match allowed(alloc, functions, guard, &snapshot, statement, 0) {
+        let resolved = match allowed(alloc, functions, guard, &snapshot, statement, params.len()) {
             Ok(resolved) => resolved,
             Err(refusal) => return Err(refusal),
         };
-        self.perform(alloc, functions, guard, &snapshot, &resolved)
+        self.perform(alloc, functions, guard, &snapshot, &resolved, params)
     }
 
     // Carries out the next statement of a script, and tells how many tokens stand up to its end; none where no statement is
@@ -178,7 +180,7 @@ impl<C: NewCells> Session<C> {
         match &next {
             Ok(None) => Ok(None),
             Ok(Some((statement, len))) => {
-                match self.statement(alloc, functions, guard, statement) {
+                match self.statement(alloc, functions, guard, statement, &[]) {
                     Ok(reply) => Ok(Some((reply, *len))),
                     Err(refusal) => Err(refusal),
                 }

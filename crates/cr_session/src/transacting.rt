@@ -16,6 +16,7 @@ use cr_lattice::change::Site;
 use cr_lattice::table::Items;
 use cr_replica::snapshot::Snapshot;
 use cr_tree::statement::Statement;
+use cr_value::value::Value;
 use cr_world::command::Reply;
 use cr_world::refusal::Refusal;
 use std::alloc::Global;
@@ -37,18 +38,19 @@ fn empty_snapshot(alloc: Global, site: Site) -> Snapshot {
     }
 }
 
-// Whether authorizer and policy allow a statement that opens or ends a transaction.
+// Whether authorizer and policy allow a statement, with so many parameters.
 fn check_allowed<F: Functions, G: Guarding>(
     alloc: Global,
     functions: &F,
     guard: &G,
     snapshot: &Snapshot,
     statement: &Statement,
+    count: usize,
 ) -> Result<(), Refusal>
     requires { G.is_faithful guard.now }
-    ensures { Permits (known_by (F.function_of functions.now) (F.names_function functions.now) (F.order_of functions.now) snapshot.now) (asked (G.rules guard.now) (G.allows guard.now)) statement.now result }
+    ensures { Permits (known_by (F.function_of functions.now) (F.names_function functions.now) (F.order_of functions.now) snapshot.now) (asked (G.rules guard.now) (G.allows guard.now)) statement.now count result }
 {
-    match allowed(alloc, functions, guard, snapshot, statement, 0) {
+    match allowed(alloc, functions, guard, snapshot, statement, count) {
         Ok(_) => Ok(()),
         Err(refusal) => Err(refusal),
     }
@@ -57,6 +59,7 @@ fn check_allowed<F: Functions, G: Guarding>(
 impl<C: NewCells> Session<C> {
     ghost use Rattle.std.specs.Prelude.{◌≡◌, true, ℕ, Bool, List};
     ghost use Rattle.cr_scalar.specs.Host.{Host as Means};
+    ghost use Rattle.cr_value.specs.declared.value.Value.{Value};
     ghost use Rattle.cr_world.specs.Statement.{Host};
     ghost use Rattle.cr_term.specs.declared.query.Resolved.TheVariants as r;
     ghost use Rattle.cr_session.specs.Performing.{Performed, is_transaction};
@@ -65,7 +68,7 @@ impl<C: NewCells> Session<C> {
 
     // Opens a transaction.
     fn begin(&mut self, alloc: Global) -> Result<Reply, Refusal>
-        ensures { (means : Means) (host : Host) → Performed means host (clean C.is_clean) (standing C.holding) self.old r.Begin result self.new }
+        ensures { (means : Means) (params : List Value) (host : Host) → Performed means params host (clean C.is_clean) (standing C.holding) self.old r.Begin result self.new }
     {
         if self.in_transaction() {
             return Err(Refusal::TransactionState);
@@ -77,7 +80,7 @@ impl<C: NewCells> Session<C> {
     // Commits the changes of the open transaction, all or none, and ends it; where memory is wanting, it stays open.
     fn commit<G: Guarding>(&mut self, alloc: Global, guard: &G) -> Result<Reply, Refusal>
         requires { G.is_faithful guard.now }
-        ensures { (means : Means) → Performed means (⟦<G as Watching>⟧.host guard.now) (clean C.is_clean) (standing C.holding) self.old r.Commit result self.new }
+        ensures { (means : Means) (params : List Value) → Performed means params (⟦<G as Watching>⟧.host guard.now) (clean C.is_clean) (standing C.holding) self.old r.Commit result self.new }
     {
         let Some(changes) = self.pending.take() else {
             return Err(Refusal::TransactionState);
@@ -95,7 +98,7 @@ impl<C: NewCells> Session<C> {
 
     // Ends the open transaction: its changes are gone.
     fn rollback(&mut self) -> Result<Reply, Refusal>
-        ensures { (means : Means) (host : Host) → Performed means host (clean C.is_clean) (standing C.holding) self.old r.Rollback result self.new }
+        ensures { (means : Means) (params : List Value) (host : Host) → Performed means params host (clean C.is_clean) (standing C.holding) self.old r.Rollback result self.new }
     {
         match self.pending.take() {
             Some(_) => Ok(Reply::Done),
@@ -111,14 +114,22 @@ impl<C: NewCells> Session<C> {
         functions: &F,
         guard: &G,
         statement: &Statement,
+        params: &[Value],
     ) -> Result<Reply, Refusal>
         requires guard { G.is_faithful guard.now }
         requires form { is_transaction statement.now ≡ true }
         ensures { (has : List ℕ → Bool) → ⟦<F as Speaking>⟧.are_names functions.now has
-            → Carries (⟦<F as Speaking>⟧.language functions.now has) (⟦<G as Watching>⟧.host guard.now) (clean C.is_clean) (standing C.holding) self.old statement.now result self.new }
+            → Carries (⟦<F as Speaking>⟧.language functions.now has) (⟦<G as Watching>⟧.host guard.now) (clean C.is_clean) (standing C.holding) self.old params.now statement.now result self.new }
     {
         let nothing = empty_snapshot(alloc, self.site());
-        if let Err(refusal) = check_allowed(alloc, functions, guard, &nothing, statement) {
+        if let Err(refusal) = check_allowed(
+            alloc,
+            functions,
+            guard,
+            &nothing,
+            statement,
+            params.len(),
+        ) {
             return Err(refusal);
         }
         match statement {

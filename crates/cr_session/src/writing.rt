@@ -12,6 +12,7 @@ use cr_lattice::change::Change;
 use cr_received::receiving::changes_of_received;
 use cr_replica::snapshot::Snapshot;
 use cr_term::query::{Delete, Held, Insert, Update};
+use cr_value::value::Value;
 use cr_world::command::Reply;
 use cr_world::refusal::Refusal;
 use std::alloc::{AllocError, Global};
@@ -77,6 +78,7 @@ impl<C: NewCells> Session<C> {
         guard: &G,
         snapshot: &Snapshot,
         insert: &Insert,
+        params: &[Value],
     ) -> Result<Reply, Refusal>
         requires functions { F.is_faithful functions.now }
         requires guard { G.is_faithful guard.now }
@@ -84,13 +86,13 @@ impl<C: NewCells> Session<C> {
         requires whole { IsWhole snapshot.now }
         requires suits { HasRelation (catalog_of snapshot.now) insert.now.relation }
         requires table { is_table insert.now.relation.held ≡ true }
-        ensures { Performed (⟦<F as Hosted>⟧.means functions.now) (⟦<G as Watching>⟧.host guard.now) (clean C.is_clean) (standing C.holding) self.old (r.Insert insert.now) result self.new }
+        ensures { Performed (⟦<F as Hosted>⟧.means functions.now) params.now (⟦<G as Watching>⟧.host guard.now) (clean C.is_clean) (standing C.holding) self.old (r.Insert insert.now) result self.new }
     {
         check_replicated(alloc, &insert.relation)?;
         if insert.is_ignored {
             return Ok(Reply::Done);
         }
-        match changes_of_insert(alloc, functions, snapshot, insert, &[]) {
+        match changes_of_insert(alloc, functions, snapshot, insert, params) {
             Ok(changes) => self.add_changes(alloc, guard, changes),
             Err(refusal) => Err(refusal),
         }
@@ -104,18 +106,19 @@ impl<C: NewCells> Session<C> {
         guard: &G,
         snapshot: &Snapshot,
         insert: &Insert,
+        params: &[Value],
     ) -> Result<Reply, Refusal>
         requires functions { F.is_faithful functions.now }
         requires guard { G.is_faithful guard.now }
         requires seen { C.is_clean self.old.0 → IsSeen (standing C.holding self.old) snapshot.now }
         requires suits { HasRelation (catalog_of snapshot.now) insert.now.relation }
         requires module { is_table insert.now.relation.held ≡ false }
-        ensures { Performed (⟦<F as Hosted>⟧.means functions.now) (⟦<G as Watching>⟧.host guard.now) (clean C.is_clean) (standing C.holding) self.old (r.Insert insert.now) result self.new }
+        ensures { Performed (⟦<F as Hosted>⟧.means functions.now) params.now (⟦<G as Watching>⟧.host guard.now) (clean C.is_clean) (standing C.holding) self.old (r.Insert insert.now) result self.new }
     {
         if insert.is_ignored {
             return Ok(Reply::Done);
         }
-        match changes_of_received(alloc, functions, snapshot.tables.as_slice(), insert, &[]) {
+        match changes_of_received(alloc, functions, snapshot.tables.as_slice(), insert, params) {
             Ok(changes) => self.add_changes(alloc, guard, changes),
             Err(refusal) => Err(refusal),
         }
@@ -129,17 +132,20 @@ impl<C: NewCells> Session<C> {
         guard: &G,
         snapshot: &Snapshot,
         insert: &Insert,
+        params: &[Value],
     ) -> Result<Reply, Refusal>
         requires functions { F.is_faithful functions.now }
         requires guard { G.is_faithful guard.now }
         requires seen { C.is_clean self.old.0 → IsSeen (standing C.holding self.old) snapshot.now }
         requires whole { IsWhole snapshot.now }
         requires suits { HasRelation (catalog_of snapshot.now) insert.now.relation }
-        ensures { Performed (⟦<F as Hosted>⟧.means functions.now) (⟦<G as Watching>⟧.host guard.now) (clean C.is_clean) (standing C.holding) self.old (r.Insert insert.now) result self.new }
+        ensures { Performed (⟦<F as Hosted>⟧.means functions.now) params.now (⟦<G as Watching>⟧.host guard.now) (clean C.is_clean) (standing C.holding) self.old (r.Insert insert.now) result self.new }
     {
         match insert.relation.held {
-            Held::Table(_, _) => self.insert_rows(alloc, functions, guard, snapshot, insert),
-            Held::Module(_) => self.receive(alloc, functions, guard, snapshot, insert),
+            Held::Table(_, _) => self.insert_rows(
+                alloc, functions, guard, snapshot, insert, params,
+            ),
+            Held::Module(_) => self.receive(alloc, functions, guard, snapshot, insert, params),
         }
     }
 
@@ -151,19 +157,20 @@ impl<C: NewCells> Session<C> {
         guard: &G,
         snapshot: &Snapshot,
         update: &Update,
+        params: &[Value],
     ) -> Result<Reply, Refusal>
         requires functions { F.is_faithful functions.now }
         requires guard { G.is_faithful guard.now }
         requires seen { C.is_clean self.old.0 → IsSeen (standing C.holding self.old) snapshot.now }
         requires whole { IsWhole snapshot.now }
         requires suits { HasRelation (catalog_of snapshot.now) update.now.relation }
-        ensures { Performed (⟦<F as Hosted>⟧.means functions.now) (⟦<G as Watching>⟧.host guard.now) (clean C.is_clean) (standing C.holding) self.old (r.Update update.now) result self.new }
+        ensures { Performed (⟦<F as Hosted>⟧.means functions.now) params.now (⟦<G as Watching>⟧.host guard.now) (clean C.is_clean) (standing C.holding) self.old (r.Update update.now) result self.new }
     {
         if let Err(refusal) = check_table(alloc, &update.relation) {
             return Err(refusal);
         }
         check_replicated(alloc, &update.relation)?;
-        match changes_of_update(alloc, functions, snapshot, update, &[]) {
+        match changes_of_update(alloc, functions, snapshot, update, params) {
             Ok(changes) => self.add_changes(alloc, guard, changes),
             Err(refusal) => Err(refusal),
         }
@@ -177,19 +184,20 @@ impl<C: NewCells> Session<C> {
         guard: &G,
         snapshot: &Snapshot,
         delete: &Delete,
+        params: &[Value],
     ) -> Result<Reply, Refusal>
         requires functions { F.is_faithful functions.now }
         requires guard { G.is_faithful guard.now }
         requires seen { C.is_clean self.old.0 → IsSeen (standing C.holding self.old) snapshot.now }
         requires whole { IsWhole snapshot.now }
         requires suits { HasRelation (catalog_of snapshot.now) delete.now.relation }
-        ensures { Performed (⟦<F as Hosted>⟧.means functions.now) (⟦<G as Watching>⟧.host guard.now) (clean C.is_clean) (standing C.holding) self.old (r.Delete delete.now) result self.new }
+        ensures { Performed (⟦<F as Hosted>⟧.means functions.now) params.now (⟦<G as Watching>⟧.host guard.now) (clean C.is_clean) (standing C.holding) self.old (r.Delete delete.now) result self.new }
     {
         if let Err(refusal) = check_table(alloc, &delete.relation) {
             return Err(refusal);
         }
         check_replicated(alloc, &delete.relation)?;
-        match changes_of_delete(alloc, functions, snapshot, delete, &[]) {
+        match changes_of_delete(alloc, functions, snapshot, delete, params) {
             Ok(changes) => self.add_changes(alloc, guard, changes),
             Err(refusal) => Err(refusal),
         }

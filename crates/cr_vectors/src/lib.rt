@@ -15,6 +15,8 @@ mod host;
 #[cfg(test)]
 mod replica;
 #[cfg(test)]
+mod session;
+#[cfg(test)]
 mod shell;
 #[cfg(test)]
 mod store;

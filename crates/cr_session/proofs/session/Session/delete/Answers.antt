@@ -8,10 +8,10 @@ changes_of_delete-requires-clause-key g c =
 
 pub returns-in-Ok : goal.returns-in-Ok
 returns-in-Ok g c =
-    deletes _ _ g.C.Cells.is_clean g.C.Cells.holding c.args.self.now c.args.snapshot.now c.requires.seen c.args.delete.now c.requires.suits (passed_is_table c.args.delete.now.relation c.in_default.ensures) c.in_ok-check_replicated.ensures
+    deletes _ c.args.params.now _ g.C.Cells.is_clean g.C.Cells.holding c.args.self.now c.args.snapshot.now c.requires.seen c.args.delete.now c.requires.suits (passed_is_table c.args.delete.now.relation c.in_default.ensures) c.in_ok-check_replicated.ensures
     c.add_changes.new.self c.in-Ok.changes.items c.add_changes.result c.in-Ok.ensures c.add_changes.ensures
 
 pub returns-in-Err-changes_of_delete : goal.returns-in-Err-changes_of_delete
 returns-in-Err-changes_of_delete g c =
-    delete_refused_rows _ _ g.C.Cells.is_clean g.C.Cells.holding c.args.self.now c.args.snapshot.now c.requires.seen c.args.delete.now c.requires.suits (passed_is_table c.args.delete.now.relation c.in_default.ensures) c.in_ok-check_replicated.ensures
+    delete_refused_rows _ c.args.params.now _ g.C.Cells.is_clean g.C.Cells.holding c.args.self.now c.args.snapshot.now c.requires.seen c.args.delete.now c.requires.suits (passed_is_table c.args.delete.now.relation c.in_default.ensures) c.in_ok-check_replicated.ensures
     c.in-Err-changes_of_delete.refusal c.in-Err-changes_of_delete.ensures

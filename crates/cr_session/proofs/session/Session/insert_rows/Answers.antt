@@ -7,10 +7,10 @@ changes_of_insert-requires-clause-key g c =
 
 pub returns-in-Ok : goal.returns-in-Ok
 returns-in-Ok g c =
-    inserts _ _ g.C.Cells.is_clean g.C.Cells.holding c.args.self.now c.args.snapshot.now c.requires.seen c.args.insert.now c.requires.suits c.requires.table c.in_ok-check_replicated.ensures
+    inserts _ c.args.params.now _ g.C.Cells.is_clean g.C.Cells.holding c.args.self.now c.args.snapshot.now c.requires.seen c.args.insert.now c.requires.suits c.requires.table c.in_ok-check_replicated.ensures
     c.add_changes.new.self c.in-Ok.changes.items c.add_changes.result c.if-insert.false c.in-Ok.ensures c.add_changes.ensures
 
 pub returns-in-Err : goal.returns-in-Err
 returns-in-Err g c =
-    insert_refused_rows _ _ g.C.Cells.is_clean g.C.Cells.holding c.args.self.now c.args.snapshot.now c.requires.seen c.args.insert.now c.requires.suits c.requires.table c.in_ok-check_replicated.ensures
+    insert_refused_rows _ c.args.params.now _ g.C.Cells.is_clean g.C.Cells.holding c.args.self.now c.args.snapshot.now c.requires.seen c.args.insert.now c.requires.suits c.requires.table c.in_ok-check_replicated.ensures
     c.in-Err.refusal c.if-insert.false c.in-Err.ensures

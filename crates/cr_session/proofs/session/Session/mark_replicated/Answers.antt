@@ -1,4 +1,4 @@
-use Rattle.std.proofs.Common.{◌≡◌, ◌∙◌, List, Option, None, false, refl, sym, ap, subst, option_map}
+use Rattle.std.proofs.Common.{◌≡◌, ◌∙◌, List, Option, false, refl, sym, ap, subst, option_map}
 use Rattle.std.specs.Prelude.{is_some}
 use Rattle.cr_lattice.specs.declared.change.Change.{Change}
 use Rattle.cr_term.specs.declared.query.Resolved.TheVariants as r
@@ -15,17 +15,17 @@ mark_crr-requires g c =
     λ clean. markable (g.C.Cells.holding c.self.inside.replica) c.args.mark.now.relation c.as_str.result.now (has clean) c.in_default.ensures c.in_default-check_defaults.ensures c.as_str.ensures.value
 
 pub returns : goal.returns
-returns g c = λ means host.
+returns g c = λ means params host.
     let pending : Option (List Change) = option_map (λ v. v.items) c.self.inside.pending in
     let none : is_some pending ≡ false = ap (λ (s : SessionOf g.row.C.Denot). is_some s.1) c.self.view_is ∙ sym c.in_transaction.ensures ∙ c.if-in_transaction.false in
     elim c.match-mark_crr.branch [
-      | in-Ok w ↦ rw w.result-is (rw (← c.self.view_is) (outside means host g.C.Cells.is_clean g.C.Cells.holding c.self.inside.replica c.mark_crr.new.self (r.MarkReplicated c.args.mark.now) _ pending none
-          (defined means host g.C.Cells.is_clean g.C.Cells.holding c.self.inside.replica c.mark_crr.new.self _ _ c.mark_crr.ensures.was_clean c.in_ok-reply.reply (λ clean. w.in-Ok.ensures.stays_clean (g.met.C.NewCells.always_honest _) clean) w.in-Ok.ensures.defines
-          (λ clean. performs_marked means host (g.C.Cells.holding c.self.inside.replica) c.args.mark.now c.in_ok-reply.reply c.as_str.result.now c.if-mark.false c.in_ok-reply.ensures c.in_default.ensures c.in_default-check_defaults.ensures c.as_str.ensures.value))))
-      | in-Err-mark_crr+in-Rows-1 w ↦ rw w.result-is (rw (← c.self.view_is) (outside means host g.C.Cells.is_clean g.C.Cells.holding c.self.inside.replica c.mark_crr.new.self (r.MarkReplicated c.args.mark.now) _ pending none
-          (not_defined means host g.C.Cells.is_clean g.C.Cells.holding c.self.inside.replica c.mark_crr.new.self (r.MarkReplicated c.args.mark.now) (g.C.Cells.holding c.self.inside.replica) c.mark_crr.ensures.was_clean w.in-Err-mark_crr.error w.from.result w.from.ensures refl
+      | in-Ok w ↦ rw w.result-is (rw (← c.self.view_is) (outside means params host g.C.Cells.is_clean g.C.Cells.holding c.self.inside.replica c.mark_crr.new.self (r.MarkReplicated c.args.mark.now) _ pending none
+          (defined means params host g.C.Cells.is_clean g.C.Cells.holding c.self.inside.replica c.mark_crr.new.self _ _ c.mark_crr.ensures.was_clean c.in_ok-reply.reply (λ clean. w.in-Ok.ensures.stays_clean (g.met.C.NewCells.always_honest _) clean) w.in-Ok.ensures.defines
+          (λ clean. performs_marked means params host (g.C.Cells.holding c.self.inside.replica) c.args.mark.now c.in_ok-reply.reply c.as_str.result.now c.if-mark.false c.in_ok-reply.ensures c.in_default.ensures c.in_default-check_defaults.ensures c.as_str.ensures.value))))
+      | in-Err-mark_crr+in-Rows-1 w ↦ rw w.result-is (rw (← c.self.view_is) (outside means params host g.C.Cells.is_clean g.C.Cells.holding c.self.inside.replica c.mark_crr.new.self (r.MarkReplicated c.args.mark.now) _ pending none
+          (not_defined means params host g.C.Cells.is_clean g.C.Cells.holding c.self.inside.replica c.mark_crr.new.self (r.MarkReplicated c.args.mark.now) (g.C.Cells.holding c.self.inside.replica) c.mark_crr.ensures.was_clean w.in-Err-mark_crr.error w.from.result w.from.ensures refl
           (λ clean. w.in-Err-mark_crr.ensures.stays_clean (g.met.C.NewCells.always_honest _) clean) w.in-Err-mark_crr.ensures.defines)))
-      | in-Err-mark_crr+in-Done-1 w ↦ rw w.result-is (rw (← c.self.view_is) (outside means host g.C.Cells.is_clean g.C.Cells.holding c.self.inside.replica c.mark_crr.new.self (r.MarkReplicated c.args.mark.now) _ pending none
-          (not_defined means host g.C.Cells.is_clean g.C.Cells.holding c.self.inside.replica c.mark_crr.new.self (r.MarkReplicated c.args.mark.now) (g.C.Cells.holding c.self.inside.replica) c.mark_crr.ensures.was_clean w.in-Err-mark_crr.error w.from.result w.from.ensures refl
+      | in-Err-mark_crr+in-Done-1 w ↦ rw w.result-is (rw (← c.self.view_is) (outside means params host g.C.Cells.is_clean g.C.Cells.holding c.self.inside.replica c.mark_crr.new.self (r.MarkReplicated c.args.mark.now) _ pending none
+          (not_defined means params host g.C.Cells.is_clean g.C.Cells.holding c.self.inside.replica c.mark_crr.new.self (r.MarkReplicated c.args.mark.now) (g.C.Cells.holding c.self.inside.replica) c.mark_crr.ensures.was_clean w.in-Err-mark_crr.error w.from.result w.from.ensures refl
           (λ clean. w.in-Err-mark_crr.ensures.stays_clean (g.met.C.NewCells.always_honest _) clean) w.in-Err-mark_crr.ensures.defines)))
     ]

@@ -1,4 +1,4 @@
-use Rattle.std.proofs.Common.{◌≡◌, ◌∙◌, ap, option_map, List}
+use Rattle.std.proofs.Common.{◌∙◌, ap, option_map}
 use Rattle.cr_lattice.specs.Keep.{join}
 use Rattle.cr_session.proofs.Seeing.{sees_inside, sees_outside, whole_inside}
 use Rattle.cr_session.proofs.session.Session.snapshot.Goals as goal

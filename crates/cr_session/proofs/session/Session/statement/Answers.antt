@@ -7,11 +7,11 @@ use Rattle.cr_session.proofs.Scripting.{refuses}
 use Rattle.cr_session.proofs.session.Session.statement.Goals as goal
 
 pub returns-then-not-is_carried_out : goal.returns-then-not-is_carried_out
-returns-then-not-is_carried_out g c = λ has names. refuses _ _ _ _ _ _ has _ g.C.Cells.is_clean g.C.Cells.holding _ _ _ (search rules) c.not_carried_out.ensures
+returns-then-not-is_carried_out g c = λ has names. refuses _ _ _ _ _ _ has _ g.C.Cells.is_clean g.C.Cells.holding _ c.args.params.now _ _ (search rules) c.not_carried_out.ensures
 
 pub returns-in-Err-allowed : goal.returns-in-Err-allowed
 returns-in-Err-allowed g c = λ has names.
-    refuses_allowed _ _ _ _ _ _ has _ names _ g.C.Cells.is_clean g.C.Cells.holding _ _ c.args.statement.now c.in-Ok.snapshot c.in-Err-allowed.refusal (search rules)
+    refuses_allowed _ _ _ _ _ _ has _ names _ g.C.Cells.is_clean g.C.Cells.holding c.args.params.now _ _ c.args.statement.now c.in-Ok.snapshot c.in-Err-allowed.refusal (search rules)
     c.in-Ok.ensures.was_clean c.in-Ok.ensures.stays_clean c.in-Ok.ensures.sees c.in-Err-allowed.ensures
 
 pub perform-requires-clause-suits : goal.perform-requires-clause-suits
@@ -26,7 +26,7 @@ perform-requires-clause-form g c =
 
 pub returns-in-Err : goal.returns-in-Err
 returns-in-Err g c = λ has names.
-    unread_refuses _ _ _ _ _ _ has _ names _ g.C.Cells.is_clean g.C.Cells.holding c.args.self.now c.snapshot.new.self c.args.statement.now c.in-Err.error c.from.result c.from.ensures (search rules) (search rules)
+    unread_refuses _ _ _ _ _ _ has _ names _ g.C.Cells.is_clean g.C.Cells.holding c.args.params.now c.args.self.now c.snapshot.new.self c.args.statement.now c.in-Err.error c.from.result c.from.ensures (search rules) (search rules)
     c.snapshot.ensures.was_clean c.in-Err.ensures.stays_clean c.in-Err.ensures.sees
 
 pub returns-then-is_transaction : goal.returns-then-is_transaction
@@ -34,5 +34,5 @@ returns-then-is_transaction g c = λ has names. c.transact.ensures has names
 
 pub returns : goal.returns
 returns g c = λ has names.
-    carries_performed _ _ _ _ _ _ has _ names _ g.C.Cells.is_clean g.C.Cells.holding c.args.self.now c.snapshot.new.self c.perform.new.self c.args.statement.now c.in-Ok.snapshot c.in-Ok-allowed.resolved c.perform.result
+    carries_performed _ _ _ _ _ _ has _ names _ g.C.Cells.is_clean g.C.Cells.holding c.args.params.now c.args.self.now c.snapshot.new.self c.perform.new.self c.args.statement.now c.in-Ok.snapshot c.in-Ok-allowed.resolved c.perform.result
     (search rules) c.in-Ok.ensures.sees c.in-Ok-allowed.ensures c.perform.ensures c.in-Ok.ensures.was_clean c.in-Ok.ensures.stays_clean

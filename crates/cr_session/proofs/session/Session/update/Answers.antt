@@ -8,10 +8,10 @@ changes_of_update-requires-clause-key g c =
 
 pub returns-in-Ok : goal.returns-in-Ok
 returns-in-Ok g c =
-    updates _ _ g.C.Cells.is_clean g.C.Cells.holding c.args.self.now c.args.snapshot.now c.requires.seen c.args.update.now c.requires.suits (passed_is_table c.args.update.now.relation c.in_default.ensures) c.in_ok-check_replicated.ensures
+    updates _ c.args.params.now _ g.C.Cells.is_clean g.C.Cells.holding c.args.self.now c.args.snapshot.now c.requires.seen c.args.update.now c.requires.suits (passed_is_table c.args.update.now.relation c.in_default.ensures) c.in_ok-check_replicated.ensures
     c.add_changes.new.self c.in-Ok.changes.items c.add_changes.result c.in-Ok.ensures c.add_changes.ensures
 
 pub returns-in-Err-changes_of_update : goal.returns-in-Err-changes_of_update
 returns-in-Err-changes_of_update g c =
-    update_refused_rows _ _ g.C.Cells.is_clean g.C.Cells.holding c.args.self.now c.args.snapshot.now c.requires.seen c.args.update.now c.requires.suits (passed_is_table c.args.update.now.relation c.in_default.ensures) c.in_ok-check_replicated.ensures
+    update_refused_rows _ c.args.params.now _ g.C.Cells.is_clean g.C.Cells.holding c.args.self.now c.args.snapshot.now c.requires.seen c.args.update.now c.requires.suits (passed_is_table c.args.update.now.relation c.in_default.ensures) c.in_ok-check_replicated.ensures
     c.in-Err-changes_of_update.refusal c.in-Err-changes_of_update.ensures
