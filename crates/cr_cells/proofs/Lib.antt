@@ -4,6 +4,7 @@ pub mod CommitLemmas
 pub mod TableLemmas
 pub mod MarkLemmas
 pub mod SoundLemmas
+pub mod ColumnLemmas
 pub mod LawLemmas
 pub mod CallerLemmas
 pub mod NewLemmas

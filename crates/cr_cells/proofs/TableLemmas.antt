@@ -55,7 +55,7 @@ same_name-equiv = record {
 }
 
 -- two tables of one name
-one_named : (name : List ℕ) (a b : Table) → is_named name a ≡ true → is_named name b ≡ true → same_name a b ≡ true
+pub one_named : (name : List ℕ) (a b : Table) → is_named name a ≡ true → is_named name b ≡ true → same_name a b ≡ true
 one_named name a b e h =
     let q : Table = record a { definition = record a.definition { name = name } } in
     same_name-equiv.symm a b ∙ sym (same_name-equiv.congr q b a h) ∙ e
@@ -65,7 +65,7 @@ one_named name a b e h =
 no_table : (c : Change) → fault_of c None ≡ None → ⊥
 unfolding fault_of
 no_table c e =
-    elim (split (is_too_big c)) [
+    elim (split (is_too_big None c)) [
       | inl so ↦ (let e' = rw so at e in absurd cc)
       | inr not_so ↦ (let e' = rw not_so at e in absurd cc)
     ]

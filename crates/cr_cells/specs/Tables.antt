@@ -1,9 +1,10 @@
 -- The tables of a store, and which changes are well formed for one of them. Source: this project's own profile.
-use Rattle.std.specs.Prelude.{◌≡◌, ℕ, Bool, true, false, not, ◌&&◌, ◌||◌, nat_lt, List, [], ◌∷◌, ◌++◌, map, find, position, Option, Some, None, is_some}
+use Rattle.std.specs.Prelude.{◌≡◌, ℕ, Bool, true, false, not, ◌&&◌, ◌||◌, nat_lt, List, [], ◌∷◌, ◌++◌, map, cond, find, position, Option, Some, None, is_some}
 use Rattle.std.specs.List.{list_any, list_all, AllByRecursion}
 use Rattle.std.specs.Option.{option_map}
 use Rattle.cr_lattice.specs.declared.change.Change.{Change}
 use Rattle.cr_lattice.specs.declared.check.BadChange.{BadChange}
+use Rattle.cr_lattice.specs.declared.table.ColumnDef.{ColumnDef}
 use Rattle.cr_lattice.specs.declared.table.Table.{Table}
 use Rattle.cr_lattice.specs.declared.table.TableDef.{TableDef}
 use Rattle.cr_lattice.specs.Check.{same_bytes, fault_of}
@@ -61,6 +62,23 @@ with_replicated name tables = map (marked name) tables
 -- the tables and a new one
 abbrev pub with_table : List Table → TableDef → Bool → List Table
 with_table tables def is_replicated = tables ++ record { definition = def; is_replicated = is_replicated } ∷ []
+
+-- the definition with a column behind its others
+abbrev pub with_column : ColumnDef → TableDef → TableDef
+with_column col def = record def { columns = def.columns ++ col ∷ [] }
+
+-- the table, which has the column if it is of that name
+abbrev pub altered : List ℕ → ColumnDef → Table → Table
+altered name col t = cond (is_named name t) (record t { definition = with_column col t.definition }) t
+
+-- the tables, of which the one of that name has the column behind its others
+unfoldable pub with_added : List ℕ → ColumnDef → List Table → List Table
+with_added name col tables = map (altered name col) tables
+
+-- The column is outside the key, and with it the table of that name is still one that a store takes.
+pub record IsNewColumn (tables : List Table) (name : List ℕ) (col : ColumnDef) : Type 0 where
+  pub outside : col.key ≡ None
+  pub stored : AllByRecursion IsStored (with_added name col tables)
 
 -- ---- changes
 

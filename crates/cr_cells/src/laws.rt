@@ -4,9 +4,10 @@ ghost use Rattle.std.specs.Prelude.{◌≡◌, ℕ, ℤ, pos, ◌≤ℤ◌, ◌+
 ghost use Rattle.std.specs.Option.{ForSome};
 ghost use Rattle.cr_lattice.specs.declared.change.Change.{Change};
 ghost use Rattle.cr_lattice.specs.declared.stamped.Stamped.{Stamped};
+ghost use Rattle.cr_lattice.specs.declared.table.ColumnDef.{ColumnDef};
 ghost use Rattle.cr_lattice.specs.Check.{same_bytes};
 ghost use Rattle.cr_lattice.specs.Keep.{has, keep, join, SameMembers};
-ghost use Rattle.cr_cells.specs.Tables.{AreWellFormed};
+ghost use Rattle.cr_cells.specs.Tables.{AreWellFormed, IsNewColumn, with_added};
 ghost use Rattle.cr_cells.specs.Marks.{Mark, seen_of, with_mark};
 ghost use Rattle.cr_cells.specs.Holding.{Holding, changes_of, kept_of, has_cell, since, IsSound, empty_holding};
 ghost use Rattle.cr_cells.specs.Commit.{newly_kept, is_changed, stamped, cells_after, committed, Batch, after_all, all_changes};
@@ -22,6 +23,12 @@ pub fn cells_are_what_is_kept()
 pub fn commits_are_sound()
     ensures { (h : Holding) (more : List Change) (peer : Option Mark) → IsSound h → AreWellFormed h.tables more
         → ForSome peer (λ m. pos 0 ≤ℤ m.1) → IsSound (committed h more peer) }
+{}
+
+/// A column that is added leaves what is held sound; no cell changes.
+pub fn added_columns_are_sound()
+    ensures { (h : Holding) (name : List ℕ) (column : ColumnDef) → IsSound h → IsNewColumn h.tables name column
+        → IsSound (record h { tables = with_added name column h.tables }) }
 {}
 
 /// Where a commit answers true the kept changes are others than before, and where it answers false no cell is another.

@@ -6,10 +6,10 @@ ghost use Rattle.cr_cells.specs.Holding.{empty_holding};
 use crate::cells::{cells_of, since, take_changes};
 use crate::marks::{Mark, marks_after, seen_of};
 use crate::store::{Cells, CellsError, NewCells};
-use crate::tables::{add, copies, with_replicated};
+use crate::tables::{add, copies, with_added, with_replicated};
 use cr_lattice::change::{Change, Site};
 use cr_lattice::stamped::Stamped;
-use cr_lattice::table::{Table, TableDef};
+use cr_lattice::table::{ColumnDef, Table, TableDef};
 use std::alloc::Global;
 use std::marker::Model;
 
@@ -73,6 +73,16 @@ impl Cells for PlainCells {
 
     fn add_replicated(&mut self, alloc: Global, def: &TableDef) -> Result<(), CellsError> {
         add(alloc, &mut self.tables, def, true)?;
+        Ok(())
+    }
+
+    fn add_column(
+        &mut self,
+        alloc: Global,
+        table: &str,
+        column: &ColumnDef,
+    ) -> Result<(), CellsError> {
+        self.tables = with_added(alloc, &self.tables, table, column)?;
         Ok(())
     }
 

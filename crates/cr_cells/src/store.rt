@@ -2,14 +2,14 @@
 
 ghost use Rattle.std.specs.Prelude.{◌≡◌, ◌≤ℤ◌, pos, true, false, IfOk, MatchResult};
 ghost use Rattle.std.specs.Option.{ForSome};
-ghost use Rattle.cr_cells.specs.Tables.{IsNewTable, has_defaults, is_markable, with_replicated, with_table, AreWellFormed};
+ghost use Rattle.cr_cells.specs.Tables.{IsNewTable, IsNewColumn, has_defaults, is_markable, with_replicated, with_table, with_added, AreWellFormed};
 ghost use Rattle.cr_cells.specs.Marks.{seen_of};
 ghost use Rattle.cr_cells.specs.Holding.{since, cells_of, IsSound, empty_holding};
 ghost use Rattle.cr_cells.specs.Calls.{Reads, Defines, Commits, IsRefusal, is_want, UnlessWant};
 
 use cr_lattice::change::{Change, Site};
 use cr_lattice::stamped::Stamped;
-use cr_lattice::table::{Table, TableDef};
+use cr_lattice::table::{ColumnDef, Table, TableDef};
 use std::alloc::{AllocError, Global};
 
 /// How a store itself refuses a call.
@@ -113,6 +113,26 @@ pub trait Cells: Drop {
         ensures sound { is_clean self.new → IsSound (holding self.new) }
         ensures defines { is_clean self.new → Defines (holding self.old) (holding self.new) result
             (record (holding self.old) { tables = with_table (holding self.old).tables def.now true }) };
+
+    /// Adds a column outside the key to the table of that name, behind its others. Its names are in ASCII lower case, and
+    /// with it the table fits the profile, its columns have distinct names and, where it is replicated, those that want a
+    /// value have a default. No cell changes: one that was kept for a column of that name shows from now on.
+    ///
+    /// # Errors
+    /// `Memory`, or `Store(Refused)`; then nothing is changed.
+    fn add_column(
+        &mut self,
+        alloc: Global,
+        table: &str,
+        column: &ColumnDef,
+    ) -> Result<(), CellsError>
+        requires { is_clean self.old → IsNewColumn (holding self.old).tables table.now column.now }
+        ensures was_honest { is_honest self.new → is_honest self.old }
+        ensures was_clean { is_clean self.new → is_clean self.old }
+        ensures stays_clean { is_honest self.new → is_clean self.old → UnlessWant is_want result (is_clean self.new) }
+        ensures sound { is_clean self.new → IsSound (holding self.new) }
+        ensures defines { is_clean self.new → Defines (holding self.old) (holding self.new) result
+            (record (holding self.old) { tables = with_added table.now column.now (holding self.old).tables }) };
 
     /// The cells that are stamped above a version, by version, then by place.
     ///

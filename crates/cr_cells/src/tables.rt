@@ -4,12 +4,12 @@ ghost use Rattle.std.specs.Prelude.{◌≡◌, true, false, map, find, IfOk, OnO
 ghost use Rattle.std.specs.List.{list_all, list_any};
 ghost use Rattle.std.specs.Option.{option_copied};
 ghost use Rattle.cr_lattice.specs.Check.{Checks};
-ghost use Rattle.cr_cells.specs.Tables.{is_folded, has_folded_names, has_defaults, IsNewTable, is_named, is_markable, marked, with_replicated, with_table, is_table_of, fault_in, first_fault, AreWellFormed};
+ghost use Rattle.cr_cells.specs.Tables.{is_folded, has_folded_names, has_defaults, IsNewTable, is_named, is_markable, marked, with_replicated, with_table, with_column, altered, with_added, is_table_of, fault_in, first_fault, AreWellFormed};
 
 use cr_lattice::change::Change;
 use cr_lattice::check::{CheckError, check};
 use cr_lattice::profile::{duplicate, no_default, profile};
-use cr_lattice::table::{ColumnDef, Table, TableDef};
+use cr_lattice::table::{ColumnDef, Items, Table, TableDef};
 use cr_value::order::same_bytes;
 use std::alloc::{AllocError, Global};
 
@@ -177,6 +177,58 @@ pub fn with_replicated(
     let mut out = Vec::new(alloc);
     for table in tables {
         out.push(marked(alloc, table, name)?)?;
+    }
+    Ok(out)
+}
+
+/// A definition with a column behind its others.
+pub fn with_column(
+    alloc: Global,
+    def: &TableDef,
+    column: &ColumnDef,
+) -> Result<TableDef, AllocError>
+    ensures { IfOk result (λ d. d ≡ with_column column.now def.now) }
+{
+    let TableDef { name, columns } = def.copy(alloc)?;
+    let mut columns = columns.into_vec();
+    columns.push(column.copy(alloc)?)?;
+    Ok(TableDef {
+        name,
+        columns: Items::new(columns),
+    })
+}
+
+// A copy of a table, which has the column if it is of that name.
+fn altered(
+    alloc: Global,
+    table: &Table,
+    name: &str,
+    column: &ColumnDef,
+) -> Result<Table, AllocError>
+    ensures { IfOk result (λ t. t ≡ altered name.now column.now table.now) }
+{
+    if !is_named(table, name) {
+        return table.copy(alloc);
+    }
+    Ok(Table {
+        definition: with_column(alloc, &table.definition, column)?,
+        is_replicated: table.is_replicated,
+    })
+}
+
+/// Copies of tables, of which the one of that name has the column behind its others.
+#[tactic(auto, unfolding(crate::specs::Tables::with_added))]
+pub fn with_added(
+    alloc: Global,
+    tables: &[Table],
+    name: &str,
+    column: &ColumnDef,
+) -> Result<Vec<Table>, AllocError>
+    ensures { IfOk result (λ v. v.items ≡ with_added name.now column.now tables.now) }
+{
+    let mut out = Vec::new(alloc);
+    for table in tables {
+        out.push(altered(alloc, table, name, column)?)?;
     }
     Ok(out)
 }

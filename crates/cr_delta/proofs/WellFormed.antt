@@ -1,7 +1,7 @@
 -- Where what was kept is well formed, so is each change of a write.
-use Rattle.std.proofs.Common.{◌≡◌, ◌⊎◌, inl, inr, ℕ, ◌≤◌, ltb, ℤ, pos, negsuc, Bool, true, false, not, ◌||◌, List, [], ◌∷◌, length, None, refl, sym, ap, subst, ◌∙◌, arith}
-use Rattle.std.specs.Prelude.{◌+ℤ◌, int_lt}
-use Rattle.std.specs.List.{zip, AllByRecursion}
+use Rattle.std.proofs.Common.{◌≡◌, ◌⊎◌, inl, inr, ℕ, ◌≤◌, ltb, ℤ, pos, negsuc, Bool, true, false, not, ◌||◌, List, [], ◌∷◌, length, Some, None, refl, sym, ap, subst, ◌∙◌, arith}
+use Rattle.std.specs.Prelude.{◌+ℤ◌, int_lt, ◌&&◌, AllPairs}
+use Rattle.std.specs.List.{zip, list_any, AllByRecursion}
 use Rattle.std.specs.Ordering.{int_eq, is_eq}
 use Rattle.std.proofs.lemmas.Cmp.{int_cmp_total, tied_itself}
 use Rattle.std.proofs.lemmas.Bool.{le-ltb, lt-ltb}
@@ -13,15 +13,16 @@ use Rattle.cr_lattice.specs.declared.check.BadChange.TheVariants.{Size, Table, K
 use Rattle.cr_lattice.specs.declared.table.ColumnDef.{ColumnDef}
 use Rattle.cr_lattice.specs.declared.table.TableDef.{TableDef}
 use Rattle.cr_lattice.specs.Change.{row_cid}
-use Rattle.cr_lattice.specs.Check.{same_bytes, value_len, is_too_big, is_key, is_row_cid, is_value_column, is_cid, is_odd, has_lengths, first_failed, fault_of, IsWellFormed}
+use Rattle.cr_lattice.specs.Check.{same_bytes, value_len, has_name, is_known, is_too_big, is_key, is_row_cid, is_key_column, is_key_name, is_cid, is_odd, has_lengths, first_failed, fault_of, IsWellFormed}
 use Rattle.cr_lattice.specs.Keep.{keep}
 use Rattle.cr_lattice.specs.Rows.{is_alive, is_of_row, is_cell, kept_change}
 use Rattle.cr_lattice.proofs.KeepLaws.{In, kept_from}
 use Rattle.cr_delta.specs.Key.{key_of}
 use Rattle.cr_delta.specs.Delta.{length_of, version_of, value_cells, row_change, column_change, row_delta, delta}
 use Rattle.cr_delta.specs.Wanted.{IsRowOf, IsInProfile, AreWanted, AreWellFormed, AreSmall, DeltaIsWellFormed}
-use Rattle.cr_delta.proofs.Among.{split, and_true, Among, In_Among, Among_In, any_member, member_has}
-use Rattle.cr_delta.proofs.Cells.{column_of, cell_of_value, not_row_cid}
+use Rattle.cr_lattice.specs.Profile.{HasDistinctNames}
+use Rattle.cr_delta.proofs.Among.{split, and_true, Among, In_Among, Among_In, any_member, member_of_any, member_has}
+use Rattle.cr_delta.proofs.Cells.{pair_first, pair_rest, column_of, cell_of_value, not_row_cid}
 use Rattle.cr_delta.proofs.Integers.{odd_after_even}
 use Rattle.cr_delta.proofs.KeptRows.{search_ends, of_row, of_cell, not_alive_even, alive_has, length_is}
 use Rattle.cr_delta.proofs.KeyFits.{key_is}
@@ -29,7 +30,7 @@ use Rattle.cr_delta.proofs.Members.{same_is, is_same, of_delta, of_arrival, of_u
 
 -- the parts of being well formed
 record Sound (def : TableDef) (c : Change) : Type 0 where
-  size : is_too_big c ≡ false
+  size : is_too_big (Some def) c ≡ false
   table : same_bytes c.table def.name ≡ true
   key : is_key def c.pk ≡ true
   cid : is_cid def c.cid ≡ true
@@ -53,7 +54,7 @@ is_sound def c e =
     let lengths = (has_lengths c, Length) ∷ [] in
     let cid = (is_cid def c.cid, Cid) ∷ lengths in
     let key = (is_key def c.pk, Key) ∷ cid in
-    let a = passed (not (is_too_big c)) Size ((same_bytes c.table def.name, Table) ∷ key) e in
+    let a = passed (not (is_too_big (Some def) c)) Size ((same_bytes c.table def.name, Table) ∷ key) e in
     let b = passed (same_bytes c.table def.name) Table key a.1 in
     let d = passed (is_key def c.pk) Key cid b.1 in
     let f = passed (is_cid def c.cid) Cid lengths d.1 in
@@ -62,20 +63,33 @@ is_sound def c e =
 
 -- ---- sizes and numbers
 
-small : (c : Change) → value_len c.val ≤ size_limit → length c.pk ≤ size_limit → is_too_big c ≡ false
+and_false : (b : Bool) → (b && false) ≡ false
+and_false true = refl
+and_false false = refl
+
+-- its value and key are within the limit, and it is of the row itself or of a column of the table
+small : (def : TableDef) (c : Change) → value_len c.val ≤ size_limit → length c.pk ≤ size_limit → (ltb size_limit (length c.cid) && not (is_known (Some def) c.cid)) ≡ false → is_too_big (Some def) c ≡ false
 unfolding is_too_big
-small c e f = rw (le-ltb _ _ e, le-ltb _ _ f) refl
+small def c e f named = rw (le-ltb _ _ e, le-ltb _ _ f) named
+
+known_name : (def : TableDef) (cid : List ℕ) → is_known (Some def) cid ≡ true → (ltb size_limit (length cid) && not (is_known (Some def) cid)) ≡ false
+known_name def cid e = ap (λ b. ltb size_limit (length cid) && not b) e ∙ and_false (ltb size_limit (length cid))
+
+short_name : (def : TableDef) → (ltb size_limit (length row_cid) && not (is_known (Some def) row_cid)) ≡ false
+short_name def = refl
 
 or_false : (a b : Bool) → (a || b) ≡ false → (a ≡ false) × (b ≡ false)
 or_false true b e = absurd cc
 or_false false b e = (refl, e)
 
-small_key : (c d : Change) → value_len c.val ≡ 0 → c.pk ≡ d.pk → is_too_big d ≡ false → is_too_big c ≡ false
+-- a change of the row itself with the key of one that is small
+small_key : (def : TableDef) (c d : Change) → value_len c.val ≡ 0 → c.pk ≡ d.pk → c.cid ≡ row_cid → is_too_big (Some def) d ≡ false → is_too_big (Some def) c ≡ false
 unfolding is_too_big
-small_key c d e same f =
-    ap (λ n. ltb size_limit n || ltb size_limit (length c.pk)) e
-    ∙ ap (λ pk. ltb size_limit (length pk)) same
-    ∙ (or_false (ltb size_limit (value_len d.val)) (ltb size_limit (length d.pk)) f).1
+small_key def c d e same row f =
+    ap (λ n. ltb size_limit n || (ltb size_limit (length c.pk) || (ltb size_limit (length c.cid) && not (is_known (Some def) c.cid)))) e
+    ∙ ap (λ pk. ltb size_limit (length pk) || (ltb size_limit (length c.cid) && not (is_known (Some def) c.cid))) same
+    ∙ ap (λ cid. ltb size_limit (length d.pk) || (ltb size_limit (length cid) && not (is_known (Some def) cid))) row
+    ∙ ap (λ b. b || false) (or_false (ltb size_limit (length d.pk)) _ (or_false (ltb size_limit (value_len d.val)) _ f).1).0
 
 Positive : ℤ → Type 0
 Positive z = int_lt (pos 0) z ≡ true
@@ -159,12 +173,44 @@ or_right : (a b : Bool) → b ≡ true → (a || b) ≡ true
 or_right true b e = refl
 or_right false b e = e
 
-column_cid : (def : TableDef) (row : List Value) (cell : ColumnDef × Value) → Among (value_cells def row) cell → is_cid def cell.0.name ≡ true
+-- a name is one column's
+one_column : (cols : List ColumnDef) (a b : ColumnDef) → AllPairs (λ x y. same_bytes x.name y.name ≡ false) cols → Among cols a → Among cols b → a.name ≡ b.name → a ≡ b
+one_column [] a b apart m n e = absurd m
+one_column (col ∷ cols) a b apart m n e =
+    let other : (x : ColumnDef) → Among cols x → col.name ≡ x.name → ⊥ = λ x i same. (
+    let no_same = pair_first (λ x y. same_bytes x.name y.name ≡ false) col cols x apart i in
+    let so = is_same col.name x.name same in
+    absurd cc) in
+    elim m [
+      | inl here ↦ elim n [
+        | inl here' ↦ here ∙ sym here'
+        | inr there' ↦ absurd (other b there' (ap (λ (x : ColumnDef). x.name) (sym here) ∙ e))
+      ]
+      | inr there ↦ elim n [
+        | inl here' ↦ absurd (other a there (ap (λ (x : ColumnDef). x.name) (sym here') ∙ sym e))
+        | inr there' ↦ one_column cols a b (pair_rest (λ x y. same_bytes x.name y.name ≡ false) col cols apart) there there' e
+      ]
+    ]
+
+column_cid : (def : TableDef) (row : List Value) (cell : ColumnDef × Value) → HasDistinctNames def → Among (value_cells def row) cell → is_cid def cell.0.name ≡ true
 unfolding is_cid
-column_cid def row cell m =
+column_cid def row cell apart m =
     let x = cell_of_value def row cell m in
-    let same = is_same cell.0.name cell.0.name refl in
-    or_right _ _ (any_member (is_value_column cell.0.name) def.columns cell.0 (column_of def.columns row cell x.0) (rw (x.1, same) refl))
+    let not_key : list_any (is_key_name cell.0.name) def.columns ≡ false = elim (split (list_any (is_key_name cell.0.name) def.columns)) [
+      | inl so ↦ (
+          let k = member_of_any (is_key_name cell.0.name) def.columns so in
+          let p = and_true _ _ k.2 in
+          let same : cell.0 ≡ k.0 = one_column def.columns cell.0 k.0 apart (column_of def.columns row cell x.0) k.1 (same_is _ _ p.1) in
+          let key : is_key_column cell.0 ≡ true = ap is_key_column same ∙ p.0 in
+          let no_key : is_key_column cell.0 ≡ false = x.1 in
+          absurd cc)
+      | inr not_so ↦ not_so
+    ] in
+    or_right _ _ (ap not not_key)
+
+column_known : (def : TableDef) (row : List Value) (cell : ColumnDef × Value) → Among (value_cells def row) cell → is_known (Some def) cell.0.name ≡ true
+column_known def row cell m =
+    any_member (has_name cell.0.name) def.columns cell.0 (column_of def.columns row cell (cell_of_value def row cell m).0) (is_same cell.0.name cell.0.name refl)
 
 value_of : (cols : List ColumnDef) (row : List Value) (cell : ColumnDef × Value) → Among (zip cols row) cell → Among row cell.1
 value_of [] row cell m = absurd m
@@ -181,7 +227,7 @@ module _ (def : TableDef) (site : List ℕ) (s : List Change) (wanted : List (Li
   row_sound row m cl e =
       let fits = member_has (IsRowOf def) wanted row w.rows m in
       record {
-        size = small _ (omega arith) fits.key.size;
+        size = small def _ (omega arith) fits.key.size (short_name def);
         table = is_same def.name def.name refl;
         key = key_is def row profile fits;
         cid = row_cid_is def;
@@ -198,10 +244,10 @@ module _ (def : TableDef) (site : List ℕ) (s : List Change) (wanted : List (Li
         | inr not_so ↦ not_so
       ] in
       record {
-        size = small _ short fits.key.size;
+        size = small def _ short fits.key.size (known_name def cell.0.name (column_known def row cell i));
         table = is_same def.name def.name refl;
         key = key_is def row profile fits;
-        cid = column_cid def row cell i;
+        cid = column_cid def row cell profile.names i;
         lengths = column_lengths def site (key_of def row) cl cell version e f odd name;
       }
 
@@ -230,7 +276,7 @@ module _ (def : TableDef) (site : List ℕ) (s : List Change) (wanted : List (Li
   removal_sound d k t =
       let sound = kept_sound def site s wf d k t in
       record {
-        size = small_key _ d refl refl sound.size;
+        size = small_key def _ d refl refl refl sound.size;
         table = is_same def.name def.name refl;
         key = sound.key;
         cid = row_cid_is def;

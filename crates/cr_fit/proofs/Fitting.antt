@@ -169,7 +169,7 @@ fits_within n m h = grind (arith, nat_tests)
 first_of_two : (a b m : ℕ) → nat_lt m (max a b) ≡ false → nat_le a m ≡ true
 first_of_two a b m h = grind (arith, nat_tests)
 
-in_profile : (def : TableDef) → has_key def ≡ true → list_any is_collated_key def.columns ≡ false → list_any is_named_row def.columns ≡ false → list_any is_default_too_long def.columns ≡ false
+pub in_profile : (def : TableDef) → has_key def ≡ true → list_any is_collated_key def.columns ≡ false → list_any is_named_row def.columns ≡ false → list_any is_default_too_long def.columns ≡ false
     → nat_le (length def.columns) 100 ≡ true → nat_le (key_count def) 8 ≡ true → is_reserved def.name ≡ false → profile_fault def ≡ None
 unfolding profile_fault has_row_cid
 in_profile def key collated row default columns keys name = rw key (rw collated (rw row (rw default (rw columns (rw keys (rw name refl))))))

@@ -3,4 +3,5 @@ pub mod Folding
 pub mod Counting
 pub mod Keys
 pub mod Fitting
+pub mod Adding
 pub mod Suiting

@@ -24,6 +24,7 @@ use Rattle.cr_fit.specs.Folded.{DefinesFolded}
 use Rattle.cr_fit.specs.Suited.{HasRelation, Suits, ResolvedSuit}
 use Rattle.cr_fit.proofs.Keys.{both_none, same, turned}
 use Rattle.cr_fit.proofs.Fitting.{same_name, created_are_new}
+use Rattle.cr_fit.proofs.Adding.{fits_in}
 
 -- ---- the first of a name
 
@@ -114,7 +115,7 @@ read_suits known (s.Insert i) folded e = table_stands known i.table (written_fin
 read_suits known (s.Update u) folded e = table_stands known u.table (written_fine (table known u.table).bad _ _ _ e)
 read_suits known (s.Delete d) folded e = table_stands known d.table (deleted_fine (table known d.table).bad _ _ e)
 read_suits known (s.Create c) folded e = created_are_new known c folded e
-read_suits known (s.Alter a) folded e = table_stands known a.table (altered_fine _ (table known a.table).bad _ e)
+read_suits known (s.Alter a) folded e = (table_stands known a.table (altered_fine _ (table known a.table).bad _ e), fits_in known a folded e)
 read_suits known (s.Begin mode) folded e = tt
 read_suits known s.Commit folded e = tt
 read_suits known s.Rollback folded e = tt

@@ -1,7 +1,8 @@
--- What a statement that is resolved works on: a table or a module of the catalog, or a table that a store takes. Source:
--- this project's own.
+-- What a statement that is resolved works on: a table or a module of the catalog, or a table or a column that a store takes.
+-- Source: this project's own.
 use Rattle.std.specs.Prelude.{◌≡◌, false, find, Some, None, Ok}
 use Rattle.cr_lattice.specs.Check.{same_bytes}
+use Rattle.cr_lattice.specs.declared.table.ColumnDef.{ColumnDef}
 use Rattle.cr_lattice.specs.declared.table.TableDef.{TableDef}
 use Rattle.cr_lattice.specs.declared.catalog.Catalog.{Catalog}
 use Rattle.cr_tree.specs.declared.statement.Statement.{Statement}
@@ -10,7 +11,7 @@ use Rattle.cr_term.specs.declared.query.Held.TheVariants as held
 use Rattle.cr_term.specs.declared.query.Relation.{Relation}
 use Rattle.cr_term.specs.declared.query.Resolved.{Resolved}
 use Rattle.cr_term.specs.declared.query.Resolved.TheVariants as r
-use Rattle.cr_cells.specs.Tables.{IsNewTable, is_named}
+use Rattle.cr_cells.specs.Tables.{IsFit, IsNewTable, is_named, with_column}
 use Rattle.cr_questions.specs.Questions.{Answers}
 use Rattle.cr_resolve.specs.Known.{Known}
 use Rattle.cr_resolve.specs.Resolve.{resolved}
@@ -25,7 +26,11 @@ HasHeld c def (held.Module at) = (find (is_named def.name) c.tables ≡ None) ×
 abbrev pub HasRelation : Catalog → Relation → Type 0
 HasRelation c x = HasHeld c x.definition x.held
 
--- a statement works on relations of the catalog, and makes a table that a store takes, where no table has its name
+-- a column outside the key, with which a fit definition is still fit
+abbrev pub FitsIn : TableDef → ColumnDef → Type 0
+FitsIn def col = (col.key ≡ None) × (IsFit def → IsFit (with_column col def))
+
+-- a statement works on relations of the catalog, adds a column that fits in its table, and makes a table that a store takes, where no table has its name
 abbrev pub Suits : Catalog → Resolved → Type 0
 Suits c (r.Select q) = Unit {0}
 Suits c (r.MarkReplicated m) = HasRelation c m.relation
@@ -33,7 +38,7 @@ Suits c (r.Insert i) = HasRelation c i.relation
 Suits c (r.Update u) = HasRelation c u.relation
 Suits c (r.Delete d) = HasRelation c d.relation
 Suits c (r.Create x) = x.is_there ≡ false → IsNewTable c.tables x.definition
-Suits c (r.Alter a) = HasRelation c a.relation
+Suits c (r.Alter a) = HasRelation c a.relation × FitsIn a.relation.definition a.column
 Suits c r.Begin = Unit {0}
 Suits c r.Commit = Unit {0}
 Suits c r.Rollback = Unit {0}

@@ -15,8 +15,8 @@ pub fn created_tables_are_new()
     ensures { CreatedAreNew }
 {}
 
-/// A statement that is resolved names tables and modules of the catalog as they stand there, and makes a table only such as a
-/// store takes, where no table has its name.
+/// A statement that is resolved names tables and modules of the catalog as they stand there, makes a table only such as a
+/// store takes, where no table has its name, and adds a column only such as leaves its table one that a store takes.
 pub fn resolved_statements_suit()
     ensures { ResolvedSuit }
 {}

@@ -10,16 +10,14 @@ use Rattle.cr_world.specs.Run.{Run}
 use Rattle.cr_world.specs.Headline.{Converges}
 use Rattle.cr_world.proofs.Running.{run_converges}
 use Rattle.cr_language.specs.Engines.{OrderOf, AreTotal, engine}
-use Rattle.cr_language.specs.Sql.{sql}
 use Rattle.cr_language.proofs.Instance.{is_language}
-use Rattle.cr_language.proofs.SoFar.{so_far_is_language}
 use Rattle.cr_session.specs.Speaking.{spoken}
 
 module _ (function_of : List ℕ → ℕ → Option Definition) (scalar : ℕ → List Value → Result Value (List ℕ)) (step : ℕ → Value → List Value → Result Value (List ℕ)) (finish : ℕ → Value → Result Value (List ℕ))
     (order_of : OrderOf) (total : AreTotal order_of) (has : List ℕ → Bool) where
   spoken_is_language : IsLanguage (spoken function_of scalar step finish order_of total has)
   unfolding spoken
-  spoken_is_language = so_far_is_language (sql (engine function_of scalar step finish order_of total has)) (is_language (engine function_of scalar step finish order_of total has))
+  spoken_is_language = is_language (engine function_of scalar step finish order_of total has)
 
   pub spoken_converges : (k : Closures) (w : World) (cs : List Command) (rs : List FleetReply) → Run (spoken function_of scalar step finish order_of total has) k w cs rs
       → Converges (spoken function_of scalar step finish order_of total has) k w cs rs

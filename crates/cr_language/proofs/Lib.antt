@@ -8,4 +8,3 @@ pub mod Masks
 pub mod Standing
 pub mod Instance
 pub mod Texts
-pub mod SoFar

@@ -3,4 +3,3 @@ pub mod Laws
 pub mod Texts
 pub mod Sql
 pub mod Engines
-pub mod SoFar

@@ -4,7 +4,6 @@ ghost use Rattle.cr_world.specs.Language.{IsLanguage};
 ghost use Rattle.cr_language.specs.Laws.{SelectsLookAtTheirNames, SelectsReadTheirTables};
 ghost use Rattle.cr_language.specs.Texts.{TextsHaveTokens};
 ghost use Rattle.cr_language.specs.Sql.{Engine, sql};
-ghost use Rattle.cr_language.specs.SoFar.{so_far};
 
 /// A select that asks for neither site nor version looks at what its own names stand for, and at nothing else.
 pub fn selects_look_at_their_names()
@@ -24,9 +23,4 @@ pub fn sql_is_a_language()
 /// Each text has tokens.
 pub fn texts_have_tokens()
     ensures { TextsHaveTokens }
-{}
-
-/// What is carried out of this project's SQL so far is a language of sessions.
-pub fn sql_so_far_is_a_language()
-    ensures { (e : Engine) → IsLanguage (so_far (sql e)) }
 {}

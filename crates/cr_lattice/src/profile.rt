@@ -189,7 +189,8 @@ pub fn duplicate(def: &TableDef) -> Option<usize>
     None
 }
 
-fn lacks_default(column: &ColumnDef) -> bool
+/// Whether a column is NOT NULL and outside the key, and its default is NULL: a row can't leave it out.
+pub fn lacks_default(column: &ColumnDef) -> bool
     ensures { result ≡ lacks_default column.now }
 {
     column.key.is_none() && column.not_null && matches!(&column.default, Value::Null)

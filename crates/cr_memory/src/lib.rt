@@ -10,7 +10,7 @@ use cr_cells::store::{Cells, CellsError, NewCells, StoreFault};
 use cr_disk::MemoryFile;
 use cr_lattice::change::{Change, Site};
 use cr_lattice::stamped::Stamped;
-use cr_lattice::table::{Table, TableDef};
+use cr_lattice::table::{ColumnDef, Table, TableDef};
 use cr_store::store::Store;
 use sqlite::{Connection, Error, ErrorCode, FileStore, Files, Options};
 use std::alloc::Global;
@@ -47,6 +47,15 @@ impl Cells for MemoryCells {
 
     fn add_replicated(&mut self, alloc: Global, def: &TableDef) -> Result<(), CellsError> {
         self.store.add_replicated(alloc, def)
+    }
+
+    fn add_column(
+        &mut self,
+        alloc: Global,
+        table: &str,
+        column: &ColumnDef,
+    ) -> Result<(), CellsError> {
+        self.store.add_column(alloc, table, column)
     }
 
     fn since(&mut self, alloc: Global, version: i64) -> Result<Vec<Stamped>, CellsError> {

@@ -16,7 +16,7 @@ use cr_lattice::check::{BadChange, CheckError};
 use cr_lattice::merge::merge;
 use cr_lattice::rows::rows;
 use cr_lattice::stamped::Stamped;
-use cr_lattice::table::{Items, Row, TableDef};
+use cr_lattice::table::{ColumnDef, Items, Row, TableDef};
 use cr_value::order::same_bytes;
 use std::alloc::{AllocError, Global};
 use std::marker::Model;
@@ -130,7 +130,7 @@ impl<C: Cells> Replica<C> {
     ghost use Rattle.std.specs.Prelude.{◌≡◌, ◌≤ℤ◌, ◌++◌, pos, List, find, false, true, Err, OnOk, IfOk};
     ghost use Rattle.std.specs.Option.{ForSome, is_some};
     ghost use Rattle.cr_lattice.specs.declared.change.Change.{Change};
-    ghost use Rattle.cr_cells.specs.Tables.{IsNewTable, has_folded_names, is_markable, is_named, with_replicated, with_table};
+    ghost use Rattle.cr_cells.specs.Tables.{IsNewTable, IsNewColumn, has_folded_names, is_markable, is_named, with_replicated, with_table, with_added};
     ghost use Rattle.cr_cells.specs.Holding.{Holding, IsSound, since, changes_of};
     ghost use Rattle.cr_cells.specs.Marks.{seen_of};
     ghost use Rattle.cr_cells.specs.Calls.{Defines, Reads, is_want, UnlessWant};
@@ -215,6 +215,27 @@ impl<C: Cells> Replica<C> {
             (record (C.holding self.old) { tables = with_replicated name.now (C.holding self.old).tables }) }
     {
         self.cells.mark_crr(alloc, name)
+    }
+
+    /// Adds a column outside the key to the table of that name, behind its others. With it the table is still one that a store
+    /// takes. No change that is kept changes: one of a column of that name shows from now on.
+    ///
+    /// # Errors
+    /// `Memory`, or `Store(Refused)`; then nothing is changed.
+    pub fn add_column(
+        &mut self,
+        alloc: Global,
+        table: &str,
+        column: &ColumnDef,
+    ) -> Result<(), CellsError>
+        requires { C.is_clean self.old → IsNewColumn (C.holding self.old).tables table.now column.now }
+        ensures was_honest { C.is_honest self.new → C.is_honest self.old }
+        ensures was_clean { C.is_clean self.new → C.is_clean self.old }
+        ensures stays_clean { C.is_honest self.new → C.is_clean self.old → UnlessWant is_want result (C.is_clean self.new) }
+        ensures defines { C.is_clean self.new → Defines (C.holding self.old) (C.holding self.new) result
+            (record (C.holding self.old) { tables = with_added table.now column.now (C.holding self.old).tables }) }
+    {
+        self.cells.add_column(alloc, table, column)
     }
 
     /// The first step of a taking: whether these changes may be taken, and what their commit would bring in. Nothing is

@@ -1,6 +1,6 @@
 -- A statement is carried out as what it is once its names are resolved.
 use Rattle.std.proofs.Common.{◌≡◌, ◌⊎◌, inl, inr, ℕ, Bool, true, false, ◌&&◌, cond, List, [], Option, Some, None, option_map, Result, Ok, Err, length, refl, sym, ap, subst, ◌∙◌}
-use Rattle.std.specs.Prelude.{not, unwrap_or, if◌then◌else◌}
+use Rattle.std.specs.Prelude.{not, unwrap_or}
 use Rattle.std.specs.Option.{option_map_or}
 use Rattle.cr_value.specs.declared.value.Value.{Value}
 use Rattle.cr_lattice.specs.declared.catalog.Catalog.{Catalog}
@@ -38,7 +38,6 @@ use Rattle.cr_world.specs.Statement as statement
 use Rattle.cr_world.specs.Statement.{Host, Answers, stepped, cause_of, later_cause, rows_of, reply_to, left_by, result_ok, evaluated, causes_of, is_memory, ended, ends}
 use Rattle.cr_language.specs.Engines.{OrderOf, AreTotal, engine}
 use Rattle.cr_language.specs.Sql.{known as known_in, view, viewed, of_unresolved}
-use Rattle.cr_language.specs.SoFar.{is_carried_out, not_carried_out}
 use Rattle.cr_answer.specs.Allowing.{Allows, IsRefused, known_by}
 use Rattle.cr_resolve.specs.declared.refusal.Refusal.{Refusal as Unresolved}
 use Rattle.cr_world.specs.Refusals.{is_want, of_store}
@@ -71,20 +70,20 @@ select_form : (known : Known) (q : Select) (o : Option (List ℕ)) → is_perfor
 select_form known q None = refl
 select_form known q (Some name) = refl
 
-read_form : (known : Known) (x : Statement) → is_carried_out x ≡ true → is_transaction x ≡ false → is_performed (read known x).made ≡ true
-read_form known (s.Select q) e other = select_form known q (marked q)
-read_form known (s.Insert i) e other = refl
-read_form known (s.Update u) e other = refl
-read_form known (s.Delete d) e other = refl
-read_form known (s.Create c) e other = refl
-read_form known (s.Alter a) e other = absurd (let z : ⊥ = cc in z)
-read_form known (s.Begin mode) e other = absurd (let z : ⊥ = cc in z)
-read_form known s.Commit e other = absurd (let z : ⊥ = cc in z)
-read_form known s.Rollback e other = absurd (let z : ⊥ = cc in z)
+read_form : (known : Known) (x : Statement) → is_transaction x ≡ false → is_performed (read known x).made ≡ true
+read_form known (s.Select q) other = select_form known q (marked q)
+read_form known (s.Insert i) other = refl
+read_form known (s.Update u) other = refl
+read_form known (s.Delete d) other = refl
+read_form known (s.Create c) other = refl
+read_form known (s.Alter a) other = refl
+read_form known (s.Begin mode) other = absurd (let z : ⊥ = cc in z)
+read_form known s.Commit other = absurd (let z : ⊥ = cc in z)
+read_form known s.Rollback other = absurd (let z : ⊥ = cc in z)
 
--- a statement of a form that is carried out, and that neither opens nor ends a transaction, stays one
-pub form_is : (known : Known) (answers : Questioned) (x : Statement) (y : Answered) → is_carried_out x ≡ true → is_transaction x ≡ false → resolved known answers x ≡ Ok y → is_performed y ≡ true
-form_is known answers x y out other e = ap is_performed (judged_left known answers x y e).0 ∙ left_form answers (read known x).made ∙ read_form known x out other
+-- a statement that neither opens nor ends a transaction stays one
+pub form_is : (known : Known) (answers : Questioned) (x : Statement) (y : Answered) → is_transaction x ≡ false → resolved known answers x ≡ Ok y → is_performed y ≡ true
+form_is known answers x y other e = ap is_performed (judged_left known answers x y e).0 ∙ left_form answers (read known x).made ∙ read_form known x other
 
 -- and is no COMMIT
 not_commit : (y : Answered) → is_performed y ≡ true → is_commit (view y) ≡ false
@@ -113,17 +112,6 @@ ended_so st end false true false = refl
 ended_so st end false false opened = refl
 
 -- ---- what opens or ends a transaction
-
-carried_out_too : (x : Statement) → is_transaction x ≡ true → is_carried_out x ≡ true
-carried_out_too (s.Begin mode) e = refl
-carried_out_too s.Commit e = refl
-carried_out_too s.Rollback e = refl
-carried_out_too (s.Select q) e = absurd (let z : ⊥ = cc in z)
-carried_out_too (s.Insert i) e = absurd (let z : ⊥ = cc in z)
-carried_out_too (s.Update u) e = absurd (let z : ⊥ = cc in z)
-carried_out_too (s.Delete d) e = absurd (let z : ⊥ = cc in z)
-carried_out_too (s.Create c) e = absurd (let z : ⊥ = cc in z)
-carried_out_too (s.Alter a) e = absurd (let z : ⊥ = cc in z)
 
 pub rollback_is : (x : Statement) → is_transaction x ≡ true → ((mode : Option Mode) → x ≡ s.Begin mode → ⊥) → (x ≡ s.Commit → ⊥) → x ≡ s.Rollback
 rollback_is (s.Begin mode) e no_begin no_commit = absurd (no_begin mode refl)
@@ -252,13 +240,13 @@ module _ {C : Type 0} (function_of : List ℕ → ℕ → Option Definition) (sc
   abbrev pub Agrees : State → Snapshot → Statement → Type 0
   Agrees st snap x = language.resolved (catalog st) under.ask x ≡ viewed (resolved (known_by function_of named order_of snap) under.ask x)
 
-  carried_out : (c : Catalog) (x : Statement) → is_carried_out x ≡ true → language.resolved c under.ask x ≡ resolved_by x c has
+  resolved_so : (c : Catalog) (x : Statement) → language.resolved c under.ask x ≡ resolved_by x c has
   unfolding spoken
-  carried_out c x out = ap (λ (b : Bool). if b then resolved_by x c has else Err (not_carried_out x)) out
+  resolved_so c x = refl
 
   -- as the snapshot's catalog is the session's
-  resolves : (st : State) (snap : Snapshot) (x : Statement) → is_carried_out x ≡ true → IsSeen st snap → Agrees st snap x
-  resolves st snap x out is = carried_out (catalog st) x out ∙ (λ i. resolved_by x (catalog_is st snap is i) (names i))
+  resolves : (st : State) (snap : Snapshot) (x : Statement) → IsSeen st snap → Agrees st snap x
+  resolves st snap x is = resolved_so (catalog st) x ∙ (λ i. resolved_by x (catalog_is st snap is i) (names i))
 
   -- or it names nothing
   nothing_named : (known other : Known) (x : Statement) → is_transaction x ≡ true → resolved known under.ask x ≡ resolved other under.ask x
@@ -273,7 +261,7 @@ module _ {C : Type 0} (function_of : List ℕ → ℕ → Option Definition) (sc
   nothing_named known other (s.Alter a) e = absurd (let z : ⊥ = cc in z)
 
   transacts : (st : State) (snap : Snapshot) (x : Statement) → is_transaction x ≡ true → Agrees st snap x
-  transacts st snap x of = carried_out (catalog st) x (carried_out_too x of) ∙ ap viewed (nothing_named (known_at (catalog st) has) (known_by function_of named order_of snap) x of)
+  transacts st snap x of = resolved_so (catalog st) x ∙ ap viewed (nothing_named (known_at (catalog st) has) (known_by function_of named order_of snap) x of)
 
   counts : (x : Statement) → language.fits x (length params) ≡ fits x (length params)
   unfolding spoken
@@ -308,11 +296,11 @@ module _ {C : Type 0} (function_of : List ℕ → ℕ → Option Definition) (sc
     leaves = λ clean. (refused_told (holding old.0) old.1 snap x f (agrees clean) h).1 ∙ sym (same clean);
   }
 
-  pub refuses_allowed : (old new : SessionOf C) (x : Statement) (snap : Snapshot) (f : Refusal) → is_carried_out x ≡ true
+  pub refuses_allowed : (old new : SessionOf C) (x : Statement) (snap : Snapshot) (f : Refusal)
       → (is_clean new.0 → is_clean old.0) → (is_clean old.0 → is_clean new.0) → (is_clean new.0 → Sees (standing holding old) (standing holding new) (Ok snap))
       → Allows (known_by function_of named order_of snap) under.ask x (length params) (Err f) → Does old x (Err f) new
-  refuses_allowed old new x snap f out was stays sees h =
-      refused_so old new x snap f was stays (λ clean. resolves (standing holding old) snap x out (sees clean).sees) (λ clean. (sees clean).same) h
+  refuses_allowed old new x snap f was stays sees h =
+      refused_so old new x snap f was stays (λ clean. resolves (standing holding old) snap x (sees clean).sees) (λ clean. (sees clean).same) h
 
   pub refuses_permitted : (old : SessionOf C) (x : Statement) (snap : Snapshot) (f : Refusal) → is_transaction x ≡ true
       → Allows (known_by function_of named order_of snap) under.ask x (length params) (Err f) → Does old x (Err f) old
@@ -321,37 +309,37 @@ module _ {C : Type 0} (function_of : List ℕ → ℕ → Option Definition) (sc
 
   -- ---- what is seen can't be read
 
-  last_by : (here : State) (x : Statement) → is_carried_out x ≡ true → is_transaction x ≡ false → (o : Result Answered Unresolved) → resolved (known_at (catalog here) has) under.ask x ≡ o
+  last_by : (here : State) (x : Statement) → is_transaction x ≡ false → (o : Result Answered Unresolved) → resolved (known_at (catalog here) has) under.ask x ≡ o
       → statement.is_commit language under here params (result_ok (viewed o)) ≡ false
-  last_by here x out other (Ok y) e = commit_same language under here params (view y) ∙ not_commit y (form_is (known_at (catalog here) has) under.ask x y out other e)
-  last_by here x out other (Err u) e = refl
+  last_by here x other (Ok y) e = commit_same language under here params (view y) ∙ not_commit y (form_is (known_at (catalog here) has) under.ask x y other e)
+  last_by here x other (Err u) e = refl
 
-  lasts : (h : Holding) (pending : Option (List Change)) (x : Statement) → is_carried_out x ≡ true → is_transaction x ≡ false → Lasts language under h pending params x
-  lasts h pending x out other =
+  lasts : (h : Holding) (pending : Option (List Change)) (x : Statement) → is_transaction x ≡ false → Lasts language under h pending params x
+  lasts h pending x other =
       lasts_other language under h pending params x
-      (ap (λ (o : Result (Resolved Ordered) Refusal). statement.is_commit language under (state_of h pending) params (result_ok o)) (carried_out (catalog (state_of h pending)) x out)
-      ∙ last_by (state_of h pending) x out other (resolved (known_at (catalog (state_of h pending)) has) under.ask x) refl)
+      (ap (λ (o : Result (Resolved Ordered) Refusal). statement.is_commit language under (state_of h pending) params (result_ok o)) (resolved_so (catalog (state_of h pending)) x)
+      ∙ last_by (state_of h pending) x other (resolved (known_at (catalog (state_of h pending)) has) under.ask x) refl)
 
-  pub unread_refuses : (old new : SessionOf C) (x : Statement) (e : CellsError) (f : Refusal) → f ≡ of_store e → is_carried_out x ≡ true → is_transaction x ≡ false
+  pub unread_refuses : (old new : SessionOf C) (x : Statement) (e : CellsError) (f : Refusal) → f ≡ of_store e → is_transaction x ≡ false
       → (is_clean new.0 → is_clean old.0) → (is_clean old.0 → calls.is_want e ≡ false → is_clean new.0) → (is_clean new.0 → Sees (standing holding old) (standing holding new) (Err e)) → Does old x (Err f) new
-  unread_refuses old new x e f told out other was stays sees = record {
+  unread_refuses old new x e f told other was stays sees = record {
     was_clean = was;
     stays_clean = λ clean want. stays clean (sym (want_of_store e) ∙ ap is_want (sym told) ∙ want);
     answers = λ clean. (replied clean).0;
     leaves = λ clean. (replied clean).1 ∙ sym (sees clean).same;
   } where
     replied : is_clean new.0 → Replies language under (holding old.0) old.1 params x (Err f) (standing holding old)
-    replied clean = refused_for language under (holding old.0) old.1 params x f (lasts (holding old.0) old.1 x out other) (inl (subst IsWant (sym told) (wanting e (sees clean).sees)))
+    replied clean = refused_for language under (holding old.0) old.1 params x f (lasts (holding old.0) old.1 x other) (inl (subst IsWant (sym told) (wanting e (sees clean).sees)))
 
   -- ---- it is carried out as what it is once its names are resolved
 
-  module _ (old middle new : SessionOf C) (x : Statement) (snap : Snapshot) (y : Answered) (result : Result Reply Refusal) (out : is_carried_out x ≡ true)
+  module _ (old middle new : SessionOf C) (x : Statement) (snap : Snapshot) (y : Answered) (result : Result Reply Refusal)
       (sees : is_clean middle.0 → Sees (standing holding old) (standing holding middle) (Ok snap))
       (allows : Allows (known_by function_of named order_of snap) under.ask x (length params) (Ok y)) (done : Performed means params under (clean is_clean) (standing holding) middle y result new) where
     replied : is_clean new.0 → Replies language under (holding old.0) old.1 params x result (standing holding new)
     replied clean =
         let first = sees (done.was_clean clean) in
-        replies_performed language means params under (holding old.0) old.1 x y (resolves (standing holding old) snap x out first.sees ∙ ap viewed allows.0) (counts x ∙ allows.1) exactly limited
+        replies_performed language means params under (holding old.0) old.1 x y (resolves (standing holding old) snap x first.sees ∙ ap viewed allows.0) (counts x ∙ allows.1) exactly limited
         result (standing holding new) (subst (λ (st : State). Performs means params under st (view y) result (standing holding new)) first.same (done.performs clean))
 
     pub carries_performed : (is_clean middle.0 → is_clean old.0) → (is_clean old.0 → is_clean middle.0) → Does old x result new

@@ -1,4 +1,4 @@
--- New tables, and tables that become replicated.
+-- New tables, tables that get a column, and tables that become replicated.
 use Rattle.std.proofs.Common.{◌≡◌, inl, inr, ℕ, Bool, true, false, not, ◌&&◌, ◌||◌, cond, List, [], ◌∷◌, Option, Some, None, Result, Ok, Err, refl, sym, ap, subst, ◌∙◌, find, position}
 use Rattle.std.specs.Prelude.{is_some, if◌then◌else◌}
 use Rattle.std.specs.Option.{option_map}
@@ -12,9 +12,10 @@ use Rattle.cr_lattice.specs.Profile.{lacks_default}
 use Rattle.cr_cells.specs.declared.store.CellsError.{CellsError}
 use Rattle.cr_cells.specs.Calls.{Defines, UnlessWant}
 use Rattle.cr_cells.specs.Calls as calls
-use Rattle.cr_cells.specs.Holding.{Holding}
+use Rattle.cr_cells.specs.Holding.{Holding, IsSound}
 use Rattle.cr_cells.proofs.NewLemmas.{same_is}
-use Rattle.cr_cells.specs.Tables.{is_named, is_markable, has_defaults, with_replicated}
+use Rattle.cr_cells.specs.Tables.{is_named, is_markable, has_defaults, with_replicated, with_added, IsNewColumn}
+use Rattle.cr_term.specs.declared.query.Alter.{Alter}
 use Rattle.cr_term.specs.declared.query.Held.{Held}
 use Rattle.cr_term.specs.declared.query.Held.TheVariants as held
 use Rattle.cr_term.specs.declared.query.Relation.{Relation}
@@ -24,14 +25,16 @@ use Rattle.cr_term.specs.declared.query.Resolved.TheVariants as r
 use Rattle.cr_scalar.specs.Host.{Host as Means}
 use Rattle.cr_language.specs.Sql.{target, target_by, module_target, view}
 use Rattle.cr_world.specs.declared.command.Reply.{Reply}
+use Rattle.cr_world.specs.declared.command.Reply.TheVariants.{Done}
 use Rattle.cr_world.specs.declared.refusal.Refusal.{Refusal}
 use Rattle.cr_world.specs.declared.refusal.Refusal.TheVariants as refusal
 use Rattle.cr_world.specs.Refusals.{is_want, of_store}
-use Rattle.cr_world.specs.Causes.{Cause, Free, Is, Evaluation, IsWant, Tells, or_else, of_option}
+use Rattle.cr_world.specs.Causes.{Cause, Free, Is, Evaluation, IsWant, Tells, or_else, of_option, where_true}
 use Rattle.cr_world.specs.Resolved as world
 use Rattle.cr_world.specs.State.{State, catalog, changes_name, name_of}
 use Rattle.cr_world.specs.Statement.{Host, ended, marked_reply, no_default, not_a_table, column_name, with_tables}
-use Rattle.cr_fit.specs.Suited.{HasRelation}
+use Rattle.cr_fit.specs.Suited.{HasRelation, FitsIn}
+use Rattle.cr_fit.proofs.Adding.{new_column}
 use Rattle.cr_session.specs.Performing.{Passes, Performs, Performed, against, is_commit, is_table}
 use Rattle.cr_session.specs.Sessions.{clean, standing, state_of}
 use Rattle.cr_session.proofs.Selecting.{or_free}
@@ -188,3 +191,32 @@ module _ (means : Means) (params : List Value) (host : Host) (h : Holding) (m : 
           ∙ sym (ap (λ (b : Bool). cond b st (with_tables (with_replicated (name_of (target m.relation)) h.tables) st)) marks),
     ),
   )
+
+-- ---- a column that is added
+
+not_lacking : (b : Bool) (f : Refusal) → where_true b f ≡ Free → b ≡ false
+not_lacking true f e = absurd (let z : ⊥ = cc in z)
+not_lacking false f e = refl
+
+module _ (h : Holding) (a : Alter) where
+  -- a store takes the column
+  pub addable : (name : List ℕ) → IsSound h → HasRelation (catalog (state_of h None)) a.relation → FitsIn a.relation.definition a.column → not_a_table (target a.relation) ≡ Free
+      → where_true (lacks_default a.column) (refusal.NoDefault a.column.name) ≡ Free → name ≡ a.relation.definition.name → IsNewColumn h.tables name a.column
+  addable name sound has fits table default named =
+      let found = table_in h a.relation has (passed_is_table a.relation table) in
+      subst (λ (n : List ℕ). IsNewColumn h.tables n a.column) (sym named)
+      (new_column h.tables a.relation.definition found.0 a.column sound.names sound.stored found.1 fits (not_lacking (lacks_default a.column) (refusal.NoDefault a.column.name) default))
+
+  module _ (means : Means) (params : List Value) (host : Host) where
+    abbrev at : State
+    at = state_of h None
+
+    alter_cause : against means params host at (view (r.Alter a)) ≡ or_else (not_a_table (target a.relation)) (where_true (lacks_default a.column) (refusal.NoDefault a.column.name))
+    alter_cause = ap (or_else (not_a_table (target a.relation))) (or_free (where_true (lacks_default a.column) (refusal.NoDefault a.column.name)))
+
+    pub performs_altered : (name : List ℕ) → not_a_table (target a.relation) ≡ Free → where_true (lacks_default a.column) (refusal.NoDefault a.column.name) ≡ Free → name ≡ a.relation.definition.name
+        → Performs means params host at (view (r.Alter a)) (Ok Done) (state_of (record h { tables = with_added name a.column h.tables }) None)
+    performs_altered name table default named = (
+      alter_cause ∙ both_free (not_a_table (target a.relation)) (where_true (lacks_default a.column) (refusal.NoDefault a.column.name)) table default,
+      (refl, ap (λ (n : List ℕ). with_tables (with_added n a.column h.tables) at) (named ∙ sym (ap name_of (target_is a.relation (passed_is_table a.relation table))))),
+    )

@@ -2,7 +2,6 @@
 use Rattle.std.proofs.Common.{◌≡◌, ◌⊎◌, inl, inr, ℕ, ◌<◌, ◌≤◌, nat_lt, arith, Bool, true, false, List, [], ◌∷◌, Option, Some, Result, Ok, Err, refl, sym, ap, subst, ◌∙◌, map, length}
 use Rattle.std.specs.Prelude.{is_some, if◌then◌else◌}
 use Rattle.cr_value.specs.declared.value.Value.{Value}
-use Rattle.cr_lattice.specs.declared.catalog.Catalog.{Catalog}
 use Rattle.cr_host.specs.declared.function.Definition.{Definition}
 use Rattle.cr_lex.specs.declared.token.Token.{Token}
 use Rattle.cr_lex.specs.Tokens.{IsTokens}
@@ -26,43 +25,17 @@ use Rattle.cr_world.specs.declared.refusal.Refusal.TheVariants.{Memory, Limit}
 use Rattle.cr_world.specs.declared.refusal.Limit.TheVariants as limit
 use Rattle.cr_world.specs.Scripts.{Runs}
 use Rattle.cr_world.specs.Language.{Language, Piece}
-use Rattle.cr_world.specs.State.{State, catalog}
+use Rattle.cr_world.specs.State.{State}
 use Rattle.cr_world.specs.Statement.{Host}
-use Rattle.cr_language.specs.Engines.{OrderOf, AreTotal, engine}
-use Rattle.cr_language.specs.Sql.{of_unread, piece, sql as whole_sql, too_long}
+use Rattle.cr_language.specs.Engines.{OrderOf, AreTotal}
+use Rattle.cr_language.specs.Sql.{of_unread, piece, too_long}
 use Rattle.cr_language.specs.Texts.{tokens_of}
 use Rattle.cr_language.proofs.Texts.{have_tokens}
-use Rattle.cr_language.specs.SoFar.{is_carried_out, not_carried_out}
 use Rattle.cr_session.specs.Sessions.{Does, SessionOf, clean, standing}
 use Rattle.cr_world.proofs.Keeping.{runs_leave}
 use Rattle.cr_session.specs.Speaking.{spoken}
-use Rattle.cr_session.specs.Scripts.{Carries, CarriesAll, Stops, next, pieces_left}
-use Rattle.cr_session.proofs.Carrying.{Replies, wants as told_want, not_resolved}
+use Rattle.cr_session.specs.Scripts.{CarriesAll, Stops, next, pieces_left}
 use Rattle.cr_session.proofs.Turning.{wanting}
-
-module _ {C : Type 0} (function_of : List ℕ → ℕ → Option Definition) (scalar : ℕ → List Value → Result Value (List ℕ)) (step : ℕ → Value → List Value → Result Value (List ℕ)) (finish : ℕ → Value → Result Value (List ℕ))
-    (order_of : OrderOf) (total : AreTotal order_of) (has : List ℕ → Bool) (host : Host) (is_clean : C → Type 0) (holding : C → Holding) where
-  abbrev meant : Language Statement Ordered
-  meant = spoken function_of scalar step finish order_of total has
-
-  no_resolution : (c : Catalog) (x : Statement) → is_carried_out x ≡ false → meant.resolved c host.ask x ≡ Err (not_carried_out x)
-  unfolding spoken
-  no_resolution c x e = ap (λ (b : Bool). if b then (whole_sql (engine function_of scalar step finish order_of total has)).resolved c host.ask x else Err (not_carried_out x)) e
-
-  abbrev Refused : SessionOf C → List Value → Statement → Refusal → Type 0
-  Refused old params x y = Replies meant host (holding old.0) old.1 params x (Err y) (standing holding old)
-
-  -- a statement that isn't carried out is refused, and nothing is changed
-  pub refuses : (old : SessionOf C) (params : List Value) (x : Statement) (r : Refusal) → is_carried_out x ≡ false → (r ≡ not_carried_out x) ⊎ (r ≡ Memory) → Carries meant host (clean is_clean) (standing holding) old params x (Err r) old
-  refuses old params x r e told = record {
-    was_clean = λ clean. clean;
-    stays_clean = λ clean want. clean;
-    answers = λ clean. (replies told).0;
-    leaves = λ clean. (replies told).1;
-  } where
-    replies : (r ≡ not_carried_out x) ⊎ (r ≡ Memory) → Refused old params x r
-    replies (inl f) = subst (Refused old params x) (sym f) (not_resolved meant host (holding old.0) old.1 params x (not_carried_out x) (no_resolution (catalog (standing holding old)) x e))
-    replies (inr f) = subst (Refused old params x) (sym f) (told_want meant host (holding old.0) old.1 params x)
 
 -- ---- the next statement
 

@@ -79,7 +79,7 @@ Permits known answers x count (Err f) = Allows known answers x count (Err f)
 
 -- ---- what is carried out
 
--- a statement of a form that is carried out and neither opens nor ends a transaction
+-- a statement that neither opens nor ends a transaction
 abbrev pub is_performed : Resolved → Bool
 is_performed (r.Select q) = true
 is_performed (r.MarkReplicated m) = true
@@ -87,7 +87,7 @@ is_performed (r.Insert i) = true
 is_performed (r.Update u) = true
 is_performed (r.Delete d) = true
 is_performed (r.Create c) = true
-is_performed (r.Alter a) = false
+is_performed (r.Alter a) = true
 is_performed r.Begin = false
 is_performed r.Commit = false
 is_performed r.Rollback = false

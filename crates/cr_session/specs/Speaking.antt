@@ -7,9 +7,8 @@ use Rattle.cr_meaning.specs.View.{Ordered}
 use Rattle.cr_world.specs.Language.{Language}
 use Rattle.cr_language.specs.Sql.{sql}
 use Rattle.cr_language.specs.Engines.{OrderOf, AreTotal, engine}
-use Rattle.cr_language.specs.SoFar.{so_far}
 
--- this project's SQL as far as it is carried out
+-- this project's SQL
 unfoldable pub spoken : (List ℕ → ℕ → Option Definition) → (ℕ → List Value → Result Value (List ℕ)) → (ℕ → Value → List Value → Result Value (List ℕ)) → (ℕ → Value → Result Value (List ℕ))
     → (order_of : OrderOf) → AreTotal order_of → (List ℕ → Bool) → Language Statement Ordered
-spoken function_of scalar step finish order_of total has = so_far (sql (engine function_of scalar step finish order_of total has))
+spoken function_of scalar step finish order_of total has = sql (engine function_of scalar step finish order_of total has)

@@ -7,6 +7,9 @@ ghost use Rattle.cr_language.specs.Sql.{target, view};
 ghost use Rattle.cr_world.specs.Resolved as world;
 ghost use Rattle.cr_world.specs.State.{State};
 ghost use Rattle.cr_world.specs.Statement.{Host, marked_reply, no_default, not_a_table};
+ghost use Rattle.cr_lattice.specs.Profile.{lacks_default};
+ghost use Rattle.cr_world.specs.Causes.{where_true};
+ghost use Rattle.cr_world.specs.declared.refusal.Refusal.TheVariants.{NoDefault};
 ghost use Rattle.cr_session.specs.Performing.{Passes, Performs, not_replicated};
 
 use crate::session::Session;
@@ -16,11 +19,11 @@ use cr_cells::store::NewCells;
 use cr_expr::given::Hosted;
 use cr_guard::guarding::Guarding;
 use cr_host::functions::Functions;
-use cr_lattice::profile::no_default;
-use cr_lattice::table::{Items, TableDef};
+use cr_lattice::profile::{lacks_default, no_default};
+use cr_lattice::table::{ColumnDef, Items, TableDef};
 use cr_replica::definition::DefineError;
 use cr_replica::snapshot::Snapshot;
-use cr_term::query::{Create, Held, MarkReplicated, Query, Relation, Resolved};
+use cr_term::query::{Alter, Create, Held, MarkReplicated, Query, Relation, Resolved};
 use cr_value::text::Text;
 use cr_value::value::Value;
 use cr_world::command::Reply;
@@ -55,6 +58,16 @@ fn check_defaults(alloc: Global, def: &TableDef) -> Result<(), Refusal>
         Some(place) => Err(of_definition(alloc, def, DefineError::NoDefault(place))),
         None => Ok(()),
     }
+}
+
+// A column that wants a value has a default.
+fn check_default(alloc: Global, column: &ColumnDef) -> Result<(), Refusal>
+    ensures { Passes (where_true (lacks_default column.now) (NoDefault column.now.name)) result }
+{
+    if lacks_default(column) {
+        return Err(Refusal::NoDefault(column.name.copy(alloc)?));
+    }
+    Ok(())
 }
 
 // What the call replies that makes a table replicated.
@@ -92,8 +105,9 @@ fn select<F: Functions>(
 
 impl<C: NewCells> Session<C> {
     ghost use Rattle.std.specs.Prelude.{◌≡◌, true, false, List};
+    ghost use Rattle.cr_cells.specs.Holding.{IsSound};
     ghost use Rattle.cr_cells.specs.Tables.{IsNewTable};
-    ghost use Rattle.cr_fit.specs.Suited.{HasRelation, Suits};
+    ghost use Rattle.cr_fit.specs.Suited.{FitsIn, HasRelation, Suits};
     ghost use Rattle.cr_replica.specs.Snapshots.{IsWhole};
     ghost use Rattle.cr_scalar.specs.Host.{Host as Means};
     ghost use Rattle.cr_value.specs.declared.value.Value.{Value};
@@ -116,6 +130,30 @@ impl<C: NewCells> Session<C> {
             return Ok(Reply::Done);
         }
         match self.replica.add_table(alloc, &create.definition) {
+            Ok(()) => Ok(Reply::Done),
+            Err(error) => Err(Refusal::from(error)),
+        }
+    }
+
+    // Adds a column to a table outside of transactions.
+    fn alter(&mut self, alloc: Global, alter: &Alter) -> Result<Reply, Refusal>
+        requires sound { C.is_clean self.old.0 → IsSound (C.holding self.old.0) }
+        requires relation { C.is_clean self.old.0 → HasRelation (catalog (standing C.holding self.old)) alter.now.relation }
+        requires fits { FitsIn alter.now.relation.definition alter.now.column }
+        ensures { (means : Means) (params : List Value) (host : Host) → Performed means params host (clean C.is_clean) (standing C.holding) self.old (r.Alter alter.now) result self.new }
+    {
+        if self.in_transaction() {
+            return Err(Refusal::TransactionState);
+        }
+        if let Err(refusal) = check_table(alloc, &alter.relation) {
+            return Err(refusal);
+        }
+        check_default(alloc, &alter.column)?;
+        match self.replica.add_column(
+            alloc,
+            alter.relation.definition.name.as_str(),
+            &alter.column,
+        ) {
             Ok(()) => Ok(Reply::Done),
             Err(error) => Err(Refusal::from(error)),
         }
@@ -161,6 +199,7 @@ impl<C: NewCells> Session<C> {
     ) -> Result<Reply, Refusal>
         requires functions { F.is_faithful functions.now }
         requires guard { G.is_faithful guard.now }
+        requires sound { C.is_clean self.old.0 → IsSound (C.holding self.old.0) }
         requires seen { C.is_clean self.old.0 → IsSeen (standing C.holding self.old) snapshot.now }
         requires whole { IsWhole snapshot.now }
         requires suits { Suits (catalog_of snapshot.now) statement.now }
@@ -180,8 +219,9 @@ impl<C: NewCells> Session<C> {
             Resolved::Delete(delete) => self.delete(
                 alloc, functions, guard, snapshot, delete, params,
             ),
-            // No such statement comes here: it is refused before its names are looked at, or carried out without them.
-            Resolved::Alter(_) | Resolved::Begin | Resolved::Commit | Resolved::Rollback => {
+            Resolved::Alter(alter) => self.alter(alloc, alter),
+            // No such statement comes here: it is carried out without a look at the store.
+            Resolved::Begin | Resolved::Commit | Resolved::Rollback => {
                 Err(Refusal::TransactionState)
             }
         }

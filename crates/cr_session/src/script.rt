@@ -5,7 +5,6 @@ ghost use Rattle.cr_sql.specs.Sql.{says};
 ghost use Rattle.cr_sql.specs.Sql as read;
 ghost use Rattle.cr_world.specs.declared.refusal.Refusal.TheVariants.{Memory};
 ghost use Rattle.cr_language.specs.Sql.{of_kind, of_unread};
-ghost use Rattle.cr_language.specs.SoFar.{first_word, is_carried_out, not_carried_out};
 ghost use Rattle.cr_session.specs.Performing.{is_transaction};
 
 use crate::session::Session;
@@ -56,49 +55,6 @@ pub(crate) fn of_unread(alloc: Global, error: SqlError) -> Refusal
     }
 }
 
-fn first_word(statement: &Statement) -> &'static str
-    ensures { result.now ≡ first_word statement.now }
-{
-    match statement {
-        Statement::Select(_) => "SELECT",
-        Statement::Insert(_) => "INSERT",
-        Statement::Update(_) => "UPDATE",
-        Statement::Delete(_) => "DELETE",
-        Statement::Create(_) => "CREATE",
-        Statement::Alter(_) => "ALTER",
-        Statement::Begin(_) => "BEGIN",
-        Statement::Commit => "COMMIT",
-        Statement::Rollback => "ROLLBACK",
-    }
-}
-
-/// How a statement that isn't carried out is told; as want of memory where there is none for its word.
-pub(crate) fn not_carried_out(alloc: Global, statement: &Statement) -> Refusal
-    ensures { (result ≡ not_carried_out statement.now) ⊎ (result ≡ Memory) }
-{
-    match Text::from_str(alloc, first_word(statement)) {
-        Ok(word) => Refusal::OutOfProfile(OutOfProfile::Word(word)),
-        Err(AllocError) => Refusal::Memory,
-    }
-}
-
-// Whether statements of this form are carried out.
-fn is_carried_out(statement: &Statement) -> bool
-    ensures { result ≡ is_carried_out statement.now }
-{
-    match statement {
-        Statement::Select(_)
-        | Statement::Insert(_)
-        | Statement::Update(_)
-        | Statement::Delete(_)
-        | Statement::Create(_)
-        | Statement::Begin(_)
-        | Statement::Commit
-        | Statement::Rollback => true,
-        Statement::Alter(_) => false,
-    }
-}
-
 // Whether the statement opens or ends a transaction.
 fn is_transaction(statement: &Statement) -> bool
     ensures { result ≡ is_transaction statement.now }
@@ -143,9 +99,6 @@ impl<C: NewCells> Session<C> {
         ensures { (has : List ℕ → Bool) → ⟦<F as Speaking>⟧.are_names functions.now has
             → Carries (⟦<F as Speaking>⟧.language functions.now has) (⟦<G as Watching>⟧.host guard.now) (clean C.is_clean) (standing C.holding) self.old params.now statement.now result self.new }
     {
-        if !is_carried_out(statement) {
-            return Err(not_carried_out(alloc, statement));
-        }
         if is_transaction(statement) {
             return self.transact(alloc, functions, guard, statement, params);
         }
@@ -226,8 +179,7 @@ impl<C: NewCells> Session<C> {
     ///
     /// # Errors
     /// The script's `refusal`: `Limit` where it is longer than 1,000,000 bytes; `Syntax`, `OutOfProfile` or `Limit` where a
-    /// statement can't be read; else why a statement is refused. `OutOfProfile` with its first word where a statement of its
-    /// form isn't carried out yet.
+    /// statement can't be read; else why a statement is refused.
     pub fn script<F: Functions, G: Guarding>(
         &mut self,
         alloc: Global,

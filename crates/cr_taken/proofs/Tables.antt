@@ -57,7 +57,7 @@ well_formed_parts c def e =
     let lengths = (has_lengths c, Length) ∷ [] in
     let cid = (is_cid def c.cid, Cid) ∷ lengths in
     let key = (is_key def c.pk, Key) ∷ cid in
-    let a = passed (not (is_too_big c)) Size ((same_bytes c.table def.name, NoTable) ∷ key) e in
+    let a = passed (not (is_too_big (Some def) c)) Size ((same_bytes c.table def.name, NoTable) ∷ key) e in
     let b = passed (same_bytes c.table def.name) NoTable key a.1 in
     let d = passed (is_key def c.pk) Key cid b.1 in
     (b.0, d.0)
@@ -71,8 +71,8 @@ pub small_change : (c : Change) (def : TableDef) → IsWellFormed c def → valu
 unfolding fault_of is_too_big
 small_change c def e =
     let rest = (same_bytes c.table def.name, NoTable) ∷ (is_key def c.pk, Key) ∷ (is_cid def c.cid, Cid) ∷ (has_lengths c, Length) ∷ [] in
-    let size = not_big (is_too_big c) (passed (not (is_too_big c)) Size rest e).0 in
-    ltb-false _ _ (or_false (nat_lt size_limit (value_len c.val)) (nat_lt size_limit (length c.pk)) size).0
+    let size = not_big (is_too_big (Some def) c) (passed (not (is_too_big (Some def) c)) Size rest e).0 in
+    ltb-false _ _ (or_false (nat_lt size_limit (value_len c.val)) _ size).0
 
 -- ---- what is kept
 

@@ -13,6 +13,7 @@ use Rattle.cr_lattice.specs.Rows.{is_alive, alive_keys, kept_change, row, rows}
 use Rattle.cr_value.specs.Unpacking.{unpacked}
 use Rattle.cr_delta.specs.Key.{key_part, key_values, key_of}
 use Rattle.cr_delta.specs.Delta.{length_of, version_of, value_cells, is_wanted, arrival, update, row_delta, removals, delta, passes_limit}
+use Rattle.cr_cells.specs.Tables.{with_added}
 use Rattle.cr_cells.specs.Holding.{cell_cmp, stamp_cmp, since}
 use Rattle.cr_cells.specs.Commit.{newly_kept, is_changed, cells_after}
 use Rattle.cr_lattice.specs.declared.table.ColumnDef.{ColumnDef}
@@ -212,7 +213,7 @@ abbrev wider : State
 wider = done inserted (alter true (int 7))
 
 shows_default : rows_named wider (codes "t") ≡ (int 1 ∷ text (codes "a") ∷ int 7 ∷ []) ∷ []
-unfolding now rows alive_keys is_alive row kept_change keep in_order has is_beaten beats row_cmp weight_cmp cid_cmp change_cmp lacks_value has_long_key has_twice by_key key_of key_values key_part delta row_delta arrival update removals length_of version_of value_cells is_wanted passes_limit newly_kept is_changed cells_after cell_cmp stamp_cmp since sized_at int_at text_at blob_at value_at values_at unpacked int_of_text
+unfolding now rows alive_keys is_alive row kept_change keep in_order has is_beaten beats row_cmp weight_cmp cid_cmp change_cmp lacks_value has_long_key has_twice by_key key_of key_values key_part delta row_delta arrival update removals length_of version_of value_cells is_wanted passes_limit newly_kept is_changed cells_after cell_cmp stamp_cmp since sized_at int_at text_at blob_at value_at values_at unpacked int_of_text with_added
 shows_default = refl
 
 commits_nothing : wider.holding.version ≡ inserted.holding.version

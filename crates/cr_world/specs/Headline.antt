@@ -30,7 +30,7 @@ use Rattle.cr_world.specs.Statement.{Host, Answers, adding, ended, is_memory, st
 use Rattle.cr_world.specs.Scripts.{Moment}
 use Rattle.cr_world.specs.World.{World, Member, Keeps, Closures, used}
 use Rattle.cr_world.specs.Answers.{tells_want, after, script_run}
-use Rattle.cr_world.specs.Run.{Run, world_before, world_after, moment_at}
+use Rattle.cr_world.specs.Run.{world_before, moment_at}
 use Rattle.cr_world.specs.Takings.{taking, pulling, pulling_since}
 
 -- ---- replies that say the same
@@ -157,9 +157,6 @@ module _ {S E : Type 0} (l : Language S E) (k : Closures) where
   abbrev pub KnowsOf : Member → Member → Type 0
   KnowsOf m peer = Knows (kept_of m.state.holding) peer.state.holding.cells peer.state.holding.version (seen_of m.state.holding.marks peer.state.holding.site)
 
-  abbrev pub MarksKeep : World → Type 0
-  MarksKeep w = AllByRecursion (λ m. AllByRecursion (KnowsOf m) w.members) w.members
-
   -- So does a pull.
   abbrev pub PullsKeep : Type 0
   PullsKeep = (m peer : Member) → Keeps m → Keeps peer → IsSound peer.state.holding → Keeps (pulling (Some peer) m)
@@ -170,11 +167,6 @@ module _ {S E : Type 0} (l : Language S E) (k : Closures) where
   IncrementalPullsKeep = (m peer : Member) → Keeps m → Keeps peer → KnowsOf m peer
       → Keeps (pulling_since (Some peer) m)
       × Knows (kept_of (pulling_since (Some peer) m).state.holding) peer.state.holding.cells peer.state.holding.version peer.state.holding.version
-
-  -- Incremental pulls: the promise of every mark holds in each world of a run, and so such a pull leaves what a pull of all
-  -- leaves.
-  abbrev pub MarksStay : Type 0
-  MarksStay = (w : World) (cs : List Command) (rs : List FleetReply) → Run l k w cs rs → MarksKeep w → MarksKeep (world_after l k w cs rs)
 
 -- ---- what a listener has heard
 

@@ -1,6 +1,6 @@
 -- One statement: why it is refused, what it replies, and what it leaves. Source: this project's own; what a statement does
 -- is SQLite's, what a write changes is cr-sqlite's.
-use Rattle.std.specs.Prelude.{◌≡◌, ℕ, Bool, true, false, not, ◌&&◌, ◌||◌, ◌⊎◌, cond, length, map, List, [], ◌∷◌, ◌++◌, position, Option, Some, None, is_some, slice_get, unwrap_or, Result, Ok, Err, codes}
+use Rattle.std.specs.Prelude.{◌≡◌, ℕ, Bool, true, false, not, ◌&&◌, ◌||◌, ◌⊎◌, cond, length, List, [], ◌∷◌, ◌++◌, position, Option, Some, None, is_some, slice_get, unwrap_or, Result, Ok, Err, codes}
 use Rattle.std.specs.List.{filter_map}
 use Rattle.std.specs.Option.{option_map, option_map_or, option_and_then}
 use Rattle.cr_value.specs.declared.value.Value.{Value}
@@ -13,7 +13,7 @@ use Rattle.cr_lattice.specs.declared.table.Table.{Table}
 use Rattle.cr_lattice.specs.declared.table.TableDef.{TableDef}
 use Rattle.cr_lattice.specs.Profile.{lacks_default}
 use Rattle.cr_cells.specs.Holding.{kept_of}
-use Rattle.cr_cells.specs.Tables.{is_named, with_table, with_replicated, fault_in, earlier}
+use Rattle.cr_cells.specs.Tables.{with_table, with_replicated, with_added, fault_in, earlier}
 use Rattle.cr_cells.specs.Commit.{committed, newly_kept}
 use Rattle.cr_cells.specs.Calls.{is_past_limit}
 use Rattle.cr_delta.specs.Delta.{delta, passes_limit}
@@ -248,19 +248,12 @@ ended st = record st { pending = None }
 abbrev pub with_tables : List Table → State → State
 with_tables ts st = record st { holding = record st.holding { tables = ts } }
 
--- a table's new column stands last
-abbrev pub with_column : ColumnDef → TableDef → TableDef
-with_column col def = record def { columns = def.columns ++ col ∷ [] }
-
-abbrev pub altered : List ℕ → ColumnDef → Table → Table
-altered name col t = cond (is_named name t) (record t { definition = with_column col t.definition }) t
-
 -- the last argument is what the modules are then
 abbrev pub left_by : {E : Type 0} → State → Resolved E → List Row → List ModuleState → State
 left_by st (Select names q) rows ms = st
 left_by st (Mark t is_ignored) rows ms = cond is_ignored st (with_tables (with_replicated (name_of t) st.holding.tables) st)
 left_by st (Create def is_there) rows ms = cond is_there st (with_tables (with_table st.holding.tables def false) st)
-left_by st (Alter t col) rows ms = with_tables (map (altered (name_of t) col) st.holding.tables) st
+left_by st (Alter t col) rows ms = with_tables (with_added (name_of t) col st.holding.tables) st
 left_by st Begin rows ms = record st { pending = Some [] }
 left_by st Commit rows ms = ended (record st { holding = committed st.holding (unwrap_or st.pending []) None })
 left_by st Rollback rows ms = ended st

@@ -3,15 +3,11 @@ use Rattle.cr_guard.specs.Guard.{asked}
 use Rattle.cr_answer.specs.Allowing.{known_by}
 use Rattle.cr_fit.proofs.Suiting.{resolved_suit}
 use Rattle.cr_session.proofs.Carrying.{carries_performed, form_is, refuses_allowed, unread_refuses}
-use Rattle.cr_session.proofs.Scripting.{refuses}
 use Rattle.cr_session.proofs.session.Session.statement.Goals as goal
-
-pub returns-then-not-is_carried_out : goal.returns-then-not-is_carried_out
-returns-then-not-is_carried_out g c = λ has names. refuses _ _ _ _ _ _ has _ g.C.Cells.is_clean g.C.Cells.holding _ c.args.params.now _ _ (search rules) c.not_carried_out.ensures
 
 pub returns-in-Err-allowed : goal.returns-in-Err-allowed
 returns-in-Err-allowed g c = λ has names.
-    refuses_allowed _ _ _ _ _ _ has _ names _ g.C.Cells.is_clean g.C.Cells.holding c.args.params.now _ _ c.args.statement.now c.in-Ok.snapshot c.in-Err-allowed.refusal (search rules)
+    refuses_allowed _ _ _ _ _ _ has _ names _ g.C.Cells.is_clean g.C.Cells.holding c.args.params.now _ _ c.args.statement.now c.in-Ok.snapshot c.in-Err-allowed.refusal
     c.in-Ok.ensures.was_clean c.in-Ok.ensures.stays_clean c.in-Ok.ensures.sees c.in-Err-allowed.ensures
 
 pub perform-requires-clause-suits : goal.perform-requires-clause-suits
@@ -22,11 +18,11 @@ perform-requires-clause-suits g c =
 pub perform-requires-clause-form : goal.perform-requires-clause-form
 perform-requires-clause-form g c =
     form_is (known_by (g.F.Functions.function_of c.args.functions.now) (g.F.Functions.names_function c.args.functions.now) (g.F.Functions.order_of c.args.functions.now) c.in-Ok.snapshot)
-    (asked (g.G.Guarding.rules c.args.guard.now) (g.G.Guarding.allows c.args.guard.now)) c.args.statement.now c.in-Ok-allowed.resolved (search rules) (search rules) c.in-Ok-allowed.ensures.0
+    (asked (g.G.Guarding.rules c.args.guard.now) (g.G.Guarding.allows c.args.guard.now)) c.args.statement.now c.in-Ok-allowed.resolved (search rules) c.in-Ok-allowed.ensures.0
 
 pub returns-in-Err : goal.returns-in-Err
 returns-in-Err g c = λ has names.
-    unread_refuses _ _ _ _ _ _ has _ names _ g.C.Cells.is_clean g.C.Cells.holding c.args.params.now c.args.self.now c.snapshot.new.self c.args.statement.now c.in-Err.error c.from.result c.from.ensures (search rules) (search rules)
+    unread_refuses _ _ _ _ _ _ has _ names _ g.C.Cells.is_clean g.C.Cells.holding c.args.params.now c.args.self.now c.snapshot.new.self c.args.statement.now c.in-Err.error c.from.result c.from.ensures (search rules)
     c.snapshot.ensures.was_clean c.in-Err.ensures.stays_clean c.in-Err.ensures.sees
 
 pub returns-then-is_transaction : goal.returns-then-is_transaction
@@ -35,4 +31,4 @@ returns-then-is_transaction g c = λ has names. c.transact.ensures has names
 pub returns : goal.returns
 returns g c = λ has names.
     carries_performed _ _ _ _ _ _ has _ names _ g.C.Cells.is_clean g.C.Cells.holding c.args.params.now c.args.self.now c.snapshot.new.self c.perform.new.self c.args.statement.now c.in-Ok.snapshot c.in-Ok-allowed.resolved c.perform.result
-    (search rules) c.in-Ok.ensures.sees c.in-Ok-allowed.ensures c.perform.ensures c.in-Ok.ensures.was_clean c.in-Ok.ensures.stays_clean
+    c.in-Ok.ensures.sees c.in-Ok-allowed.ensures c.perform.ensures c.in-Ok.ensures.was_clean c.in-Ok.ensures.stays_clean
