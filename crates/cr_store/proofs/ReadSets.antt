@@ -17,7 +17,7 @@ then_assoc Less b c = refl
 then_assoc Equal b c = refl
 then_assoc Greater b c = refl
 
-equal_is : (o : Ordering) → is_eq o ≡ true → o ≡ Equal
+pub equal_is : (o : Ordering) → is_eq o ≡ true → o ≡ Equal
 equal_is Less h = absurd (cc)
 equal_is Equal h = refl
 equal_is Greater h = absurd (cc)

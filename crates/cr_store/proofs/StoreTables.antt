@@ -1,5 +1,7 @@
--- One more table in a store.
-use Rattle.std.proofs.Common.{◌≡◌, inl, inr, ℕ, ◌+◌, ℤ, pos, List, [], ◌∷◌, ◌++◌, map, length, Bool, true, false, not, ◌||◌, refl, sym, ap, subst, ◌∙◌, arith}
+-- One more table in a store, and one more column in a table.
+use Rattle.std.proofs.Common.{◌≡◌, inl, inr, ℕ, ◌+◌, ℤ, pos, List, [], ◌∷◌, ◌++◌, map, length, Bool, true, false, not, ◌||◌, cond, find, Option, Some, None, Bor, refl, sym, ap, subst, ◌∙◌, arith}
+use Rattle.std.specs.Option.{option_copied}
+use Rattle.std.specs.List.{IsDistinct}
 use Rattle.sqlite.specs.declared.types.Value.TheVariants.{Int, Text, Blob}
 use Rattle.sqlite.specs.Order.{Row}
 use Rattle.sqlite.specs.Effect.{Database}
@@ -7,11 +9,16 @@ use Rattle.sqlite_rules.specs.Lists.{Has}
 use Rattle.sqlite_rules.proofs.ListLemmas.{has_left, has_right, has_either}
 use Rattle.cr_rows.specs.Rows.{SameRows}
 use Rattle.cr_rows.proofs.RowLemmas.{lists_same}
+use Rattle.cr_lattice.specs.declared.table.ColumnDef.{ColumnDef}
 use Rattle.cr_lattice.specs.declared.table.Table.{Table}
 use Rattle.cr_cells.specs.Holding.{Holding}
-use Rattle.cr_store.specs.Definition.{definition}
+use Rattle.cr_cells.specs.Tables.{is_named, same_name, with_column, altered, with_added}
+use Rattle.cr_cells.proofs.MemberLemmas.{split, all_from, find_gives, apart_one}
+use Rattle.cr_cells.proofs.TableLemmas.{one_named, same_name-equiv}
+use Rattle.cr_layout.specs.Definition.{definition}
 use Rattle.cr_store.specs.Rows.{meta_rows, one_if, table_row, table_rows, cell_row, mark_row}
 use Rattle.cr_store.specs.Shows.{Holds, Shows}
+use Rattle.cr_store.specs.Words.{AreWidened}
 
 pub wants_defaults : (b h : Bool) → (b ≡ true → h ≡ true) → (not b || h) ≡ true
 wants_defaults true h all = all refl
@@ -49,3 +56,30 @@ shows_table db h t row is it =
       cells_are = it.cells_are;
       marks_are = it.marks_are;
     }
+
+-- ---- a table that gets a column
+
+no_table_altered : (name : List ℕ) (col : ColumnDef) (ts : List Table) → find (is_named name) ts ≡ None → map (altered name col) ts ≡ ts
+no_table_altered name col [] e = refl
+no_table_altered name col (t ∷ ts) e =
+    elim (split (is_named name t)) [
+      | inl so ↦ (let e' : Some t ≡ None = rw so at e in absurd cc)
+      | inr not_so ↦ (
+          let e' : find (is_named name) ts ≡ None = rw not_so at e in
+          let here : altered name col t ≡ t = ap (λ b. cond b (record t { definition = with_column col t.definition }) t) not_so in
+          λ i. here i ∷ no_table_altered name col ts e' i)
+    ]
+
+-- no table has the name
+pub nothing_added : (name : List ℕ) (col : ColumnDef) (ts : List Table) (o : Option (Bor Table)) → option_copied o ≡ find (is_named name) ts → o ≡ None → with_added name col ts ≡ ts
+unfolding with_added
+nothing_added name col ts o e none = no_table_altered name col ts (sym e ∙ ap option_copied none)
+
+-- the one table of the name has these bytes with the column
+pub are_widened : (name : List ℕ) (col : ColumnDef) (bytes : List ℕ) (ts : List Table) (t : Table) → IsDistinct same_name ts → find (is_named name) ts ≡ Some t → bytes ≡ definition (with_column col t.definition)
+    → AreWidened name col bytes ts
+are_widened name col bytes ts t distinct found is =
+    let given = find_gives (is_named name) ts t found in
+    all_from (λ u. is_named name u ≡ true → definition (with_column col u.definition) ≡ bytes) ts (λ u m named.
+    let one : u ≡ t = apart_one same_name same_name-equiv.symm ts u t distinct m given.0 (one_named name u t named given.1) in
+    ap (λ (x : Table). definition (with_column col x.definition)) one ∙ sym is)

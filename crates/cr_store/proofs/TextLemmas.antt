@@ -101,6 +101,9 @@ set_second = col 1 0 ∷ col 1 0 ∷ col 1 1 ∷ col 0 1 ∷ []
 abbrev pub set_crr : List Term
 set_crr = col 1 0 ∷ col 1 0 ∷ col 1 1 ∷ col 1 2 ∷ col 0 1 ∷ col 1 4 ∷ []
 
+abbrev pub set_def : List Term
+set_def = col 1 0 ∷ col 1 0 ∷ col 1 1 ∷ col 1 2 ∷ col 1 3 ∷ col 0 1 ∷ []
+
 abbrev pub set_cell : List Term
 set_cell = col 1 0 ∷ col 1 0 ∷ col 1 1 ∷ col 1 2 ∷ col 1 3 ∷ col 0 3 ∷ col 0 4 ∷ col 0 5 ∷ col 0 6 ∷ col 0 7 ∷ col 0 8 ∷ []
 
@@ -169,6 +172,17 @@ update_table_is = refl
 pub update_table_plain : IsPlain (understood store_schema update_table)
 unfolding understood everything
 update_table_plain = (refl, refl)
+
+abbrev pub update_definition : List ℕ
+update_definition = codes "UPDATE cr_schema SET def = ?2 WHERE name = ?1"
+
+pub update_definition_is : command_of (understood store_schema update_definition) ≡ Update 1 (rows_set 2 at_first set_def)
+unfolding understood everything
+update_definition_is = refl
+
+pub update_definition_plain : IsPlain (understood store_schema update_definition)
+unfolding understood everything
+update_definition_plain = (refl, refl)
 
 -- ---- cr_peer
 

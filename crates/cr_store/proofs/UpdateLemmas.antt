@@ -17,18 +17,19 @@ use Rattle.cr_rows.proofs.UpdateLemmas.{changed, HasSet, lists_set, updates}
 use Rattle.cr_rows.proofs.TextLemmas.{cast_int}
 use Rattle.cr_value.specs.OrderLaws.{bytes_exact}
 use Rattle.cr_lattice.specs.declared.stamped.Stamped.{Stamped}
+use Rattle.cr_lattice.specs.declared.table.ColumnDef.{ColumnDef}
 use Rattle.cr_lattice.specs.declared.table.Table.{Table}
 use Rattle.cr_lattice.specs.Check.{same_bytes}
 use Rattle.cr_cells.specs.Marks.{Mark}
-use Rattle.cr_cells.specs.Tables.{is_named, marked, with_replicated}
-use Rattle.cr_store.specs.Definition.{definition}
+use Rattle.cr_cells.specs.Tables.{is_named, marked, with_replicated, with_column, altered, with_added}
+use Rattle.cr_layout.specs.Definition.{definition}
 use Rattle.cr_store.specs.Schema.{meta_columns, table_columns, cell_columns, peer_columns, meta_table, schema_table, cell_table, peer_table, store_schema}
 use Rattle.cr_store.specs.Rows.{cell_row, meta_rows, one_if, table_row, table_rows, mark_row}
 use Rattle.cr_store.specs.Shows.{Holds}
-use Rattle.cr_store.specs.Words.{same_key, replaced, set_mark}
+use Rattle.cr_store.specs.Words.{same_key, replaced, set_mark, AreWidened}
 use Rattle.cr_store.proofs.RowTests.{passes_text, passes_blob, passes_key}
 use Rattle.cr_store.proofs.StoreLemmas.{with_meta, with_tables, with_cells, with_marks}
-use Rattle.cr_store.proofs.TextLemmas.{at_first, at_key, set_second, set_crr, set_cell, meta_bare, schema_bare, cell_bare, peer_bare, update_meta, update_meta_is, update_meta_plain, update_table, update_table_is, update_table_plain, update_mark, update_mark_is, update_mark_plain, update_cell, update_cell_is, update_cell_plain}
+use Rattle.cr_store.proofs.TextLemmas.{at_first, at_key, set_second, set_crr, set_def, set_cell, update_definition, update_definition_is, update_definition_plain, meta_bare, schema_bare, cell_bare, peer_bare, update_meta, update_meta_is, update_meta_plain, update_table, update_table_is, update_table_plain, update_mark, update_mark_is, update_mark_plain, update_cell, update_cell_is, update_cell_plain}
 
 tied : (o : Ordering) → is_eq o ≡ true → o ≡ Equal
 tied Less h = absurd (cc)
@@ -146,6 +147,53 @@ sets_table old new a c d name ts count it h =
     update_table_is update_table_plain refl it.tables_are it.schema h in
     let are = lists_set store_schema 2 at_first (Text name ∷ Int (pos 1) ∷ []) (table_new (Text name ∷ Int (pos 1) ∷ [])) (set_replicated name) old new (table_rows 1 ts) (each_table name 1 ts) set it.tables_are in
     with_tables old.now new.now a (table_rows 1 ts) c d _ it set.schema_is set.others (subst (Lists (new.now.trees 2)) (marks_rows name 1 ts) are)
+
+-- a definition with a column more
+
+abbrev def_new : Row → Row → Row
+def_new params r = cast_row (schema_table 2) (drop 1 (eval_all set_def (params ∷ r ∷ [])))
+
+module _ (name bytes_of : List ℕ) where
+  abbrev given_def : Row
+  given_def = Text name ∷ Blob bytes_of ∷ []
+
+  abbrev redefined : Row → Row
+  redefined x = cond (same_bytes (bytes (column x 0)) name) (column x 0 ∷ column x 1 ∷ column x 2 ∷ Blob bytes_of ∷ []) x
+
+  one_definition : (id : ℤ) (m : List ℕ) (o k : ℤ) (def : List ℕ)
+      → changed (passes_all at_first given_def) (def_new given_def) (Int id ∷ Text m ∷ Int o ∷ Int k ∷ Blob def ∷ []) ≡ Int id ∷ redefined (Text m ∷ Int o ∷ Int k ∷ Blob def ∷ [])
+  one_definition id m o k def =
+      set_one (passes_all at_first given_def) (def_new given_def) id (Text m ∷ Int o ∷ Int k ∷ Blob def ∷ []) (Text m ∷ Int o ∷ Int k ∷ Blob bytes_of ∷ []) (same_bytes m name)
+      (passes_text name m id (Blob bytes_of ∷ []) (Int o ∷ Int k ∷ Blob def ∷ [])) (rw (cast_int id, cast_int o, cast_int k))
+
+  each_definition : (n : ℕ) (ts : List Table) (id : ℤ) (x : Row) → Has (table_rows n ts) x → changed (passes_all at_first given_def) (def_new given_def) (Int id ∷ x) ≡ Int id ∷ redefined x
+  each_definition n [] id x h = absurd h
+  each_definition n (t ∷ ts) id x (inl e) =
+      subst (λ z. changed (passes_all at_first given_def) (def_new given_def) (Int id ∷ z) ≡ Int id ∷ redefined z) (sym e)
+      (one_definition id t.definition.name (pos n) (one_if t.is_replicated) (definition t.definition))
+  each_definition n (t ∷ ts) id x (inr h) = each_definition (n + 1) ts id x h
+
+  module _ (col : ColumnDef) where
+    widens_row : (n : ℕ) (t : Table) → (is_named name t ≡ true → definition (with_column col t.definition) ≡ bytes_of) → redefined (table_row n t) ≡ table_row n (altered name col t)
+    widens_row n t are = go (is_named name t) refl
+      where
+        go : (b : Bool) → is_named name t ≡ b → cond b (Text t.definition.name ∷ Int (pos n) ∷ Int (one_if t.is_replicated) ∷ Blob bytes_of ∷ []) (table_row n t)
+            ≡ table_row n (cond b (record t { definition = with_column col t.definition }) t)
+        go true e = ap (λ (d : List ℕ). Text t.definition.name ∷ Int (pos n) ∷ Int (one_if t.is_replicated) ∷ Blob d ∷ []) (sym (are e))
+        go false e = refl
+
+    widens_rows : (n : ℕ) (ts : List Table) → AreWidened name col bytes_of ts → map redefined (table_rows n ts) ≡ table_rows n (map (altered name col) ts)
+    widens_rows n [] are = refl
+    widens_rows n (t ∷ ts) are = rw (widens_row n t are.0, widens_rows (n + 1) ts are.1)
+
+pub sets_definition : (old new : State) (a c d : List Row) (name : List ℕ) (col : ColumnDef) (def : List ℕ) (ts : List Table) (count : ℕ) → AreWidened name col def ts → Holds old.now a (table_rows 1 ts) c d
+    → ExecutesIn false update_definition (Text name ∷ Blob def ∷ []) old new (Ok count) → Holds new.now a (table_rows 1 (with_added name col ts)) c d
+unfolding with_added
+sets_definition old new a c d name col def ts count widened it h =
+    let set = updates store_schema 1 (codes "cr_schema") 2 table_columns (1 ∷ []) schema_bare at_first set_def (given_def name def) (λ r. refl) update_definition (table_rows 1 ts) old new count
+    update_definition_is update_definition_plain refl it.tables_are it.schema h in
+    let are = lists_set store_schema 2 at_first (given_def name def) (def_new (given_def name def)) (redefined name def) old new (table_rows 1 ts) (each_definition name def 1 ts) set it.tables_are in
+    with_tables old.now new.now a (table_rows 1 ts) c d _ it set.schema_is set.others (subst (Lists (new.now.trees 2)) (widens_rows name def col 1 ts widened) are)
 
 -- ---- cr_peer
 

@@ -1,9 +1,13 @@
 pub mod Schema
 pub mod Rows
-pub mod Definition
 pub mod Shows
 pub mod Kept
 pub mod Words
 pub mod Plan
 pub mod Committing
 pub mod Making
+pub mod Stored
+pub mod Opening
+pub mod StoredOrders
+pub mod Asking
+pub mod Laws

@@ -10,7 +10,7 @@ use Rattle.cr_value.specs.declared.value.Value.TheVariants as val
 use Rattle.cr_lattice.specs.declared.stamped.Stamped.{Stamped}
 use Rattle.cr_lattice.specs.declared.table.Table.{Table}
 use Rattle.cr_cells.specs.Marks.{Mark}
-use Rattle.cr_store.specs.Definition.{definition}
+use Rattle.cr_layout.specs.Definition.{definition}
 
 -- ---- cr_cell
 

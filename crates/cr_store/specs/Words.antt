@@ -1,7 +1,7 @@
 -- When a row of cr_cell is that of a key, and what becomes of a list of cells.
-use Rattle.std.specs.Prelude.{◌≡◌, Option, Some, None, codes, ◌||◌, ℕ, Bool, ◌&&◌, List, map, cond}
+use Rattle.std.specs.Prelude.{◌≡◌, true, Option, Some, None, codes, ◌||◌, ℕ, Bool, ◌&&◌, List, map, cond}
 use Rattle.std.specs.Ordering.{is_eq}
-use Rattle.std.specs.List.{list_any}
+use Rattle.std.specs.List.{list_any, AllByRecursion}
 use Rattle.sqlite.specs.declared.types.Value.{Value}
 use Rattle.sqlite.specs.declared.types.Value.TheVariants.{Text, Blob}
 use Rattle.sqlite.specs.Order.{Row}
@@ -10,7 +10,11 @@ use Rattle.sqlite_schema.specs.Names.{same_name}
 use Rattle.sqlite_rules.specs.Lists.{Has}
 use Rattle.cr_lattice.specs.declared.change.Change.{Change}
 use Rattle.cr_lattice.specs.declared.stamped.Stamped.{Stamped}
+use Rattle.cr_lattice.specs.declared.table.ColumnDef.{ColumnDef}
+use Rattle.cr_lattice.specs.declared.table.Table.{Table}
 use Rattle.cr_lattice.specs.Check.{same_bytes}
+use Rattle.cr_cells.specs.Tables.{is_named, with_column}
+use Rattle.cr_layout.specs.Definition.{definition}
 use Rattle.cr_cells.specs.Marks.{Mark}
 
 abbrev pub is_same : Value → Value → Bool
@@ -35,6 +39,10 @@ set_mark m marks = map (λ o. cond (same_bytes o.0 m.0) m o) marks
 -- the name is that of a table of a store, its letters in either case
 abbrev pub is_ours : List ℕ → Bool
 is_ours name = same_name name (codes "cr_meta") || (same_name name (codes "cr_schema") || (same_name name (codes "cr_cell") || same_name name (codes "cr_peer")))
+
+-- these are the bytes of the definition of each table of that name with the column
+abbrev pub AreWidened : List ℕ → ColumnDef → List ℕ → List Table → Type 0
+AreWidened name col bytes ts = AllByRecursion (λ t. is_named name t ≡ true → definition (with_column col t.definition) ≡ bytes) ts
 
 -- the same cells, in any order and any number
 pub record SameCells (xs ys : List Stamped) : Type 0 where

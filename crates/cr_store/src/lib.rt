@@ -1,10 +1,13 @@
 //! A store of cells in four tables of sqlite.
 #![tactic(auto)]
 
+mod asking;
 mod cells;
 mod committing;
 mod definition;
 mod known;
+pub mod laws;
+mod opening;
 mod outcome;
 mod plan;
 mod planning;
@@ -12,6 +15,8 @@ mod reads;
 mod records;
 mod rows;
 mod schema;
+mod shape;
 pub mod store;
+mod stored;
 mod tables;
 mod writing;

@@ -82,7 +82,7 @@ fn cmp_stamps(a: &Stamped, b: &Stamped) -> Ordering
         .then(cmp_changes(&a.change, &b.change))
 }
 
-fn cmp_cells(a: &Stamped, b: &Stamped) -> Ordering
+pub(crate) fn cmp_cells(a: &Stamped, b: &Stamped) -> Ordering
     ensures { result ≡ cell_cmp a.now b.now }
 {
     cmp_changes(&a.change, &b.change)

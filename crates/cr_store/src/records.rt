@@ -7,12 +7,13 @@ ghost use Rattle.sqlite.specs.State.{HasCleanDisk, KeepsCommit, Survives};
 ghost use Rattle.sqlite.specs.Values.{bound_value};
 ghost use Rattle.sqlite.specs.declared.types.Value.TheVariants.{Text as SqlText, Int as SqlInt, Blob as SqlBlob};
 ghost use Rattle.sqlite_value.specs.Value.{owned};
+ghost use Rattle.cr_lattice.specs.declared.table.ColumnDef.{ColumnDef};
 ghost use Rattle.cr_lattice.specs.declared.table.Table.{Table};
 ghost use Rattle.cr_cells.specs.Marks.{Mark};
-ghost use Rattle.cr_cells.specs.Tables.{with_replicated};
+ghost use Rattle.cr_cells.specs.Tables.{with_replicated, with_added};
 ghost use Rattle.cr_store.specs.Rows.{meta_rows, table_rows, one_if, mark_row};
 ghost use Rattle.cr_store.specs.Shows.{Holds};
-ghost use Rattle.cr_store.specs.Words.{set_mark};
+ghost use Rattle.cr_store.specs.Words.{set_mark, AreWidened};
 
 use cr_lattice::change::Site;
 use cr_rows::write;
@@ -26,6 +27,8 @@ const VERSION: &str = "UPDATE cr_meta SET val = ?2 WHERE name = ?1";
 const TABLE: &str = "INSERT INTO cr_schema VALUES(?1, ?2, ?3, ?4)";
 
 const CRR: &str = "UPDATE cr_schema SET crr = ?2 WHERE name = ?1";
+
+const DEFINITION: &str = "UPDATE cr_schema SET def = ?2 WHERE name = ?1";
 
 const MARK: &str = "INSERT INTO cr_peer VALUES(?1, ?2)";
 
@@ -110,6 +113,26 @@ pub(crate) fn set_replicated<S: Alter>(tx: &mut Transaction<'_, S>, name: &str) 
         tx,
         CRR,
         &[ValueRef::Text(name.as_bytes()), ValueRef::Int(1)],
+    )
+}
+
+/// Sets the bytes of a definition, that of the table of that name with one column more.
+pub(crate) fn set_definition<'a, S: Alter>(
+    tx: &mut Transaction<'_, S>,
+    name: &'a str,
+    definition: &'a [u8],
+) -> Result<(), Error>
+    ensures same_reference { tx.new.conn.ghost_name ≡ tx.old.conn.ghost_name }
+    ensures set { HasCleanDisk (state S.Store tx.new.conn.now) → (a c d : List Row) → (column : ColumnDef) → (tables : List Table) → AreWidened name.now column definition.now tables → Holds (state S.Store tx.old.conn.now).now a (table_rows 1 tables) c d
+        → OnOk result (Holds (state S.Store tx.new.conn.now).now a (table_rows 1 (with_added name.now column tables)) c d) }
+    ensures inside { HasCleanDisk (state S.Store tx.new.conn.now) → OnOk result (tx.new.conn.now.in_transaction ≡ tx.old.conn.now.in_transaction) }
+    ensures kept { HasCleanDisk (state S.Store tx.new.conn.now) → KeepsCommit (state S.Store tx.old.conn.now) (state S.Store tx.new.conn.now) }
+    ensures survives { Survives (state S.Store tx.old.conn.now) (state S.Store tx.new.conn.now) (λ _. ⊥) }
+{
+    write(
+        tx,
+        DEFINITION,
+        &[ValueRef::Text(name.as_bytes()), ValueRef::Blob(definition)],
     )
 }
 

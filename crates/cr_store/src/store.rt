@@ -1,29 +1,34 @@
 //! The store.
 
-ghost use Rattle.std.specs.Prelude.{◌≡◌, ◌≢◌, None, ◌≤ℤ◌, ◌+◌, pos, length, true, false, [], IsTrue, IfOk, IfErr, OnErr, Err};
+ghost use Rattle.std.specs.Prelude.{◌≡◌, ◌≢◌, None, ◌≤ℤ◌, ◌+◌, pos, length, true, false, [], IsTrue, IfOk, IfErr, OnErr, MatchResult, Err};
+ghost use Rattle.std.specs.List.{AllByRecursion};
 ghost use Rattle.std.specs.Option.{ForSome};
 ghost use Rattle.sqlite.specs.Held.{state};
 ghost use Rattle.sqlite.specs.State.{HasCleanDisk};
 ghost use Rattle.cr_rows.specs.Schema.{no_schema};
 ghost use Rattle.cr_cells.specs.Calls.{IsRefusal, Reads, Defines, Commits, is_want, UnlessWant};
 ghost use Rattle.cr_cells.specs.Holding.{empty_holding, IsSound, since, cells_of};
-ghost use Rattle.cr_cells.specs.Tables.{AreWellFormed, IsNewTable, has_defaults, with_table, with_replicated, is_markable};
+ghost use Rattle.cr_cells.specs.Tables.{AreWellFormed, IsNewTable, IsNewColumn, has_defaults, with_table, with_replicated, with_added, is_markable};
 ghost use Rattle.cr_store.specs.Making.{has_store, IsRefused};
+ghost use Rattle.cr_store.specs.Opening.{IsReadableTable, IsHeld, IsOpenError, FailsToOpen};
+ghost use Rattle.cr_store.specs.Schema.{store_schema};
 ghost use Rattle.cr_store.specs.Words.{is_ours};
 
 use crate::committing::commit;
 use crate::definition::definition;
 use crate::known::Known;
+use crate::opening::read_known;
 use crate::reads::{cells_of, since};
 use crate::records::crr_of;
 use crate::rows::refusal;
-use crate::tables::{add_table, make, replicate};
+use crate::shape::is_store_schema;
+use crate::tables::{add_table, make, redefine, replicate};
 use cr_cells::marks::{Mark, seen_of};
 use cr_cells::store::{Cells, CellsError, StoreFault};
-use cr_cells::tables::{add, copies, with_replicated};
+use cr_cells::tables::{add, copies, table_named, with_added, with_column, with_replicated};
 use cr_lattice::change::{Change, Site};
 use cr_lattice::stamped::Stamped;
-use cr_lattice::table::{Table, TableDef};
+use cr_lattice::table::{ColumnDef, Table, TableDef};
 use sqlite::{Alter, Connection, MemStore};
 use sqlite_schema::names::same_name;
 use sqlite_schema::schema::Schema;
@@ -60,7 +65,7 @@ impl<S: Alter + Drop> Drop for Store<S> {
 }
 
 // Tables are counted from 1.
-fn next_ordinal(tables: &[Table]) -> i64
+pub(crate) fn next_ordinal(tables: &[Table]) -> i64
     ensures { result ≡ pos (1 + length tables.now) }
 {
     tables.len() as i64 + 1
@@ -143,9 +148,53 @@ impl<S: Alter> Store<S> {
         Ok(Store { conn, known })
     }
 
+    /// The store that the database of a connection holds. A limit of steps is taken off.
+    ///
+    /// # Errors
+    /// With the connection, whose database is as it was: `Store(Refused)` where a transaction is open; else
+    /// `Store(Damaged)` where the database has another schema than a store's; in these two cases all of the connection
+    /// is as it was. Over a store's schema, `Store(Damaged)` where the rows are those of nothing that a store holds,
+    /// `Store(Refused)` where sqlite refuses to read them, as a limit of steps may have it do, and `Memory`.
+    pub fn open(
+        alloc: Global,
+        mut conn: Connection<S>,
+    ) -> Result<Store<S>, (CellsError, Connection<S>)>
+        ensures held { IfOk result (λ it. IsClean S.Store it.0 → IsHeld (state S.Store conn).now (holding_of (state S.Store it.0).now it.1)) }
+        ensures readable { IfOk result (λ it. IsClean S.Store it.0 → AllByRecursion IsReadableTable it.1.tables.items) }
+        ensures clean { IfOk result (λ it. HasCleanDisk (state S.Store it.0) → IsClean S.Store it.0) }
+        ensures limit { IfOk result (λ it. it.0.step_limit ≡ None) }
+        ensures busy { (state S.Store conn).in_transaction ≡ true → IsRefused result StoreFault.Refused conn }
+        ensures foreign { (state S.Store conn).in_transaction ≡ false → (state S.Store conn).now.schema ≢ store_schema
+            → IsRefused result StoreFault.Damaged conn }
+        ensures damaged { IfErr result (λ e. IsClean S.Store e.1 → FailsToOpen (state S.Store conn).now e.0) }
+        ensures why { IfErr result (λ e. IsOpenError e.0) }
+        ensures same { MatchResult result (λ it. IsClean S.Store it.0 → (state S.Store it.0).now ≡ (state S.Store conn).now)
+            (λ e. IsClean S.Store e.1 → (state S.Store e.1).now ≡ (state S.Store conn).now) }
+        ensures was_clean { MatchResult result (λ it. IsClean S.Store it.0 → IsClean S.Store conn)
+            (λ e. IsClean S.Store e.1 → IsClean S.Store conn) }
+        ensures mode { IfErr result (λ e. e.1.in_transaction ≡ conn.in_transaction) }
+    {
+        let is_busy = !conn.is_autocommit();
+        if is_busy {
+            return Err((CellsError::Store(StoreFault::Refused), conn));
+        }
+        if !is_store_schema(conn.schema()) {
+            return Err((CellsError::Store(StoreFault::Damaged), conn));
+        }
+        match read_known(&mut conn, alloc) {
+            Ok(known) => {
+                conn.set_step_limit(None);
+                Ok(Store { conn, known })
+            }
+            Err(error) => Err((error, conn)),
+        }
+    }
+
     /// The connection of a store, which goes on as it stands.
     pub fn into_connection(self) -> Connection<S>
-        ensures { result ≡ self.0 }
+        ensures same { result ≡ self.0 }
+        ensures held { IsClean S.Store self.0 → IsHeld (state S.Store self.0).now (holding_of (state S.Store self.0).now self.1) }
+        ensures auto { self.0.in_transaction ≡ false }
     {
         let Store { conn, known: _ } = self;
         conn
@@ -193,6 +242,32 @@ impl<S: Alter> Store<S> {
         let _ = self.conn.is_autocommit();
         let tables = with_replicated(alloc, &self.known.tables, name)?;
         match replicate(&mut self.conn, name) {
+            Ok(()) => {
+                self.known.tables = tables;
+                Ok(())
+            }
+            Err(error) => Err(refusal(error)),
+        }
+    }
+
+    fn widen(&mut self, alloc: Global, name: &str, column: &ColumnDef) -> Result<(), CellsError>
+        requires { IsClean S.Store self.old.0 → IsNewColumn (holding_of (state S.Store self.old.0).now self.old.1).tables name.now column.now }
+        ensures was_honest { HasCleanDisk (state S.Store self.new.0) → HasCleanDisk (state S.Store self.old.0) }
+        ensures was_clean { IsClean S.Store self.new.0 → IsClean S.Store self.old.0 }
+        ensures stays_clean { HasCleanDisk (state S.Store self.new.0) → IsClean S.Store self.old.0 → UnlessWant is_want result (IsClean S.Store self.new.0) }
+        ensures sound { IsClean S.Store self.new.0 → IsSound (holding_of (state S.Store self.new.0).now self.new.1) }
+        ensures defines { IsClean S.Store self.new.0 → Defines (holding_of (state S.Store self.old.0).now self.old.1) (holding_of (state S.Store self.new.0).now self.new.1) result
+            (record (holding_of (state S.Store self.old.0).now self.old.1) { tables = with_added name.now column.now (holding_of (state S.Store self.old.0).now self.old.1).tables }) }
+    {
+        let _ = self.conn.is_autocommit();
+        let table = match table_named(&self.known.tables, name) {
+            Some(table) => table,
+            None => return Ok(()),
+        };
+        let wider = with_column(alloc, &table.definition, column)?;
+        let bytes = definition(alloc, &wider)?;
+        let tables = with_added(alloc, &self.known.tables, name, column)?;
+        match redefine(&mut self.conn, name, &bytes) {
             Ok(()) => {
                 self.known.tables = tables;
                 Ok(())
@@ -278,6 +353,15 @@ impl<S: Alter + Drop> Cells for Store<S> {
 
     fn add_replicated(&mut self, alloc: Global, def: &TableDef) -> Result<(), CellsError> {
         self.add(alloc, def, true)
+    }
+
+    fn add_column(
+        &mut self,
+        alloc: Global,
+        table: &str,
+        column: &ColumnDef,
+    ) -> Result<(), CellsError> {
+        self.widen(alloc, table, column)
     }
 
     fn since(&mut self, alloc: Global, version: i64) -> Result<Vec<Stamped>, CellsError> {

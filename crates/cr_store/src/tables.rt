@@ -5,14 +5,16 @@ ghost use Rattle.sqlite.specs.Held.{state};
 ghost use Rattle.sqlite.specs.Order.{Row};
 ghost use Rattle.sqlite.specs.State.{HasCleanDisk, KeepsCommit, Survives};
 ghost use Rattle.sqlite.specs.declared.types.Value.TheVariants.{Text as SqlText, Int as SqlInt, Blob as SqlBlob};
+ghost use Rattle.cr_lattice.specs.declared.table.ColumnDef.{ColumnDef};
 ghost use Rattle.cr_lattice.specs.declared.table.Table.{Table};
 ghost use Rattle.cr_cells.specs.Holding.{empty_holding};
-ghost use Rattle.cr_cells.specs.Tables.{with_replicated};
+ghost use Rattle.cr_cells.specs.Tables.{with_replicated, with_added};
 ghost use Rattle.cr_rows.specs.Schema.{no_schema};
 ghost use Rattle.cr_store.specs.Rows.{table_rows};
 ghost use Rattle.cr_store.specs.Shows.{Holds, Shows};
+ghost use Rattle.cr_store.specs.Words.{AreWidened};
 
-use crate::records::{insert_meta, insert_table, set_replicated};
+use crate::records::{insert_meta, insert_table, set_definition, set_replicated};
 use crate::schema::make_tables;
 use cr_lattice::change::Site;
 use sqlite::types::ValueRef;
@@ -90,6 +92,28 @@ pub(crate) fn add_table<'a, S: Alter>(
 {
     let mut tx = conn.transaction();
     insert_table(&mut tx, name, ordinal, crr, definition)?;
+    tx.commit()?;
+    Ok(())
+}
+
+/// Sets the bytes of a definition, that of the table of that name with one column more.
+pub(crate) fn redefine<'a, S: Alter>(
+    conn: &mut Connection<S>,
+    name: &'a str,
+    definition: &'a [u8],
+) -> Result<(), Error>
+    requires auto { conn.old.in_transaction ≡ false }
+    requires settled { IsTrue (state S.Store conn.old).is_open → (state S.Store conn.old).now ≡ (state S.Store conn.old).committed }
+    ensures set { HasCleanDisk (state S.Store conn.new) → (a c d : List Row) → (column : ColumnDef) → (tables : List Table) → AreWidened name.now column definition.now tables → Holds (state S.Store conn.old).now a (table_rows 1 tables) c d
+        → OnOk result (Holds (state S.Store conn.new).now a (table_rows 1 (with_added name.now column tables)) c d) }
+    ensures opened { HasCleanDisk (state S.Store conn.new) → OnOk result (IsTrue (state S.Store conn.new).is_open) }
+    ensures same { HasCleanDisk (state S.Store conn.new) → IsTrue (state S.Store conn.new).is_open → OnErr result ((state S.Store conn.new).now ≡ (state S.Store conn.old).now) }
+    ensures auto { conn.new.in_transaction ≡ false }
+    ensures clean { HasCleanDisk (state S.Store conn.new) → HasCleanDisk (state S.Store conn.old) }
+    ensures was_open { HasCleanDisk (state S.Store conn.new) → IsTrue (state S.Store conn.new).is_open → IsTrue (state S.Store conn.old).is_open }
+{
+    let mut tx = conn.transaction();
+    set_definition(&mut tx, name, definition)?;
     tx.commit()?;
     Ok(())
 }

@@ -6,6 +6,7 @@ use cr_cells::store::{Cells, CellsError, NewCells, StoreFault};
 use cr_lattice::change::{Change, Site};
 use cr_lattice::stamped::Stamped;
 use cr_memory::MemoryCells;
+use cr_store::laws::reopened;
 use cr_store::store::Store;
 use cr_told::reading::{A, B, definition, key};
 use cr_value::text::Text;
@@ -180,6 +181,13 @@ fn define<C: Cells>(alloc: Global, cells: &mut C) -> Result<(), Fail> {
     add_replicated(alloc, cells, &definition(alloc, "u", COLUMNS)?)
 }
 
+fn opened_again<S: Alter + Drop>(alloc: Global, store: Store<S>) -> Result<Store<S>, Fail> {
+    match reopened(alloc, store) {
+        Ok(store) => Ok(store),
+        Err((error, _)) => Err(Fail::from(error)),
+    }
+}
+
 #[test]
 fn a_store_holds_what_the_plain_one_holds(rt: HostRuntime) -> Result<(), Fail> {
     let alloc = rt.alloc();
@@ -195,5 +203,24 @@ fn a_store_holds_what_the_plain_one_holds(rt: HostRuntime) -> Result<(), Fail> {
         );
     }
     assert!(rt; plain.db_version() > 20, "most commits change something");
+    let mut store = opened_again(alloc, store)?;
+    assert!(rt;
+        hold_the_same(alloc, &mut plain, &mut store)?,
+        "opened again"
+    );
+    Ok(())
+}
+
+#[test]
+fn a_database_without_tables_is_no_store(rt: HostRuntime) -> Result<(), Fail> {
+    let alloc = rt.alloc();
+    let Err((error, conn)) = Store::open(alloc, Connection::open_in_memory(alloc)?) else {
+        return Err(Fail::from("opened"));
+    };
+    assert!(rt; error == CellsError::Store(StoreFault::Damaged));
+    assert!(rt;
+        Store::create(alloc, conn, A).is_ok(),
+        "the connection is as it was"
+    );
     Ok(())
 }

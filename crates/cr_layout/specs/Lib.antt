@@ -1,0 +1,4 @@
+pub mod Definition
+pub mod Written
+pub mod Reading
+pub mod Laws

@@ -1,0 +1,4 @@
+pub mod Deciding
+pub mod KeptLemmas
+pub mod StampLemmas
+pub mod TableLemmas

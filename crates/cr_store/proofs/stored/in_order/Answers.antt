@@ -1,0 +1,13 @@
+use Rattle.std.proofs.Common.{rules}
+use Rattle.std.specs.Ordering.{eq_by_cmp}
+use Rattle.std.proofs.lemmas.Fn.{dedup_same}
+use Rattle.cr_cells.proofs.MemberLemmas.{sorted_by}
+use Rattle.cr_store.proofs.ReadSets.{sorted_dedup}
+use Rattle.cr_store.proofs.stored.in_order.Goals as goal
+
+pub returns : goal.returns
+returns g c =
+    let t = g.met.T.Stored in
+    let sorted = sorted_by t.total c.sort_by.new.self.items c.in_ok-sort_by.ensures.sorted (λ a r f k. search rules) in
+    let left = dedup_same _ (eq_by_cmp g.T.Stored.order) _ (λ x y b f x' y' k. search rules) c.sort_by.new.self.items c.dedup_by.new.self.items c.dedup_by.ensures.filtered in
+    sorted_dedup t.total t.exact _ c.sort_by.new.self.items c.dedup_by.new.self.items c.in_ok-sort_by.ensures.permutation sorted left
