@@ -1,0 +1,4 @@
+pub mod Parts
+pub mod Touched
+pub mod Shown
+pub mod Inserts
