@@ -7,7 +7,7 @@ use Rattle.std.proofs.lemmas.List.Folds.{list_any-append, find-append}
 use Rattle.std.proofs.lemmas.List.Sums.{sum_by_push}
 use Rattle.cr_value.specs.declared.affinity.Affinity.TheVariants as affinity
 use Rattle.cr_value.specs.declared.value.Value.{Value}
-use Rattle.cr_value.specs.Packing.{size_limit}
+use Rattle.cr_value.specs.Packing.{size_limit, packed}
 use Rattle.cr_value.specs.Unpacking.{unpacked}
 use Rattle.cr_lattice.specs.declared.change.Change.{Change}
 use Rattle.cr_lattice.specs.declared.table.ColumnDef.{ColumnDef}
@@ -71,12 +71,12 @@ module _ (def : TableDef) (col : ColumnDef) (outside : col.key ≡ None) where
   unfolding is_key
   key_same pk = values (unpacked pk)
     where
-      values : (o : Option (List Value)) → option_map_or (λ vs. (length vs == count_by is_key_column wider.columns) && key_fits wider 1 vs) o false
-          ≡ option_map_or (λ vs. (length vs == count_by is_key_column def.columns) && key_fits def 1 vs) o false
+      values : (o : Option (List Value)) → option_map_or (λ vs. ((length vs == count_by is_key_column wider.columns) && key_fits wider 1 vs) && same_bytes (packed vs) pk) o false
+          ≡ option_map_or (λ vs. ((length vs == count_by is_key_column def.columns) && key_fits def 1 vs) && same_bytes (packed vs) pk) o false
       values None = refl
       values (Some vs) =
-          ap (λ n. (length vs == n) && key_fits wider 1 vs) (count_without is_key_column def.columns col (no_key col outside))
-          ∙ ap (λ b. (length vs == count_by is_key_column def.columns) && b) (fits_same 1 vs)
+          ap (λ n. ((length vs == n) && key_fits wider 1 vs) && same_bytes (packed vs) pk) (count_without is_key_column def.columns col (no_key col outside))
+          ∙ ap (λ b. ((length vs == count_by is_key_column def.columns) && b) && same_bytes (packed vs) pk) (fits_same 1 vs)
 
   cid_same : (cid : List ℕ) → is_cid wider cid ≡ is_cid def cid
   unfolding is_cid

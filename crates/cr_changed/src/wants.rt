@@ -1,7 +1,7 @@
 //! The rows that a write wants of its table, given those that a snapshot shows of it.
 
 ghost use Rattle.cr_exec.specs.Answers.{Answers};
-ghost use Rattle.cr_changed.specs.Changed.{insert_wants, update_wants, delete_wants};
+ghost use Rattle.cr_changed.specs.Changed.{update_wants, delete_wants};
 
 use cr_expr::given::Hosted;
 use cr_host::functions::Functions;
@@ -9,38 +9,17 @@ use cr_lattice::rows::rows;
 use cr_lattice::table::Row;
 use cr_replica::snapshot::Snapshot;
 use cr_scalar::fault::EvalFault;
-use cr_term::query::{Delete, Insert, Update};
+use cr_term::query::{Delete, Update};
 use cr_value::value::Value;
 use cr_wanted::delete::wanted_by_delete;
-use cr_wanted::insert::wanted_by_insert;
 use cr_wanted::update::wanted_by_update;
 use std::alloc::Global;
-
-/// The rows that an INSERT wants.
-///
-/// # Errors
-/// The fault of an expression, where there are no such rows without a limit on values; `TooBig` where there are none with
-/// the limit of 1,000,000 bytes; `Memory`.
-pub(crate) fn insert_wants<F: Functions>(
-    alloc: Global,
-    functions: &F,
-    snapshot: &Snapshot,
-    insert: &Insert,
-    params: &[Value],
-) -> Result<Vec<Row>, EvalFault>
-    requires { F.is_faithful functions.now }
-    ensures { Answers (⟦<F as Hosted>⟧.means functions.now) params.now result (λ v. v.items) (insert_wants snapshot.now insert.now) }
-{
-    let definition = &insert.relation.definition;
-    let columns = definition.columns.as_slice();
-    let rows = rows(alloc, snapshot.kept.as_slice(), definition)?;
-    wanted_by_insert(alloc, columns, insert, rows.as_slice(), functions, params)
-}
 
 /// The rows that an UPDATE wants.
 ///
 /// # Errors
-/// As those of `insert_wants`.
+/// The fault of an expression, where there are no such rows without a limit on values; `TooBig` where there are none with
+/// the limit of 1,000,000 bytes; `Memory`.
 pub(crate) fn update_wants<F: Functions>(
     alloc: Global,
     functions: &F,
@@ -60,7 +39,7 @@ pub(crate) fn update_wants<F: Functions>(
 /// The rows that a DELETE wants.
 ///
 /// # Errors
-/// As those of `insert_wants`.
+/// As those of `update_wants`.
 pub(crate) fn delete_wants<F: Functions>(
     alloc: Global,
     functions: &F,

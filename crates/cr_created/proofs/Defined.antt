@@ -6,7 +6,7 @@ use Rattle.std.proofs.lemmas.Bool.{ltb-false}
 use Rattle.std.proofs.lemmas.List.{length-map}
 use Rattle.cr_lattice.specs.declared.table.ColumnDef.{ColumnDef}
 use Rattle.cr_lattice.specs.Check.{is_key_column}
-use Rattle.cr_lattice.specs.Profile.{is_collated_key, is_default_too_long, is_named_row, is_reserved}
+use Rattle.cr_lattice.specs.Profile.{is_collated_key, is_default_too_long, is_named_row, is_reserved, most_columns}
 use Rattle.cr_tree.specs.declared.statement.Create.{Create as CreateTree}
 use Rattle.cr_tree.specs.declared.statement.Alter.{Alter as AlterTree}
 use Rattle.cr_term.specs.declared.query.Alter.{Alter}
@@ -19,7 +19,7 @@ use Rattle.cr_resolve.specs.declared.refusal.Limit.TheVariants as limit
 use Rattle.cr_resolve.specs.Reading.{Read, fine, when}
 use Rattle.cr_resolve.specs.Told.{Refuses}
 use Rattle.cr_resolve.specs.Known.{Known, collations, table}
-use Rattle.cr_resolve.specs.Creates.{against_column, against_names, alter, clauses, column_def, create, definition, is_primary, is_real, is_taken, missing, most_columns, or_none, out_of_profile, over_limits, repeats}
+use Rattle.cr_resolve.specs.Creates.{against_column, against_names, alter, clauses, column_def, create, definition, is_primary, is_real, is_taken, missing, or_none, out_of_profile, over_limits, repeats}
 use Rattle.cr_resolve.proofs.Refusals.{ahead}
 use Rattle.cr_created.specs.Drafts.{added_outside, against_columns, against_table, column_read, columns_read, draft, drafted, names_read, outside_types, table_of}
 use Rattle.cr_created.proofs.Drafted.{drafts_are, lone_is, same_collated, same_count, same_long, same_row}

@@ -5,15 +5,17 @@ use Rattle.std.specs.List.{zip, filter_map}
 use Rattle.std.specs.Option.{option_map, option_map_or}
 use Rattle.std.proofs.lemmas.Bool.{cases_lt, eqb-true, eq-eqb}
 use Rattle.cr_value.specs.declared.value.Value.{Value}
+use Rattle.cr_value.specs.Packing.{packed}
 use Rattle.cr_value.specs.Unpacking.{unpacked}
 use Rattle.cr_value.proofs.Fields.{unpacked_again}
 use Rattle.cr_lattice.specs.declared.table.ColumnDef.{ColumnDef}
 use Rattle.cr_lattice.specs.declared.table.TableDef.{TableDef}
-use Rattle.cr_lattice.specs.Check.{stands_at, key_affinity, is_fixed, key_fits, is_key}
+use Rattle.cr_lattice.specs.Check.{same_bytes, stands_at, key_affinity, is_fixed, key_fits, is_key}
 use Rattle.cr_lattice.specs.Profile.{key_count, places_once, has_key}
 use Rattle.cr_delta.specs.Key.{cells_of, key_part, key_places, key_values, key_of}
 use Rattle.cr_delta.specs.Wanted.{may_hold, IsRowOf, IsInProfile}
 use Rattle.cr_delta.proofs.Among.{split, and_true, Among, member_has}
+use Rattle.cr_delta.proofs.Members.{is_same}
 use Rattle.cr_delta.proofs.Cells.{column_of}
 use Rattle.cr_delta.proofs.KeyCells.{count_no, place_within, place_once}
 
@@ -123,4 +125,6 @@ module _ (def : TableDef) (row : List Value) (profile : IsInProfile def) (r : Is
       let all : Parts 1 (filter_map (key_part def row) key_places) = subst (λ ps. Parts 1 (filter_map (key_part def row) ps)) (sym places_are) (parts 8 1 (omega arith) (omega arith) (omega (arith, few))) in
       let count : length (filter_map (key_part def row) key_places) ≡ n = (let c = all.count in omega (arith, c)) in
       let read : unpacked (key_of def row) ≡ Some (key_values def row) = unpacked_again (key_of def row) (key_values def row) r.key in
-      ap (λ found. option_map_or (λ vs. eqb (length vs) (key_count def) && key_fits def 1 vs) found false) read ∙ rw all.fit (ap (λ b. b && true) (eq-eqb _ _ count))
+      let same : same_bytes (packed (key_values def row)) (key_of def row) ≡ true = is_same _ _ (sym r.key.spelled) in
+      ap (λ found. option_map_or (λ vs. (eqb (length vs) (key_count def) && key_fits def 1 vs) && same_bytes (packed vs) (key_of def row)) found false) read
+      ∙ rw (all.fit, same) (ap (λ b. (b && true) && true) (eq-eqb _ _ count))

@@ -100,8 +100,8 @@ pub fn key_of(alloc: Global, def: &TableDef, row: &[Value]) -> Result<Bytes, All
     }
 }
 
-/// The packed keys of rows.
-pub(crate) fn keys_of(alloc: Global, def: &TableDef, rows: &[Row]) -> Result<Vec<Bytes>, AllocError>
+/// The packed keys of rows, in their order. Fails for want of memory alone.
+pub fn keys_of(alloc: Global, def: &TableDef, rows: &[Row]) -> Result<Vec<Bytes>, AllocError>
     requires { AllByRecursion (HasKey def.now) rows.now }
     ensures { IfOk result (λ v. v.items ≡ map (key_of def.now) rows.now) }
 {

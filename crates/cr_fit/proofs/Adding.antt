@@ -12,7 +12,7 @@ use Rattle.cr_lattice.specs.declared.table.ColumnDef.{ColumnDef}
 use Rattle.cr_lattice.specs.declared.table.Table.{Table}
 use Rattle.cr_lattice.specs.declared.table.TableDef.{TableDef}
 use Rattle.cr_lattice.specs.Check.{same_bytes, is_key_column, stands_at}
-use Rattle.cr_lattice.specs.Profile.{key_count, places_once, has_key, is_collated_key, is_named_row, has_row_cid, is_default_too_long, is_reserved, profile_fault, rules_of, lacks_default, HasDistinctNames}
+use Rattle.cr_lattice.specs.Profile.{key_count, places_once, has_key, is_collated_key, is_named_row, has_row_cid, is_default_too_long, is_reserved, most_columns, profile_fault, rules_of, lacks_default, HasDistinctNames}
 use Rattle.cr_lattice.specs.Faults.{first_failed}
 use Rattle.cr_lattice.proofs.Tested.{or_false}
 use Rattle.cr_cells.specs.Tables.{IsFit, IsStored, IsNewColumn, is_named, same_name as same_table, is_folded, has_folded_names, has_defaults, with_column, altered, with_added}
@@ -27,7 +27,7 @@ use Rattle.cr_resolve.specs.declared.refusal.Outside.TheVariants as outside
 use Rattle.cr_resolve.specs.declared.refusal.Limit.TheVariants as limit
 use Rattle.cr_resolve.specs.Reading.{when}
 use Rattle.cr_resolve.specs.Known.{Known, table, collation}
-use Rattle.cr_resolve.specs.Creates.{alter, column_def, is_primary, is_real, added_out_of_profile, against_column, has_column, most_columns}
+use Rattle.cr_resolve.specs.Creates.{alter, column_def, is_primary, is_real, added_out_of_profile, against_column, has_column}
 use Rattle.cr_fit.specs.Folded.{IsFoldedColumn}
 use Rattle.cr_fit.specs.Suited.{FitsIn}
 use Rattle.cr_fit.proofs.Counting.{place_cons}
@@ -64,10 +64,10 @@ not_so : (b : Bool) → not b ≡ true → b ≡ false
 not_so true e = absurd (let z : ⊥ = cc in z)
 not_so false e = refl
 
-one_more : (m : ℕ) → nat_lt m 100 ≡ true → nat_le (m + 1) 100 ≡ true
+one_more : (m : ℕ) → nat_lt m most_columns ≡ true → nat_le (m + 1) most_columns ≡ true
 one_more m h = grind (arith, nat_tests)
 
-still_profiled : (def : TableDef) (col : ColumnDef) → col.key ≡ None → is_named_row col ≡ false → is_default_too_long col ≡ false → nat_lt (length def.columns) 100 ≡ true → profile_fault def ≡ None
+still_profiled : (def : TableDef) (col : ColumnDef) → col.key ≡ None → is_named_row col ≡ false → is_default_too_long col ≡ false → nat_lt (length def.columns) most_columns ≡ true → profile_fault def ≡ None
     → profile_fault (with_column col def) ≡ None
 unfolding profile_fault has_row_cid
 still_profiled def col out row long few e =
@@ -77,7 +77,7 @@ still_profiled def col out row long few e =
     (any_without is_collated_key def.columns col (ap (λ b. b && not (same_bytes col.collation (codes "binary"))) (no_key col out)) ∙ not_so _ p.1.0)
     (any_without is_named_row def.columns col row ∙ not_so _ p.1.1.0)
     (any_without is_default_too_long def.columns col long ∙ not_so _ p.1.1.1.0)
-    (ap (λ n. nat_le n 100) count ∙ one_more (length def.columns) few)
+    (ap (λ n. nat_le n most_columns) count ∙ one_more (length def.columns) few)
     (ap (λ n. nat_le n 8) (key_same def col out) ∙ p.1.1.1.1.1.0)
     (not_so _ p.1.1.1.1.1.1.0)
 

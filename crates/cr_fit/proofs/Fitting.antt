@@ -11,7 +11,7 @@ use Rattle.cr_lattice.specs.declared.table.ColumnDef.{ColumnDef}
 use Rattle.cr_lattice.specs.declared.table.Table.{Table}
 use Rattle.cr_lattice.specs.declared.table.TableDef.{TableDef}
 use Rattle.cr_lattice.specs.Check.{same_bytes, is_key_column, stands_at}
-use Rattle.cr_lattice.specs.Profile.{key_count, places_once, has_key, is_collated_key, is_named_row, has_row_cid, is_default_too_long, is_reserved, profile_fault}
+use Rattle.cr_lattice.specs.Profile.{key_count, places_once, has_key, is_collated_key, is_named_row, has_row_cid, is_default_too_long, is_reserved, most_columns, profile_fault}
 use Rattle.cr_cells.specs.Tables.{IsFit, is_named, has_folded_names}
 use Rattle.cr_tree.specs.declared.statement.Column.{Column}
 use Rattle.cr_tree.specs.declared.statement.Create.{Create}
@@ -23,7 +23,7 @@ use Rattle.cr_resolve.specs.declared.refusal.Outside.TheVariants as outside
 use Rattle.cr_resolve.specs.declared.refusal.Limit.TheVariants as limit
 use Rattle.cr_resolve.specs.Reading.{when}
 use Rattle.cr_resolve.specs.Known.{Known, table_at, module_at, collations}
-use Rattle.cr_resolve.specs.Creates.{create, definition, column_def, clauses, out_of_profile, over_limits, against_names, is_taken, is_primary, listed_place, key_place, or_none, repeats, missing, most_columns, is_real}
+use Rattle.cr_resolve.specs.Creates.{create, definition, column_def, clauses, out_of_profile, over_limits, against_names, is_taken, is_primary, listed_place, key_place, or_none, repeats, missing, is_real}
 use Rattle.cr_fit.specs.Fit.{CreatedAreNew}
 use Rattle.cr_fit.proofs.Counting.{count, counts, count_map, count_same, no_sums, one_sum}
 use Rattle.cr_fit.proofs.Keys.{when_none, both_none, turned, Fresh, fresh, AreOf, are_of, place, is_listed, is_at, same_suc, listed_count, each_place}
@@ -170,7 +170,7 @@ first_of_two : (a b m : ℕ) → nat_lt m (max a b) ≡ false → nat_le a m ≡
 first_of_two a b m h = grind (arith, nat_tests)
 
 pub in_profile : (def : TableDef) → has_key def ≡ true → list_any is_collated_key def.columns ≡ false → list_any is_named_row def.columns ≡ false → list_any is_default_too_long def.columns ≡ false
-    → nat_le (length def.columns) 100 ≡ true → nat_le (key_count def) 8 ≡ true → is_reserved def.name ≡ false → profile_fault def ≡ None
+    → nat_le (length def.columns) most_columns ≡ true → nat_le (key_count def) 8 ≡ true → is_reserved def.name ≡ false → profile_fault def ≡ None
 unfolding profile_fault has_row_cid
 in_profile def key collated row default columns keys name = rw key (rw collated (rw row (rw default (rw columns (rw keys (rw name refl))))))
 
@@ -222,7 +222,7 @@ fit known c folded e =
       folded = folded;
       profile = in_profile def key (when_none (list_any is_collated_key def.columns) (OutOfProfile outside.Collate) collated.1) (when_none (list_any is_named_row def.columns) (OutOfProfile outside.RowCid) rows.1)
           (when_none (list_any is_default_too_long def.columns) (OutOfProfile outside.Default) defaults.1)
-          (fits_within (length def.columns) 100 (when_none (nat_lt most_columns (length def.columns)) (Limit limit.Columns) limits.0))
+          (fits_within (length def.columns) most_columns (when_none (nat_lt most_columns (length def.columns)) (Limit limit.Columns) limits.0))
           (first_of_two (key_count def) (length (or_none c.key)) 8 (when_none (nat_lt 8 (max (count_by is_key_column def.columns) (length (or_none c.key)))) (Limit limit.KeyColumns) limits.1))
           (when_none (is_reserved c.table) (BadName c.table) new.0);
       names = distinct c.key c.columns names;

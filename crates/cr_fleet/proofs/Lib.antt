@@ -1,3 +1,4 @@
+pub mod Honest
 pub mod Places
 pub mod Marking
 pub mod Stepping

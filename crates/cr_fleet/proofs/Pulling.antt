@@ -23,6 +23,7 @@ use Rattle.cr_world.specs.Takings.{taking_cause, taking, changes_above, pulling}
 use Rattle.cr_world.specs.World.{World, Member, Keeps, Closures, host_of, used, named, item_at}
 use Rattle.cr_world.specs.Answers.{Answers, IsDone, IsDoneUnless, Pulls}
 use Rattle.cr_world.proofs.Keeping.{pull_keeps}
+use Rattle.cr_fleet.proofs.Honest.{always}
 use Rattle.cr_fleet.specs.Fleets.{FleetOf, AreClean, Shows, Steps, seen, name_and_state, place_in}
 use Rattle.cr_session.specs.Sessions.{TakesAll, host_under, reply_of}
 use Rattle.cr_fleet.proofs.Marking.{Moves, moves, same_grows, commit_grows}
@@ -167,9 +168,9 @@ module _ {S E C : Type 0} (l : Language S E) (k : Closures) (is_clean : C → Ty
                 → taking_cause (host_of k w) (stands r.1) (changes_above (stands p.1).holding (pos 0)) ≡ taking_cause (host_under k rules) (stands t.1) changes
             cause_same clean w s = λ x. taking_cause (host_under k (s.rules x)) (sym (taker_stands clean) x) (sym (read (mid_peer clean)) x)
 
-            pub pull_done : TakesAll (host_under k rules) is_clean stands t.1 changes None (Ok tt) t'.1 → Steps l k is_clean stands rules old (Pull name) Done rules (slice_set mid.0 i t', mid.1)
+            pub pull_done : TakesAll (host_under k rules) always is_clean stands t.1 changes None (Ok tt) t'.1 → Steps l k is_clean stands rules old (Pull name) Done rules (slice_set mid.0 i t', mid.1)
             pull_done takes = through Done (slice_set mid.0 i t', mid.1) (used_steps l k is_clean stands rules mid i t t' place at_mid takes.was_clean (Pull name) Done
-                (λ clean told. takes.stays_clean clean) (λ w. pulling (named w name)) (λ w. refl) (λ all clean w m s u at_m h n keeps. (
+                (λ clean told. takes.stays_clean tt clean) (λ w. pulling (named w name)) (λ w. refl) (λ all clean w m s u at_m h n keeps. (
                 let mid_clean = clean_before l k is_clean stands rules mid i t t' place at_mid takes.was_clean all in
                 let s_old = shows_old mid_clean w s in
                 let q = peer w s_old in
@@ -182,10 +183,10 @@ module _ {S E C : Type 0} (l : Language S E) (k : Closures) (is_clean : C → Ty
                   subst (λ (o : Option Member). Moves w.members m (pulling o m)) (sym q.1) (moves w.members i m (pulling (Some q.0) m) s.marks at_m keeps (commit_grows m.state.holding _)),
                 ))))
 
-            pub pull_refused : (e : Refusal) → TakesAll (host_under k rules) is_clean stands t.1 changes None (Err e) t'.1
+            pub pull_refused : (e : Refusal) → TakesAll (host_under k rules) always is_clean stands t.1 changes None (Err e) t'.1
                 → Steps l k is_clean stands rules old (Pull name) (Refused e) rules (slice_set mid.0 i t', mid.1)
             pull_refused e takes = through (Refused e) (slice_set mid.0 i t', mid.1) (used_steps l k is_clean stands rules mid i t t' place at_mid takes.was_clean (Pull name) (Refused e)
-                takes.stays_clean (λ w m. m) (λ w. sym (unchanged w)) (λ all clean w m s u at_m h n keeps. (
+                (takes.stays_clean tt) (λ w m. m) (λ w. sym (unchanged w)) (λ all clean w m s u at_m h n keeps. (
                 let mid_clean = clean_before l k is_clean stands rules mid i t t' place at_mid takes.was_clean all in
                 let taken = takes.takes clean in (
                   answered w (Refused e) (shows_old mid_clean w s) (apart _ _ _ (Refused e) outside (apart_sites (mid_before mid_clean))
@@ -195,7 +196,7 @@ module _ {S E C : Type 0} (l : Language S E) (k : Closures) (is_clean : C → Ty
                   moves w.members i m m s.marks at_m keeps (same_grows m.state.holding),
                 ))))
 
-            pub pull_taken : (result : Result (Unit {0}) Refusal) → TakesAll (host_under k rules) is_clean stands t.1 changes None result t'.1
+            pub pull_taken : (result : Result (Unit {0}) Refusal) → TakesAll (host_under k rules) always is_clean stands t.1 changes None result t'.1
                 → Steps l k is_clean stands rules old (Pull name) (reply_of result) rules (slice_set mid.0 i t', mid.1)
             pull_taken (Ok u) takes = pull_done takes
             pull_taken (Err e) takes = pull_refused e takes

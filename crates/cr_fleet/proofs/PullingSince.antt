@@ -22,6 +22,7 @@ use Rattle.cr_world.specs.Takings.{taking_cause, taking, changes_above, seen_at,
 use Rattle.cr_world.specs.World.{World, Member, Keeps, Closures, host_of, named, item_at}
 use Rattle.cr_world.specs.Answers.{Answers, IsDone, PullsSince}
 use Rattle.cr_world.proofs.Keeping.{incremental_pull_keeps}
+use Rattle.cr_fleet.proofs.Honest.{always}
 use Rattle.cr_fleet.specs.Fleets.{FleetOf, AreClean, Shows, Steps, IsOffered, name_and_state, place_in}
 use Rattle.cr_session.specs.Sessions.{TakesAll, host_under, reply_of}
 use Rattle.cr_fleet.proofs.Marking.{Moves, moves, same_grows, pull_moves}
@@ -177,9 +178,9 @@ module _ {S E C : Type 0} (l : Language S E) (k : Closures) (is_clean : C → Ty
             → taking_cause (host_of k w) (stands r.1) offered ≡ taking_cause (host_under k rules) (stands t.1) changes
         cause_same clean w s = λ x. taking_cause (host_under k (s.rules x)) (sym (taker_stands clean) x) (offered_is clean x)
 
-        pub since_done : TakesAll (host_under k rules) is_clean stands t.1 changes (Some mark) (Ok tt) t'.1 → Steps l k is_clean stands rules mid (PullSince name) Done rules (slice_set mid.0 i t', mid.1)
+        pub since_done : TakesAll (host_under k rules) always is_clean stands t.1 changes (Some mark) (Ok tt) t'.1 → Steps l k is_clean stands rules mid (PullSince name) Done rules (slice_set mid.0 i t', mid.1)
         since_done takes = used_steps l k is_clean stands rules mid i t t' o.in_use at_mid takes.was_clean (PullSince name) Done
-            (λ clean told. takes.stays_clean clean) (λ w. pulling_since (named w name)) (λ w. refl) (λ all clean w m s u at_m h n keeps. (
+            (λ clean told. takes.stays_clean tt clean) (λ w. pulling_since (named w name)) (λ w. refl) (λ all clean w m s u at_m h n keeps. (
             let mid_clean = clean_before l k is_clean stands rules mid i t t' o.in_use at_mid takes.was_clean all in
             let s_old = shows_old mid_clean w s in
             let q = peer l k is_clean stands rules old name i r o.in_use o.taker_at j p o.named o.peer_at w s_old in
@@ -196,9 +197,9 @@ module _ {S E C : Type 0} (l : Language S E) (k : Closures) (is_clean : C → Ty
               subst (λ (x : Option Member). Moves w.members m (pulling_since x m)) (sym q.1) (pull_moves w.members i j m q.0 s.marks at_m q.4 keeps _ _ kept.1),
             )))
 
-        pub since_refused : (e : Refusal) → TakesAll (host_under k rules) is_clean stands t.1 changes (Some mark) (Err e) t'.1 → Steps l k is_clean stands rules mid (PullSince name) (Refused e) rules (slice_set mid.0 i t', mid.1)
+        pub since_refused : (e : Refusal) → TakesAll (host_under k rules) always is_clean stands t.1 changes (Some mark) (Err e) t'.1 → Steps l k is_clean stands rules mid (PullSince name) (Refused e) rules (slice_set mid.0 i t', mid.1)
         since_refused e takes = used_steps l k is_clean stands rules mid i t t' o.in_use at_mid takes.was_clean (PullSince name) (Refused e)
-            takes.stays_clean (λ w m. m) (λ w. sym (unchanged w)) (λ all clean w m s u at_m h n keeps. (
+            (takes.stays_clean tt) (λ w m. m) (λ w. sym (unchanged w)) (λ all clean w m s u at_m h n keeps. (
             let mid_clean = clean_before l k is_clean stands rules mid i t t' o.in_use at_mid takes.was_clean all in
             let taken = takes.takes clean in (
               since_answered i r o.in_use o.taker_at j p o.named o.peer_at w (Refused e) (shows_old mid_clean w s) (apart _ _ _ (Refused e) o.outside (o.apart (mid_before mid_clean))
@@ -208,7 +209,7 @@ module _ {S E C : Type 0} (l : Language S E) (k : Closures) (is_clean : C → Ty
               moves w.members i m m s.marks at_m keeps (same_grows m.state.holding),
             )))
 
-        pub since_taken : (result : Result (Unit {0}) Refusal) → TakesAll (host_under k rules) is_clean stands t.1 changes (Some mark) result t'.1
+        pub since_taken : (result : Result (Unit {0}) Refusal) → TakesAll (host_under k rules) always is_clean stands t.1 changes (Some mark) result t'.1
             → Steps l k is_clean stands rules old (PullSince name) (reply_of result) rules (slice_set mid.0 i t', mid.1)
         since_taken (Ok u) takes = steps_read is_clean stands old j p p' o.peer_at same_name cleans same l k rules (PullSince name) lasts Done rules _ (since_done takes)
         since_taken (Err e) takes = steps_read is_clean stands old j p p' o.peer_at same_name cleans same l k rules (PullSince name) lasts (Refused e) rules _ (since_refused e takes)

@@ -23,6 +23,7 @@ use Rattle.cr_world.specs.World.{World, Member, Keeps, Closures, host_of, change
 use Rattle.cr_world.specs.Answers as answers
 use Rattle.cr_world.specs.Answers.{Answers, OfUsed, IsDone, Takes, ShowsRows, ShowsChanges, Uses, after, tells_want}
 use Rattle.cr_world.proofs.Keeping.{kept_more, script_stays}
+use Rattle.cr_fleet.proofs.Honest.{always}
 use Rattle.cr_fleet.specs.declared.fleet.Named.{Named}
 use Rattle.cr_fleet.specs.Fleets.{FleetOf, AreClean, Shows, Steps, seen, name_and_state, place_in}
 use Rattle.cr_session.specs.Sessions.{Does, OwnAnswers, RunsScript, SessionOf, own_after, is_own, host_under}
@@ -299,10 +300,10 @@ module _ {S E C : Type 0} (l : Language S E) (k : Closures) (is_clean : C → Ty
           ));
     }
 
-    pub own_steps : (c : Command) (reply : FleetReply) → is_own c ≡ true → r'.0 ≡ r.0 → Does l (host_under k rules) is_clean stands r.1 c reply r'.1 → Steps l k is_clean stands rules old c reply rules new
+    pub own_steps : (c : Command) (reply : FleetReply) → is_own c ≡ true → r'.0 ≡ r.0 → Does l (host_under k rules) always is_clean stands r.1 c reply r'.1 → Steps l k is_clean stands rules old c reply rules new
     own_steps c reply o same d =
-        used_steps c reply d.stays_clean (λ w. own_after l (host_of k w) c reply) (λ w. own_leaves l k w c reply o) (λ all clean w m s u at_m h n keeps. (
-        let e : Does l (host_of k w) is_clean stands r.1 c reply r'.1 = subst (λ (x : Rules). Does l (host_under k x) is_clean stands r.1 c reply r'.1) (sym s.rules) d in (
+        used_steps c reply (d.stays_clean tt) (λ w. own_after l (host_of k w) c reply) (λ w. own_leaves l k w c reply o) (λ all clean w m s u at_m h n keeps. (
+        let e : Does l (host_of k w) always is_clean stands r.1 c reply r'.1 = subst (λ (x : Rules). Does l (host_under k x) always is_clean stands r.1 c reply r'.1) (sym s.rules) d in (
           own_answers l k w c reply m u (subst (λ (st : State). OwnAnswers l (host_of k w) st c reply) (sym h) (e.answers clean)),
           (λ j. ((name_stays l (host_of k w) c reply m ∙ n ∙ sym same) j, e.leaves clean m h j)),
           own_keeps l (host_of k w) c reply m keeps,

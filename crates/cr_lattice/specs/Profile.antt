@@ -47,11 +47,15 @@ is_default_too_long col = is_too_long col.affinity col.default
 abbrev pub is_reserved : List ℕ → Bool
 is_reserved name = (length name == 0) || (starts_with nat_eq name (codes "sqlite_") || starts_with nat_eq name (codes "crsql_"))
 
+-- the most columns of a table
+abbrev pub most_columns : ℕ
+most_columns = 200
+
 -- the rules on a definition, in the order in which a breach is told
 abbrev pub rules_of : TableDef → List (Bool × ProfileFault)
 rules_of def =
     (has_key def, PrimaryKey) ∷ (not (list_any is_collated_key def.columns), Collation) ∷ (not (has_row_cid def), RowCid)
-    ∷ (not (list_any is_default_too_long def.columns), Default) ∷ (nat_le (length def.columns) 100, Columns)
+    ∷ (not (list_any is_default_too_long def.columns), Default) ∷ (nat_le (length def.columns) most_columns, Columns)
     ∷ (nat_le (key_count def) 8, KeyColumns) ∷ (not (is_reserved def.name), Name) ∷ []
 
 -- the first rule that a definition breaks

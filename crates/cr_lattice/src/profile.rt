@@ -16,7 +16,7 @@ use cr_value::packing::SIZE_LIMIT;
 use cr_value::value::Value;
 
 /// The greatest number of columns of a table.
-pub const COLUMN_LIMIT: usize = 100;
+pub const COLUMN_LIMIT: usize = 200;
 
 /// The greatest number of columns of a table's key.
 pub const KEY_COLUMN_LIMIT: usize = 8;
@@ -38,7 +38,7 @@ pub enum ProfileFault {
     RowCid,
     /// A default, after the column's affinity, makes a packed key of over 1,000,000 bytes.
     Default,
-    /// There are over 100 columns.
+    /// There are over 200 columns.
     Columns,
     /// There are over 8 key columns.
     KeyColumns,

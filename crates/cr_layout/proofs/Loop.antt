@@ -2,10 +2,10 @@
 use Rattle.std.proofs.Common.{◌≡◌, ℕ, suc, ◌-◌, ◌+◌, ◌≤◌, ◌<◌, List, [], ◌∷◌, ◌++◌, Option, Some, None, refl, sym, ap, ◌∙◌, append_assoc, arith}
 use Rattle.std.proofs.lemmas.List.{append-nil}
 use Rattle.cr_lattice.specs.declared.table.ColumnDef.{ColumnDef}
-use Rattle.cr_layout.specs.declared.reading.Unread.{Unread}
-use Rattle.cr_layout.specs.declared.reading.Unread.TheVariants as unread
-use Rattle.cr_value.specs.Unpacking.{◌>>=◌}
-use Rattle.cr_layout.specs.Reading.{Fails, column_at, columns_at}
+use Rattle.cr_value.specs.declared.packing.Unread.{Unread}
+use Rattle.cr_value.specs.declared.packing.Unread.TheVariants as unread
+use Rattle.cr_value.specs.Unpacking.{◌>>=◌, Fails}
+use Rattle.cr_layout.specs.Reading.{column_at, columns_at}
 
 -- what was read before, and what is still read
 abbrev pub with_front : List ColumnDef → Option (List ColumnDef × List ℕ) → Option (List ColumnDef × List ℕ)

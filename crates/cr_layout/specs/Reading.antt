@@ -1,5 +1,5 @@
 -- Reading a definition from left to right. Source: this project's own format 1.
-use Rattle.std.specs.Prelude.{◌≡◌, ℕ, zero, suc, Bool, true, false, List, [], ◌∷◌, length, Option, Some, None, Result, Ok, Err, ◌==◌, if◌then◌else◌}
+use Rattle.std.specs.Prelude.{ℕ, zero, suc, Bool, true, false, List, [], ◌∷◌, length, Option, Some, None, ◌==◌, if◌then◌else◌}
 use Rattle.std.specs.Str.{is_utf8}
 use Rattle.cr_value.specs.declared.affinity.Affinity.{Affinity}
 use Rattle.cr_value.specs.declared.affinity.Affinity.TheVariants.{Integer, Text, Blob, Numeric}
@@ -8,17 +8,6 @@ use Rattle.cr_value.specs.declared.value.Value.TheVariants.{Null}
 use Rattle.cr_value.specs.Unpacking.{◌>>=◌, sized_at, unpacked}
 use Rattle.cr_lattice.specs.declared.table.ColumnDef.{ColumnDef}
 use Rattle.cr_lattice.specs.declared.table.TableDef.{TableDef}
-use Rattle.cr_layout.specs.declared.reading.Unread.{Unread}
-use Rattle.cr_layout.specs.declared.reading.Unread.TheVariants as unread
-
--- What a function returned, seen by view, is what reading gives, unless memory ran out.
-abbrev pub Fails : {Y : Type 0} → Unread → Option Y → Type 0
-Fails unread.Memory read = Unit {0}
-Fails unread.Malformed read = read ≡ None
-
-abbrev pub Gives : {X Y : Type 0} → (X → Y) → Result X Unread → Option Y → Type 0
-Gives view (Ok x) read = read ≡ Some (view x)
-Gives view (Err e) read = Fails e read
 
 -- a text in UTF-8
 unfoldable pub name_at : List ℕ → Option (List ℕ × List ℕ)

@@ -1,71 +1,18 @@
 //! Reading a table's definition from its bytes.
 
 ghost use Rattle.std.specs.Prelude.{◌≡◌, IfOk, IfSome, IfNone};
-ghost use Rattle.std.specs.Int.{w32};
-ghost use Rattle.cr_value.specs.Unpacking.{number_at, sized_at};
+ghost use Rattle.cr_value.specs.Unpacking.{Gives};
 ghost use Rattle.cr_lattice.specs.declared.table.TableDef.{TableDef};
 ghost use Rattle.cr_layout.specs.Written.{Spells};
-ghost use Rattle.cr_layout.specs.Reading.{Gives, name_at, affinity_at, not_null_at, key_at, only, default_of, default_at};
+ghost use Rattle.cr_layout.specs.Reading.{name_at, affinity_at, not_null_at, key_at, only, default_of, default_at};
 ghost use Rattle.cr_layout.specs.Reading.{column_at, columns_at, columns_of, definition_of};
 
 use cr_lattice::table::{ColumnDef, Items, TableDef};
 use cr_value::affinity::Affinity;
-use cr_value::packing::unpack;
+use cr_value::packing::{Unread, sized_at, unpack};
 use cr_value::text::Text;
 use cr_value::value::Value;
-use std::alloc::{AllocError, AllocFailed, Global};
-
-// Why bytes could not be read.
-#[derive(Debug, Drop)]
-pub(crate) enum Unread {
-    Memory,
-    Malformed,
-}
-
-impl From<AllocError> for Unread {
-    ghost use Rattle.std.specs.Prelude.{◌≡◌};
-    ghost use Rattle.cr_layout.specs.declared.reading.Unread.TheVariants.{Memory};
-
-    ghost from_gives = { λ _ e. e ≡ Memory };
-
-    fn from(_e: AllocError) -> Unread {
-        Unread::Memory
-    }
-}
-
-impl<T: Drop> From<AllocFailed<T>> for Unread {
-    ghost use Rattle.std.specs.Prelude.{◌≡◌};
-    ghost use Rattle.cr_layout.specs.declared.reading.Unread.TheVariants.{Memory};
-
-    ghost from_gives = { λ _ e. e ≡ Memory };
-
-    fn from(_e: AllocFailed<T>) -> Unread {
-        Unread::Memory
-    }
-}
-
-fn u32_at(bytes: &[u8]) -> Result<(u32, &[u8]), Unread>
-    ensures { Gives (λ x. (x.0, x.1.now)) result (number_at w32 bytes.now) }
-{
-    if bytes.len() < 4 {
-        return Err(Unread::Malformed);
-    }
-    let (front, rest) = bytes.split_at(4);
-    let number = u32::from_be_bytes([front[0], front[1], front[2], front[3]]);
-    Ok((number, rest))
-}
-
-#[tactic(auto, unfolding(cr_value::specs::Unpacking::sized_at))]
-fn sized_at(bytes: &[u8]) -> Result<(&[u8], &[u8]), Unread>
-    ensures { Gives (λ x. (x.0.now, x.1.now)) result (sized_at bytes.now) }
-{
-    let (len, rest) = u32_at(bytes)?;
-    let len = len as usize;
-    if rest.len() < len {
-        return Err(Unread::Malformed);
-    }
-    Ok(rest.split_at(len))
-}
+use std::alloc::{AllocError, Global};
 
 #[tactic(auto, using(cr_value::proofs::Texts::utf8_tests), unfolding(crate::specs::Reading::name_at))]
 fn name_at(alloc: Global, bytes: &[u8]) -> Result<(Text, &[u8]), Unread>

@@ -2,7 +2,7 @@
 use Rattle.std.proofs.Common.{◌≡◌, ◌≢◌, ℕ, true, false, List, ◌++◌, Result, Ok, Err, refl, sym, ap, subst, ◌∙◌, Ordering, Less, Equal, Greater}
 use Rattle.std.proofs.lemmas.Cmp.{tied_itself}
 use Rattle.cr_value.specs.OrderLaws.{bytes_total, bytes_exact}
-use Rattle.std.specs.Prelude.{OnOk, IfOk}
+use Rattle.std.specs.Prelude.{IfOk}
 use Rattle.std.specs.Ordering.{is_eq}
 use Rattle.cr_value.specs.Order.{bytes_cmp}
 use Rattle.cr_lattice.specs.declared.change.Change.{Change}

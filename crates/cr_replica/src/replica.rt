@@ -1,7 +1,9 @@
 //! A replica without SQL.
 
-ghost use Rattle.std.specs.Prelude.{◌≡◌, IfOk};
+ghost use Rattle.std.specs.Prelude.{◌≡◌, ◌++◌, IfOk, OnOk};
+ghost use Rattle.cr_cells.specs.Calls.{Reads, is_want, UnlessWant};
 ghost use Rattle.cr_cells.specs.Holding.{changes_of};
+ghost use Rattle.cr_replica.specs.Snapshots.{changes_of_keys};
 
 use crate::definition::{DefineError, accept};
 use crate::snapshot::{Snapshot, are_in_profile, copied_changes};
@@ -18,6 +20,7 @@ use cr_lattice::rows::rows;
 use cr_lattice::stamped::Stamped;
 use cr_lattice::table::{ColumnDef, Items, Row, TableDef};
 use cr_value::order::same_bytes;
+use cr_value::text::Bytes;
 use std::alloc::{AllocError, Global};
 use std::marker::Model;
 
@@ -96,6 +99,40 @@ fn changes_of(alloc: Global, cells: Vec<Stamped>) -> Result<Vec<Change>, AllocEr
     cells.into_iter().map(|cell| cell.change).collect(alloc)
 }
 
+// Adds the changes of one row's cells.
+fn push_changes(
+    alloc: Global,
+    changes: &mut Vec<Change>,
+    cells: Vec<Stamped>,
+) -> Result<(), AllocError>
+    ensures { OnOk result (changes.new.items ≡ changes.old.items ++ changes_of cells.items) }
+{
+    let mut more = changes_of(alloc, cells)?;
+    changes.append(&mut more)?;
+    Ok(())
+}
+
+// The changes of the cells of each key.
+fn changes_of_keys<C: Cells>(
+    alloc: Global,
+    cells: &mut C,
+    table: &str,
+    keys: &[Bytes],
+) -> Result<Vec<Change>, CellsError>
+    ensures was_honest { C.is_honest cells.new → C.is_honest cells.old }
+    ensures was_clean { C.is_clean cells.new → C.is_clean cells.old }
+    ensures stays_clean { C.is_honest cells.new → C.is_clean cells.old → UnlessWant is_want result (C.is_clean cells.new) }
+    ensures reads { C.is_clean cells.new → Reads (C.holding cells.old) (C.holding cells.new) result
+        (λ changes. changes.items ≡ changes_of_keys (C.holding cells.old) table.now keys.now) }
+{
+    let mut changes = Vec::new(alloc);
+    for key in keys {
+        let row = cells.cells_of(alloc, table, key.as_slice())?;
+        push_changes(alloc, &mut changes, row)?;
+    }
+    Ok(changes)
+}
+
 /// What a replica hands to one that pulls from it.
 #[derive(Debug, Drop)]
 pub struct Offer {
@@ -141,7 +178,8 @@ impl<C: Cells> Replica<C> {
     ghost use Rattle.cr_replica.specs.declared.replica.TakeError.TheVariants.{SameSite};
     ghost use Rattle.cr_replica.specs.Taking.{Stands, IsReady, Prepares, PreparesPull, CommitsAll, IsOffer};
     ghost use Rattle.cr_replica.specs.Showing.{Shows};
-    ghost use Rattle.cr_replica.specs.Snapshots.{IsSnapshot, IsWhole};
+    ghost use Rattle.cr_lattice.specs.Keep.{keep};
+    ghost use Rattle.cr_replica.specs.Snapshots.{HasNamesOf, HasCellsOf, IsOfNames, IsWhole, kept_of_keys};
 
     /// A replica over the store, which may hold something already.
     pub fn new(cells: C) -> Replica<C>
@@ -377,16 +415,17 @@ impl<C: Cells> Replica<C> {
         Ok(Items::new(rows))
     }
 
-    /// What the replica holds, for statements that are answered without asking its store again.
+    /// What the replica holds but for its cells, which a snapshot of names leaves out: enough for a statement that looks at no
+    /// row.
     ///
     /// # Errors
     /// `Memory`, or `Store(Refused)`, as where the store gives a table that it would not have taken.
-    pub fn snapshot(&mut self, alloc: Global) -> Result<Snapshot, CellsError>
+    pub fn names(&mut self, alloc: Global) -> Result<Snapshot, CellsError>
         ensures was_honest { C.is_honest self.new → C.is_honest self.old }
         ensures was_clean { C.is_clean self.new → C.is_clean self.old }
         ensures stays_clean { C.is_honest self.new → C.is_clean self.old → UnlessWant is_want result (C.is_clean self.new) }
         ensures sound { C.is_clean self.new → IsSound (C.holding self.new) }
-        ensures reads { C.is_clean self.new → Reads (C.holding self.old) (C.holding self.new) result (IsSnapshot (C.holding self.old)) }
+        ensures reads { C.is_clean self.new → Reads (C.holding self.old) (C.holding self.new) result (HasNamesOf (C.holding self.old)) }
         ensures whole { IfOk result IsWhole }
     {
         let tables = match self.cells.tables(alloc) {
@@ -396,19 +435,67 @@ impl<C: Cells> Replica<C> {
         if !are_in_profile(&tables) {
             return Err(CellsError::Store(StoreFault::Refused));
         }
+        Ok(Snapshot {
+            tables: Items::new(tables),
+            site: self.cells.site(),
+            version: self.cells.db_version(),
+            cells: Items::new(Vec::new(alloc)),
+            kept: Items::new(Vec::new(alloc)),
+        })
+    }
+
+    /// A snapshot of names with the cells that the replica holds, for statements that are answered without asking its store
+    /// again.
+    ///
+    /// # Errors
+    /// `Memory`, or `Store(Refused)`.
+    pub fn complete(&mut self, alloc: Global, names: Snapshot) -> Result<Snapshot, CellsError>
+        ensures was_honest { C.is_honest self.new → C.is_honest self.old }
+        ensures was_clean { C.is_clean self.new → C.is_clean self.old }
+        ensures stays_clean { C.is_honest self.new → C.is_clean self.old → UnlessWant is_want result (C.is_clean self.new) }
+        ensures sound { C.is_clean self.new → IsSound (C.holding self.new) }
+        ensures reads { C.is_clean self.new → Reads (C.holding self.old) (C.holding self.new) result (HasCellsOf (C.holding self.old)) }
+        ensures names { IfOk result (IsOfNames names) }
+        ensures kept { IfOk result (λ snapshot. keep snapshot.kept ≡ snapshot.kept) }
+    {
         let cells = match self.cells.since(alloc, 0) {
             Ok(cells) => cells,
             Err(error) => return Err(error),
         };
         let changes = copied_changes(alloc, &cells)?;
         let kept = merge(alloc, &changes, &[])?;
+        let site = names.site;
         Ok(Snapshot {
-            tables: Items::new(tables),
-            site: self.cells.site(),
-            version: self.cells.db_version(),
+            tables: names.tables,
+            site,
+            version: names.version,
             cells: Items::new(cells),
             kept: Items::new(kept),
         })
+    }
+
+    /// What is kept of some keys of a table, in the order of changes. Reads the cells of these keys and no others.
+    ///
+    /// # Errors
+    /// `Memory`, or `Store(Refused)`.
+    pub fn kept_of_keys(
+        &mut self,
+        alloc: Global,
+        table: &str,
+        keys: &[Bytes],
+    ) -> Result<Vec<Change>, CellsError>
+        ensures was_honest { C.is_honest self.new → C.is_honest self.old }
+        ensures was_clean { C.is_clean self.new → C.is_clean self.old }
+        ensures stays_clean { C.is_honest self.new → C.is_clean self.old → UnlessWant is_want result (C.is_clean self.new) }
+        ensures reads { C.is_clean self.new → Reads (C.holding self.old) (C.holding self.new) result
+            (λ kept. kept.items ≡ kept_of_keys (C.holding self.old) table.now keys.now) }
+        ensures kept { IfOk result (λ kept. keep kept.items ≡ kept.items) }
+    {
+        let changes = match changes_of_keys(alloc, &mut self.cells, table, keys) {
+            Ok(changes) => changes,
+            Err(error) => return Err(error),
+        };
+        Ok(merge(alloc, &changes, &[])?)
     }
 
     /// The kept changes that are stamped above a version, by version, then by place.

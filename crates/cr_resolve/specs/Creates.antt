@@ -11,7 +11,7 @@ use Rattle.cr_value.specs.Affinity.{affinity_of_type, applied}
 use Rattle.cr_lattice.specs.declared.table.ColumnDef.{ColumnDef}
 use Rattle.cr_lattice.specs.declared.table.TableDef.{TableDef}
 use Rattle.cr_lattice.specs.Check.{is_key_column}
-use Rattle.cr_lattice.specs.Profile.{is_collated_key, is_named_row, is_default_too_long, is_reserved}
+use Rattle.cr_lattice.specs.Profile.{is_collated_key, is_named_row, is_default_too_long, is_reserved, most_columns}
 use Rattle.cr_tree.specs.declared.statement.Constraint.{Constraint}
 use Rattle.cr_tree.specs.declared.statement.Constraint.TheVariants as has
 use Rattle.cr_tree.specs.declared.statement.Column.{Column}
@@ -104,10 +104,6 @@ out_of_profile c def =
     ++ when (list_any is_collated_key def.columns) (OutOfProfile outside.Collate)
     ++ when (list_any is_named_row def.columns) (OutOfProfile outside.RowCid)
     ++ when (list_any is_default_too_long def.columns) (OutOfProfile outside.Default)
-
--- the most columns of a table
-abbrev pub most_columns : ℕ
-most_columns = 100
 
 -- a list of key columns counts as it is written
 abbrev pub over_limits : CreateTree → TableDef → List Refusal

@@ -24,7 +24,7 @@ use Rattle.cr_cells.specs.Calls as calls
 use Rattle.cr_cells.specs.Holding.{Holding}
 use Rattle.cr_lattice.specs.declared.change.Change.{Change}
 use Rattle.cr_replica.specs.declared.snapshot.Snapshot.{Snapshot}
-use Rattle.cr_snapshot.specs.Seen.{IsSeen}
+use Rattle.cr_snapshot.specs.Seen.{IsNamed}
 use Rattle.cr_snapshot.proofs.Standing.{catalog_is}
 use Rattle.cr_world.specs.declared.command.Reply.{Reply}
 use Rattle.cr_world.specs.declared.refusal.Refusal.{Refusal}
@@ -42,7 +42,7 @@ use Rattle.cr_answer.specs.Allowing.{Allows, IsRefused, known_by}
 use Rattle.cr_resolve.specs.declared.refusal.Refusal.{Refusal as Unresolved}
 use Rattle.cr_world.specs.Refusals.{is_want, of_store}
 use Rattle.cr_session.specs.Performing.{Performs, Performed, Permits, against, is_commit, is_performed, is_transaction, refused}
-use Rattle.cr_session.specs.Sessions.{Sees, SessionOf, clean, standing, state_of}
+use Rattle.cr_session.specs.Sessions.{Names, SessionOf, clean, honest, standing, state_of}
 use Rattle.cr_session.proofs.Takings.{want_of_store, wanting}
 use Rattle.cr_session.specs.Scripts.{Carries}
 use Rattle.cr_session.specs.Speaking.{spoken}
@@ -220,7 +220,7 @@ module _ (l : Language Statement Ordered) (means : Means) (params : List Value) 
   replies_performed (Err g) new p = ((subst (λ (c : Cause). IsWant g ⊎ Tells c g) (sym against_is) p.0, refl), ends_so g ∙ sym p.1)
 
 module _ {C : Type 0} (function_of : List ℕ → ℕ → Option Definition) (scalar : ℕ → List Value → Result Value (List ℕ)) (step : ℕ → Value → List Value → Result Value (List ℕ)) (finish : ℕ → Value → Result Value (List ℕ))
-    (order_of : OrderOf) (total : AreTotal order_of) (has named : List ℕ → Bool) (names : has ≡ named) (under : Host) (is_clean : C → Type 0) (holding : C → Holding) (params : List Value) where
+    (order_of : OrderOf) (total : AreTotal order_of) (has named : List ℕ → Bool) (names : has ≡ named) (under : Host) (is_honest is_clean : C → Type 0) (holding : C → Holding) (params : List Value) where
   abbrev language : Language Statement Ordered
   language = spoken function_of scalar step finish order_of total has
 
@@ -234,7 +234,7 @@ module _ {C : Type 0} (function_of : List ℕ → ℕ → Option Definition) (sc
   resolved_by x c f = viewed (resolved (known_at c f) under.ask x)
 
   abbrev Does : SessionOf C → Statement → Result Reply Refusal → SessionOf C → Type 0
-  Does old x result new = Carries language under (clean is_clean) (standing holding) old params x result new
+  Does old x result new = Carries language under (honest is_honest) (clean is_clean) (standing holding) old params x result new
 
   -- over the snapshot the statement is what it is in the session
   abbrev pub Agrees : State → Snapshot → Statement → Type 0
@@ -245,7 +245,7 @@ module _ {C : Type 0} (function_of : List ℕ → ℕ → Option Definition) (sc
   resolved_so c x = refl
 
   -- as the snapshot's catalog is the session's
-  resolves : (st : State) (snap : Snapshot) (x : Statement) → IsSeen st snap → Agrees st snap x
+  resolves : (st : State) (snap : Snapshot) (x : Statement) → IsNamed st snap → Agrees st snap x
   resolves st snap x is = resolved_so (catalog st) x ∙ (λ i. resolved_by x (catalog_is st snap is i) (names i))
 
   -- or it names nothing
@@ -287,27 +287,28 @@ module _ {C : Type 0} (function_of : List ℕ → ℕ → Option Definition) (sc
 
   -- a statement that may not be carried out is refused, and nothing is changed
   refused_so : (old new : SessionOf C) (x : Statement) (snap : Snapshot) (f : Refusal)
-      → (is_clean new.0 → is_clean old.0) → (is_clean old.0 → is_clean new.0) → (is_clean new.0 → Agrees (standing holding old) snap x) → (is_clean new.0 → standing holding new ≡ standing holding old)
+      → (is_honest new.0 → is_honest old.0) → (is_clean new.0 → is_clean old.0) → (is_honest new.0 → is_clean old.0 → is_clean new.0) → (is_clean new.0 → Agrees (standing holding old) snap x) → (is_clean new.0 → standing holding new ≡ standing holding old)
       → Allows (known_by function_of named order_of snap) under.ask x (length params) (Err f) → Does old x (Err f) new
-  refused_so old new x snap f was stays agrees same h = record {
+  refused_so old new x snap f honest_was was stays agrees same h = record {
+    was_honest = honest_was;
     was_clean = was;
-    stays_clean = λ clean told. stays clean;
+    stays_clean = λ honest clean told. stays honest clean;
     answers = λ clean. (refused_told (holding old.0) old.1 snap x f (agrees clean) h).0;
     leaves = λ clean. (refused_told (holding old.0) old.1 snap x f (agrees clean) h).1 ∙ sym (same clean);
   }
 
   pub refuses_allowed : (old new : SessionOf C) (x : Statement) (snap : Snapshot) (f : Refusal)
-      → (is_clean new.0 → is_clean old.0) → (is_clean old.0 → is_clean new.0) → (is_clean new.0 → Sees (standing holding old) (standing holding new) (Ok snap))
+      → (is_honest new.0 → is_honest old.0) → (is_clean new.0 → is_clean old.0) → (is_honest new.0 → is_clean old.0 → is_clean new.0) → (is_clean new.0 → Names (standing holding old) (standing holding new) (Ok snap))
       → Allows (known_by function_of named order_of snap) under.ask x (length params) (Err f) → Does old x (Err f) new
-  refuses_allowed old new x snap f was stays sees h =
-      refused_so old new x snap f was stays (λ clean. resolves (standing holding old) snap x (sees clean).sees) (λ clean. (sees clean).same) h
+  refuses_allowed old new x snap f honest_was was stays reads h =
+      refused_so old new x snap f honest_was was stays (λ clean. resolves (standing holding old) snap x (reads clean).names) (λ clean. (reads clean).same) h
 
   pub refuses_permitted : (old : SessionOf C) (x : Statement) (snap : Snapshot) (f : Refusal) → is_transaction x ≡ true
       → Allows (known_by function_of named order_of snap) under.ask x (length params) (Err f) → Does old x (Err f) old
   refuses_permitted old x snap f of h =
-      refused_so old old x snap f (λ clean. clean) (λ clean. clean) (λ clean. transacts (standing holding old) snap x of) (λ clean. refl) h
+      refused_so old old x snap f (λ honest. honest) (λ clean. clean) (λ honest clean. clean) (λ clean. transacts (standing holding old) snap x of) (λ clean. refl) h
 
-  -- ---- what is seen can't be read
+  -- ---- its names can't be read
 
   last_by : (here : State) (x : Statement) → is_transaction x ≡ false → (o : Result Answered Unresolved) → resolved (known_at (catalog here) has) under.ask x ≡ o
       → statement.is_commit language under here params (result_ok (viewed o)) ≡ false
@@ -321,38 +322,40 @@ module _ {C : Type 0} (function_of : List ℕ → ℕ → Option Definition) (sc
       ∙ last_by (state_of h pending) x other (resolved (known_at (catalog (state_of h pending)) has) under.ask x) refl)
 
   pub unread_refuses : (old new : SessionOf C) (x : Statement) (e : CellsError) (f : Refusal) → f ≡ of_store e → is_transaction x ≡ false
-      → (is_clean new.0 → is_clean old.0) → (is_clean old.0 → calls.is_want e ≡ false → is_clean new.0) → (is_clean new.0 → Sees (standing holding old) (standing holding new) (Err e)) → Does old x (Err f) new
-  unread_refuses old new x e f told other was stays sees = record {
+      → (is_honest new.0 → is_honest old.0) → (is_clean new.0 → is_clean old.0) → (is_honest new.0 → is_clean old.0 → calls.is_want e ≡ false → is_clean new.0) → (is_clean new.0 → Names (standing holding old) (standing holding new) (Err e)) → Does old x (Err f) new
+  unread_refuses old new x e f told other honest_was was stays reads = record {
+    was_honest = honest_was;
     was_clean = was;
-    stays_clean = λ clean want. stays clean (sym (want_of_store e) ∙ ap is_want (sym told) ∙ want);
+    stays_clean = λ honest clean want. stays honest clean (sym (want_of_store e) ∙ ap is_want (sym told) ∙ want);
     answers = λ clean. (replied clean).0;
-    leaves = λ clean. (replied clean).1 ∙ sym (sees clean).same;
+    leaves = λ clean. (replied clean).1 ∙ sym (reads clean).same;
   } where
     replied : is_clean new.0 → Replies language under (holding old.0) old.1 params x (Err f) (standing holding old)
-    replied clean = refused_for language under (holding old.0) old.1 params x f (lasts (holding old.0) old.1 x other) (inl (subst IsWant (sym told) (wanting e (sees clean).sees)))
+    replied clean = refused_for language under (holding old.0) old.1 params x f (lasts (holding old.0) old.1 x other) (inl (subst IsWant (sym told) (wanting e (reads clean).names)))
 
   -- ---- it is carried out as what it is once its names are resolved
 
   module _ (old middle new : SessionOf C) (x : Statement) (snap : Snapshot) (y : Answered) (result : Result Reply Refusal)
-      (sees : is_clean middle.0 → Sees (standing holding old) (standing holding middle) (Ok snap))
-      (allows : Allows (known_by function_of named order_of snap) under.ask x (length params) (Ok y)) (done : Performed means params under (clean is_clean) (standing holding) middle y result new) where
+      (reads : is_clean middle.0 → Names (standing holding old) (standing holding middle) (Ok snap))
+      (allows : Allows (known_by function_of named order_of snap) under.ask x (length params) (Ok y)) (done : Performed means params under (honest is_honest) (clean is_clean) (standing holding) middle y result new) where
     replied : is_clean new.0 → Replies language under (holding old.0) old.1 params x result (standing holding new)
     replied clean =
-        let first = sees (done.was_clean clean) in
-        replies_performed language means params under (holding old.0) old.1 x y (resolves (standing holding old) snap x first.sees ∙ ap viewed allows.0) (counts x ∙ allows.1) exactly limited
+        let first = reads (done.was_clean clean) in
+        replies_performed language means params under (holding old.0) old.1 x y (resolves (standing holding old) snap x first.names ∙ ap viewed allows.0) (counts x ∙ allows.1) exactly limited
         result (standing holding new) (subst (λ (st : State). Performs means params under st (view y) result (standing holding new)) first.same (done.performs clean))
 
-    pub carries_performed : (is_clean middle.0 → is_clean old.0) → (is_clean old.0 → is_clean middle.0) → Does old x result new
-    carries_performed was stays = record {
+    pub carries_performed : (is_honest middle.0 → is_honest old.0) → (is_clean middle.0 → is_clean old.0) → (is_honest middle.0 → is_clean old.0 → is_clean middle.0) → Does old x result new
+    carries_performed honest_was was stays = record {
+      was_honest = λ honest. honest_was (done.was_honest honest);
       was_clean = λ clean. was (done.was_clean clean);
-      stays_clean = λ clean. done.stays_clean (stays clean);
+      stays_clean = λ honest clean. done.stays_clean honest (stays (done.was_honest honest) clean);
       answers = λ clean. (replied clean).0;
       leaves = λ clean. (replied clean).1;
     }
 
   -- a statement that opens or ends a transaction
   module _ (old new : SessionOf C) (x : Statement) (snap : Snapshot) (z : Answered) (result : Result Reply Refusal) (of : is_transaction x ≡ true)
-      (is : (answers : Questioned) (known : Known) → left_of answers (read known x).made ≡ z) (done : Performed means params under (clean is_clean) (standing holding) old z result new) where
+      (is : (answers : Questioned) (known : Known) → left_of answers (read known x).made ≡ z) (done : Performed means params under (honest is_honest) (clean is_clean) (standing holding) old z result new) where
     transacted : Permits (known_by function_of named order_of snap) under.ask x (length params) (Ok tt) → is_clean new.0 → Replies language under (holding old.0) old.1 params x result (standing holding new)
     transacted permits clean =
         let y : Answered = permits.0 in
@@ -362,6 +365,7 @@ module _ {C : Type 0} (function_of : List ℕ → ℕ → Option Definition) (sc
 
     pub carries_transacted : Permits (known_by function_of named order_of snap) under.ask x (length params) (Ok tt) → Does old x result new
     carries_transacted permits = record {
+      was_honest = done.was_honest;
       was_clean = done.was_clean;
       stays_clean = done.stays_clean;
       answers = λ clean. (transacted permits clean).0;

@@ -35,7 +35,8 @@ use Rattle.cr_taken.proofs.Refined.{insert_refines, update_refines, delete_refin
 use Rattle.cr_exec.specs.Answers.{Stage}
 use Rattle.cr_replica.specs.declared.snapshot.Snapshot.{Snapshot}
 use Rattle.cr_replica.specs.Snapshots.{IsWhole, is_in_profile}
-use Rattle.cr_snapshot.specs.Seen.{IsSeen, catalog_of}
+use Rattle.cr_snapshot.specs.Seen.{IsNamed, IsSeen, catalog_of}
+use Rattle.cr_snapshot.proofs.Standing.{named}
 use Rattle.cr_language.specs.Sql.{view}
 use Rattle.cr_world.specs.declared.command.Reply.{Reply}
 use Rattle.cr_world.specs.declared.refusal.Refusal.{Refusal}
@@ -47,7 +48,7 @@ use Rattle.cr_world.specs.Statement.{Host}
 use Rattle.cr_fit.specs.Suited.{HasHeld, HasRelation}
 use Rattle.cr_changed.specs.Changed.{Leads, IsRefused, insert_wants, update_wants, delete_wants}
 use Rattle.cr_session.specs.Performing.{Adds, AreAdded, Performed, Performs, is_table, not_replicated, unreplicated}
-use Rattle.cr_session.specs.Sessions.{SessionOf, clean, standing}
+use Rattle.cr_session.specs.Sessions.{SessionOf, clean, honest, standing}
 use Rattle.cr_session.proofs.Making.{target_is, untouched}
 use Rattle.cr_session.proofs.Changing.{Replicated, insert_write, update_write, delete_write, performs_write, refuses_write}
 
@@ -98,7 +99,7 @@ has_key_there snap d whole e =
 
 -- ---- what is seen of a session
 
-pub replicated_seen : (st : State) (snap : Snapshot) (d : TableDef) → IsSeen st snap → find (is_named d.name) snap.tables ≡ Some (record { definition = d; is_replicated = true }) → Replicated st d
+pub replicated_seen : (st : State) (snap : Snapshot) (d : TableDef) → IsNamed st snap → find (is_named d.name) snap.tables ≡ Some (record { definition = d; is_replicated = true }) → Replicated st d
 replicated_seen st snap d is e = subst (λ (ts : List Table). find (is_named d.name) ts ≡ Some (record { definition = d; is_replicated = true })) is.tables e
 
 module _ (means : Means) (params : List Value) (st : State) (snap : Snapshot) (is : IsSeen st snap) (def : TableDef) (g : List Row → Stage (List Row)) where
@@ -135,55 +136,64 @@ update_view u e = λ j. world.Update (target_is u.relation e j) (update u)
 delete_view : (d : Delete) → is_table d.relation.held ≡ true → view (r.Delete d) ≡ world.Delete (world.Table d.relation.definition) (delete d)
 delete_view d e = λ j. world.Delete (target_is d.relation e j) (delete d)
 
--- ---- of a session
+-- ---- INSERT of a session
 
-module _ {C : Type 0} (means : Means) (params : List Value) (host : Host) (is_clean : C → Type 0) (holding : C → Holding) (old : SessionOf C) (snap : Snapshot) (seen : is_clean old.0 → IsSeen (standing holding old) snap) where
+module _ {C : Type 0} (means : Means) (params : List Value) (host : Host) (is_honest is_clean : C → Type 0) (holding : C → Holding) (old : SessionOf C) (names : Snapshot) (named : is_clean old.0 → IsNamed (standing holding old) names)
+    (i : Insert) (has : HasRelation (catalog_of names) i.relation) (e : is_table i.relation.held ≡ true) (yet : not_replicated i.relation ≡ Free) (used : i.is_ignored ≡ false) where
+  abbrev stands : State
+  stands = standing holding old
+
+  abbrev def : TableDef
+  def = i.relation.definition
+
+  abbrev inserting : Bool → queries.Insert Ordered
+  inserting b = record { places = (insert i).places; tuples = (insert i).tuples; is_ignored = b }
+
+  pub held_there : is_clean old.0 → Replicated stands def
+  held_there clean = replicated_seen stands names def (named clean) (replicated_there names i.relation has e yet)
+
+  -- the rows can't be inserted
+  pub insert_refused_rows : (f : Refusal) → (is_clean old.0 → IsRefused means params def stands.holding.site (now stands) (insert_wants (now stands) i) f)
+      → Performed means params host (honest is_honest) (clean is_clean) (standing holding) old (r.Insert i) (Err f) old
+  insert_refused_rows f l = untouched means params host (honest is_honest) (clean is_clean) (standing holding) old (r.Insert i) (Err f) (λ clean.
+      subst (λ (x : Resolved Ordered). Performs means params host stands x (Err f) stands) (sym (insert_view i false e used))
+      (refuses_write means params host stands def _ _ (insert_write host (holding old.0) old.1 def (insert i).places (insert i).tuples) (held_there clean) f (insert_gains means params (rows (now stands) def) def.columns (inserting false))
+      (subst (λ (b : Bool). IsRefused means params def stands.holding.site (now stands) (λ m. wanted_by_insert m def.columns (inserting b) (rows (now stands) def)) f) used (l clean))))
+
+  pub inserts : (new : SessionOf C) (changes : List Change) (result : Result Reply Refusal) → (is_clean old.0 → Leads means params def stands.holding.site (now stands) (insert_wants (now stands) i) changes)
+      → Adds host (honest is_honest) (clean is_clean) (standing holding) old changes result new → Performed means params host (honest is_honest) (clean is_clean) (standing holding) old (r.Insert i) result new
+  inserts new changes result l c = record {
+    was_honest = c.was_honest;
+    was_clean = c.was_clean;
+    stays_clean = c.stays_clean;
+    performs = λ clean. (
+        let before = c.was_clean clean in
+        subst (λ (x : Resolved Ordered). Performs means params host stands x result (standing holding new)) (sym (insert_view i false e used))
+        (performs_write means params host stands def _ _ (insert_write host (holding old.0) old.1 def (insert i).places (insert i).tuples) (held_there before) changes result (standing holding new)
+        (subst (λ (b : Bool). Leads means params def stands.holding.site (now stands) (λ m. wanted_by_insert m def.columns (inserting b) (rows (now stands) def)) changes) used (l before)) (c.adds clean)));
+  }
+
+-- ---- UPDATE and DELETE of a session
+
+module _ {C : Type 0} (means : Means) (params : List Value) (host : Host) (is_honest is_clean : C → Type 0) (holding : C → Holding) (old : SessionOf C) (snap : Snapshot) (seen : is_clean old.0 → IsSeen (standing holding old) snap) where
   abbrev here : State
   here = standing holding old
 
   abbrev Does : Answered → Result Reply Refusal → SessionOf C → Type 0
-  Does x result new = Performed means params host (clean is_clean) (standing holding) old x result new
+  Does x result new = Performed means params host (honest is_honest) (clean is_clean) (standing holding) old x result new
 
   abbrev Added : List Change → Result Reply Refusal → SessionOf C → Type 0
-  Added changes result new = Adds host (clean is_clean) (standing holding) old changes result new
+  Added changes result new = Adds host (honest is_honest) (clean is_clean) (standing holding) old changes result new
 
   -- a write whose changes are added
   added_as : (new : SessionOf C) (x : Answered) (changes : List Change) (result : Result Reply Refusal) → Added changes result new
       → (is_clean old.0 → AreAdded host here changes result (standing holding new) → Performs means params host here (view x) result (standing holding new)) → Does x result new
   added_as new x changes result c p = record {
+    was_honest = c.was_honest;
     was_clean = c.was_clean;
     stays_clean = c.stays_clean;
     performs = λ clean. p (c.was_clean clean) (c.adds clean);
   }
-
-  -- ---- INSERT
-
-  module _ (i : Insert) (has : HasRelation (catalog_of snap) i.relation) (e : is_table i.relation.held ≡ true) where
-    abbrev def : TableDef
-    def = i.relation.definition
-
-    abbrev inserting : Bool → queries.Insert Ordered
-    inserting b = record { places = (insert i).places; tuples = (insert i).tuples; is_ignored = b }
-
-    module _ (yet : not_replicated i.relation ≡ Free) where
-      held_there : is_clean old.0 → Replicated here def
-      held_there clean = replicated_seen here snap def (seen clean) (replicated_there snap i.relation has e yet)
-
-      -- the rows can't be inserted
-      pub insert_refused_rows : (f : Refusal) → i.is_ignored ≡ false → IsRefused means params def snap.site snap.kept (insert_wants snap i) f → Does (r.Insert i) (Err f) old
-      insert_refused_rows f ig l = untouched means params host (clean is_clean) (standing holding) old (r.Insert i) (Err f) (λ clean.
-          subst (λ (x : Resolved Ordered). Performs means params host here x (Err f) here) (sym (insert_view i false e ig))
-          (refuses_write means params host here def _ _ (insert_write host (holding old.0) old.1 def (insert i).places (insert i).tuples) (held_there clean) f (insert_gains means params (rows (now here) def) def.columns (inserting false))
-          (refused_there means params here snap (seen clean) def (λ shown m. wanted_by_insert m def.columns (inserting false) shown) f
-          (subst (λ (b : Bool). IsRefused means params def snap.site snap.kept (λ m. wanted_by_insert m def.columns (inserting b) (rows snap.kept def)) f) ig l))))
-
-      pub inserts : (new : SessionOf C) (changes : List Change) (result : Result Reply Refusal) → i.is_ignored ≡ false → Leads means params def snap.site snap.kept (insert_wants snap i) changes
-          → Added changes result new → Does (r.Insert i) result new
-      inserts new changes result ig l c = added_as new (r.Insert i) changes result c (λ clean a.
-          subst (λ (x : Resolved Ordered). Performs means params host here x result (standing holding new)) (sym (insert_view i false e ig))
-          (performs_write means params host here def _ _ (insert_write host (holding old.0) old.1 def (insert i).places (insert i).tuples) (held_there clean) changes result (standing holding new)
-          (leads_there means params here snap (seen clean) def (λ shown m. wanted_by_insert m def.columns (inserting false) shown) changes
-          (subst (λ (b : Bool). Leads means params def snap.site snap.kept (λ m. wanted_by_insert m def.columns (inserting b) (rows snap.kept def)) changes) ig l)) a))
 
   -- ---- UPDATE
 
@@ -194,10 +204,10 @@ module _ {C : Type 0} (means : Means) (params : List Value) (host : Host) (is_cl
 
       module _ (yet : not_replicated u.relation ≡ Free) where
         changed_there : is_clean old.0 → Replicated here changed
-        changed_there clean = replicated_seen here snap changed (seen clean) (replicated_there snap u.relation has e yet)
+        changed_there clean = replicated_seen here snap changed (named here snap (seen clean)) (replicated_there snap u.relation has e yet)
 
         pub update_refused_rows : (f : Refusal) → IsRefused means params changed snap.site snap.kept (update_wants snap u) f → Does (r.Update u) (Err f) old
-        update_refused_rows f l = untouched means params host (clean is_clean) (standing holding) old (r.Update u) (Err f) (λ clean.
+        update_refused_rows f l = untouched means params host (honest is_honest) (clean is_clean) (standing holding) old (r.Update u) (Err f) (λ clean.
             subst (λ (x : Resolved Ordered). Performs means params host here x (Err f) here) (sym (update_view u e))
             (refuses_write means params host here changed _ _ (update_write host (holding old.0) old.1 changed (update u)) (changed_there clean) f (update_gains means params (rows (now here) changed) changed.columns (update u))
             (refused_there means params here snap (seen clean) changed (λ shown m. wanted_by_update m changed.columns (update u) shown) f l)))
@@ -218,10 +228,10 @@ module _ {C : Type 0} (means : Means) (params : List Value) (host : Host) (is_cl
 
       module _ (yet : not_replicated d.relation ≡ Free) where
         thinned_there : is_clean old.0 → Replicated here thinned
-        thinned_there clean = replicated_seen here snap thinned (seen clean) (replicated_there snap d.relation has e yet)
+        thinned_there clean = replicated_seen here snap thinned (named here snap (seen clean)) (replicated_there snap d.relation has e yet)
 
         pub delete_refused_rows : (f : Refusal) → IsRefused means params thinned snap.site snap.kept (delete_wants snap d) f → Does (r.Delete d) (Err f) old
-        delete_refused_rows f l = untouched means params host (clean is_clean) (standing holding) old (r.Delete d) (Err f) (λ clean.
+        delete_refused_rows f l = untouched means params host (honest is_honest) (clean is_clean) (standing holding) old (r.Delete d) (Err f) (λ clean.
             subst (λ (x : Resolved Ordered). Performs means params host here x (Err f) here) (sym (delete_view d e))
             (refuses_write means params host here thinned _ _ (delete_write host (holding old.0) old.1 thinned (delete d)) (thinned_there clean) f (delete_gains means params (rows (now here) thinned) (delete d))
             (refused_there means params here snap (seen clean) thinned (λ shown m. wanted_by_delete m (delete d) shown) f l)))

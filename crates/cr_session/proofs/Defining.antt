@@ -16,7 +16,7 @@ use Rattle.cr_lattice.specs.declared.table.Table.{Table}
 use Rattle.cr_lattice.specs.declared.table.TableDef.{TableDef}
 use Rattle.cr_lattice.specs.Check.{same_bytes}
 use Rattle.cr_lattice.specs.Faults.{first_failed}
-use Rattle.cr_lattice.specs.Profile.{profile_fault, has_key, is_collated_key, has_row_cid, is_default_too_long, key_count, is_reserved, lacks_default, HasDistinctNames, IsFirstRepeat}
+use Rattle.cr_lattice.specs.Profile.{profile_fault, has_key, is_collated_key, has_row_cid, is_default_too_long, key_count, is_reserved, lacks_default, HasDistinctNames, IsFirstRepeat, most_columns}
 use Rattle.cr_cells.specs.Holding.{Holding}
 use Rattle.cr_cells.specs.Tables.{is_named}
 use Rattle.cr_cells.proofs.NewLemmas.{same_is}
@@ -37,7 +37,7 @@ use Rattle.cr_world.specs.declared.command.FleetReply.{FleetReply}
 use Rattle.cr_world.specs.declared.command.FleetReply.TheVariants.{Done, Refused}
 use Rattle.cr_world.specs.Statement.{Host, column_name}
 use Rattle.cr_world.specs.Takings.{first_repeat, define_cause}
-use Rattle.cr_session.specs.Sessions.{Does, clean, is_early, standing, state_of}
+use Rattle.cr_session.specs.Sessions.{Does, clean, honest, is_early, standing, state_of}
 
 want_of_profile : (def : TableDef) (f : ProfileFault) → is_want (of_profile def f) ≡ false
 want_of_profile def profile.PrimaryKey = refl
@@ -105,7 +105,7 @@ last_kept false b c d e f g p = absurd (let q : Some profile.PrimaryKey ≡ None
 not_reserved : (def : TableDef) → profile_fault def ≡ None → not (is_reserved def.name) ≡ true
 unfolding profile_fault
 not_reserved def e =
-    last_kept (has_key def) (not (list_any is_collated_key def.columns)) (not (has_row_cid def)) (not (list_any is_default_too_long def.columns)) (nat_le (length def.columns) 100) (nat_le (key_count def) 8) (not (is_reserved def.name)) e
+    last_kept (has_key def) (not (list_any is_collated_key def.columns)) (not (has_row_cid def)) (not (list_any is_default_too_long def.columns)) (nat_le (length def.columns) most_columns) (nat_le (key_count def) 8) (not (is_reserved def.name)) e
 
 -- the name of the table of changes is reserved
 not_changes : (def : TableDef) (b : Bool) → profile_fault def ≡ None → same_bytes changes_name def.name ≡ b → b ≡ false
@@ -279,22 +279,24 @@ unwanted : (told cause : Refusal) (b : Bool) → ((told ≡ refusal.Memory) ⊎ 
 unwanted told cause b (inl e) w n = absurd (let q : true ≡ false = sym (ap is_want e) ∙ n in cc)
 unwanted told cause b (inr e) w n = sym w ∙ sym (ap is_want e) ∙ n
 
-module _ {S E C : Type 0} (l : Language S E) (host : Host) (is_clean : C → Type 0) (holding : C → Holding) (old new : C) (pending : Option (List Change)) (def : TableDef) (has : List ℕ → Bool) (known : l.has_collation ≡ has) (cleans : is_clean new → is_clean old) where
+module _ {S E C : Type 0} (l : Language S E) (host : Host) (is_honest is_clean : C → Type 0) (holding : C → Holding) (old new : C) (pending : Option (List Change)) (def : TableDef) (has : List ℕ → Bool) (known : l.has_collation ≡ has) (honests : is_honest new → is_honest old) (cleans : is_clean new → is_clean old) where
   abbrev Replies : FleetReply → Type 0
-  Replies reply = Does l host (clean is_clean) (standing holding) (old, pending) (Define (Declared def)) reply (new, pending)
+  Replies reply = Does l host (honest is_honest) (clean is_clean) (standing holding) (old, pending) (Define (Declared def)) reply (new, pending)
 
-  pub define_done : is_some pending ≡ false → (is_clean old → is_clean new) → (is_clean new → DefinesTable has (holding old) (holding new) def (Ok tt)) → Replies Done
+  pub define_done : is_some pending ≡ false → (is_honest new → is_clean old → is_clean new) → (is_clean new → DefinesTable has (holding old) (holding new) def (Ok tt)) → Replies Done
   define_done outside lasts defines = record {
+    was_honest = honests;
     was_clean = cleans;
-    stays_clean = λ clean answered. lasts clean;
+    stays_clean = λ honest clean answered. lasts honest clean;
     answers = λ clean. ap (λ (f : List ℕ → Bool). define_cause f (state_of (holding old) pending) def) known ∙ accepted_is has (holding old) pending def outside (defines clean).0;
     leaves = λ clean m e. ap (λ (st : State). record st { holding = defined st.holding def }) e ∙ ap (λ (h : Holding). state_of h pending) (sym (defines clean).1);
   }
 
   -- nothing is changed where this is told
-  pub define_told : (t : Refusal) → (is_clean old → is_want t ≡ false → is_clean new) → (is_clean new → holding new ≡ holding old)
+  pub define_told : (t : Refusal) → (is_honest new → is_clean old → is_want t ≡ false → is_clean new) → (is_clean new → holding new ≡ holding old)
       → (is_clean new → IsWant t ⊎ Tells (define_cause has (state_of (holding old) pending) def) t) → Replies (Refused t)
   define_told t lasts same told = record {
+    was_honest = honests;
     was_clean = cleans;
     stays_clean = lasts;
     answers = λ clean. subst (λ (f : List ℕ → Bool). IsWant t ⊎ Tells (define_cause f (state_of (holding old) pending) def) t) (sym known) (told clean);
@@ -310,22 +312,22 @@ module _ {S E C : Type 0} (l : Language S E) (host : Host) (is_clean : C → Typ
   by_error e t (inl x) p = inl (inl x)
   by_error e t (inr x) p = subst (λ (r : Refusal). IsWant r ⊎ Tells (define_cause has (state_of (holding old) pending) def) r) (sym x) p
 
-  pub define_refused : is_some pending ≡ false → (e : DefineError) (t : Refusal) → (is_clean old → definitions.is_want e ≡ false → is_clean new) → (is_clean new → DefinesTable has (holding old) (holding new) def (Err e))
+  pub define_refused : is_some pending ≡ false → (e : DefineError) (t : Refusal) → (is_honest new → is_clean old → definitions.is_want e ≡ false → is_clean new) → (is_clean new → DefinesTable has (holding old) (holding new) def (Err e))
       → IsTold e t → Replies (Refused t)
   define_refused outside e t lasts defines told =
-      define_told t (λ clean answered. lasts clean (unwanted t (of_definition def e) (definitions.is_want e) told (want_of_definition def e) answered)) (λ clean. (defines clean).1)
+      define_told t (λ honest clean answered. lasts honest clean (unwanted t (of_definition def e) (definitions.is_want e) told (want_of_definition def e) answered)) (λ clean. (defines clean).1)
       (λ clean. by_error e t told (refused_is has (holding old) pending def outside e (defines clean).0))
 
   -- inside a transaction it is refused over the tables that are read
-  module _ (inside : is_some pending ≡ true) (lasts : is_clean old → is_clean new) (same : is_clean new → holding new ≡ holding old) (tables : List Table) (are : is_clean new → tables ≡ (holding old).tables) where
+  module _ (inside : is_some pending ≡ true) (lasts : is_honest new → is_clean old → is_clean new) (same : is_clean new → holding new ≡ holding old) (tables : List Table) (are : is_clean new → tables ≡ (holding old).tables) where
     pub define_forbidden : IsAccepted has tables def → Replies (Refused refusal.TransactionState)
-    define_forbidden a = define_told refusal.TransactionState (λ clean told. lasts clean) same (λ clean.
+    define_forbidden a = define_told refusal.TransactionState (λ honest clean told. lasts honest clean) same (λ clean.
         forbidden has (holding old) pending def inside (subst (λ (ts : List Table). IsAccepted has ts def) (are clean) a))
 
     pub define_forbidden_first : (e : DefineError) → is_early e ≡ false → IsRefusedFor has tables def e → Replies (Refused refusal.TransactionState)
-    define_forbidden_first e late r = define_told refusal.TransactionState (λ clean told. lasts clean) same (λ clean.
+    define_forbidden_first e late r = define_told refusal.TransactionState (λ honest clean told. lasts honest clean) same (λ clean.
         forbidden_first has (holding old) pending def inside e late (subst (λ (ts : List Table). IsRefusedFor has ts def e) (are clean) r))
 
     pub define_against : (e : DefineError) (t : Refusal) → is_early e ≡ true → IsRefusedFor has tables def e → IsTold e t → Replies (Refused t)
-    define_against e t first r told = define_told t (λ clean answered. lasts clean) same (λ clean.
+    define_against e t first r told = define_told t (λ honest clean answered. lasts honest clean) same (λ clean.
         by_error e t told (early_is has (holding old) pending def e first (subst (λ (ts : List Table). IsRefusedFor has ts def e) (are clean) r)))

@@ -109,21 +109,21 @@ behind_is p (t ∷ u ∷ us) at e = let same : u.from ≡ at = cc in ap (λ (n :
 
 -- ---- what is made of it
 
-module _ {E C : Type 0} (l : Language Statement E) (host : Host) (is_clean : C → Type 0) (stands : C → State) (source : List ℕ) (tokens : List Token) (params : List Value) (old : C) where
+module _ {E C : Type 0} (l : Language Statement E) (host : Host) (is_honest is_clean : C → Type 0) (stands : C → State) (source : List ℕ) (tokens : List Token) (params : List Value) (old : C) where
   abbrev Made : Result Reply Refusal → C → Type 0
-  Made result new = Executed l host is_clean stands old params (single_left source tokens) result new
+  Made result new = Executed l host is_honest is_clean stands old params (single_left source tokens) result new
 
   -- nothing is changed
   stays : (piece : Option (Piece Statement)) (result : Result Reply Refusal) → single_left source tokens ≡ piece → Executes l host (stands old) params piece result (stands old)
-      → (Executed l host is_clean stands old params piece result old → Made result old) × Executes l host (stands old) params (single_left source tokens) result (stands old)
+      → (Executed l host is_honest is_clean stands old params piece result old → Made result old) × Executes l host (stands old) params (single_left source tokens) result (stands old)
   stays piece result e x =
-      (subst (λ (p : Option (Piece Statement)). Executed l host is_clean stands old params p result old) (sym e), subst (λ (p : Option (Piece Statement)). Executes l host (stands old) params p result (stands old)) (sym e) x)
+      (subst (λ (p : Option (Piece Statement)). Executed l host is_honest is_clean stands old params p result old) (sym e), subst (λ (p : Option (Piece Statement)). Executes l host (stands old) params p result (stands old)) (sym e) x)
 
   done_by : (piece : Option (Piece Statement)) → single_left source tokens ≡ piece → Executes l host (stands old) params piece (Ok Done) (stands old) → Made (Ok Done) old
-  done_by piece e x = record { was_clean = λ clean. clean; stays_clean = λ clean. clean; executes = λ clean. (stays piece (Ok Done) e x).1 }
+  done_by piece e x = record { was_honest = λ honest. honest; was_clean = λ clean. clean; stays_clean = λ honest clean. clean; executes = λ clean. (stays piece (Ok Done) e x).1 }
 
   refused_by : (piece : Option (Piece Statement)) (r : Refusal) → single_left source tokens ≡ piece → Executes l host (stands old) params piece (Err r) (stands old) → Made (Err r) old
-  refused_by piece r e x = record { was_clean = λ clean. clean; stays_clean = λ clean told. clean; executes = λ clean. (stays piece (Err r) e x).1 }
+  refused_by piece r e x = record { was_honest = λ honest. honest; was_clean = λ clean. clean; stays_clean = λ honest clean told. clean; executes = λ clean. (stays piece (Err r) e x).1 }
 
   pub does_nothing : is_empty source tokens ≡ true → second_place tokens ≡ None → Made (Ok Done) old
   does_nothing e none = done_by None (empty_is source tokens e none) (refl, refl)
@@ -140,12 +140,13 @@ module _ {E C : Type 0} (l : Language Statement E) (host : Host) (is_clean : C �
     piece_read : single_left source tokens ≡ Some (language.Statement x)
     piece_read = read_is source tokens x n e f ∙ ap Some (last_is (language.Statement x) (drop n tokens) none)
 
-    given : (result : Result Reply Refusal) → Carries l host is_clean stands old params x result new → is_clean new → Executes l host (stands old) params (Some (language.Statement x)) result (stands new)
+    given : (result : Result Reply Refusal) → Carries l host is_honest is_clean stands old params x result new → is_clean new → Executes l host (stands old) params (Some (language.Statement x)) result (stands new)
     given (Ok reply) c clean = ((stands old).modules, (c.answers clean, sym (c.leaves clean)))
     given (Err r) c clean = (c.answers clean, sym (c.leaves clean))
 
-    pub carries_single : (result : Result Reply Refusal) → Carries l host is_clean stands old params x result new → Made result new
+    pub carries_single : (result : Result Reply Refusal) → Carries l host is_honest is_clean stands old params x result new → Made result new
     carries_single result c = record {
+      was_honest = c.was_honest;
       was_clean = c.was_clean;
       stays_clean = c.stays_clean;
       executes = λ clean. subst (λ (p : Option (Piece Statement)). Executes l host (stands old) params p result (stands new)) (sym piece_read) (given result c clean);
@@ -158,8 +159,8 @@ module _ {E C : Type 0} (l : Language Statement E) (host : Host) (is_clean : C �
   any_wants (Some (language.Unread why)) = (inr refl, refl)
   any_wants (Some (language.Statement x)) = ((inl (inl refl), refl), refl)
 
-  pub wants_single : (p : Option (Piece Statement)) → Executed l host is_clean stands old params p (Err Memory) old
-  wants_single p = record { was_clean = λ clean. clean; stays_clean = λ clean told. clean; executes = λ clean. any_wants p }
+  pub wants_single : (p : Option (Piece Statement)) → Executed l host is_honest is_clean stands old params p (Err Memory) old
+  wants_single p = record { was_honest = λ honest. honest; was_clean = λ clean. clean; stays_clean = λ honest clean told. clean; executes = λ clean. any_wants p }
 
   wants : (r : Refusal) → (r ≡ Memory) ⊎ (r ≡ Memory) → Made (Err r) old
   wants r (inl e) = subst (λ (x : Refusal). Made (Err x) old) (sym e) (wants_single (single_left source tokens))
@@ -182,12 +183,12 @@ module _ {E C : Type 0} (l : Language Statement E) (host : Host) (is_clean : C �
 -- ---- the whole text
 
 module _ {C : Type 0} (function_of : List ℕ → ℕ → Option Definition) (scalar : ℕ → List Value → Result Value (List ℕ)) (step : ℕ → Value → List Value → Result Value (List ℕ)) (finish : ℕ → Value → Result Value (List ℕ))
-    (order_of : OrderOf) (total : AreTotal order_of) (has : List ℕ → Bool) (host : Host) (is_clean : C → Type 0) (stands : C → State) (source : List ℕ) (params : List Value) (old new : C) where
+    (order_of : OrderOf) (total : AreTotal order_of) (has : List ℕ → Bool) (host : Host) (is_honest is_clean : C → Type 0) (stands : C → State) (source : List ℕ) (params : List Value) (old new : C) where
   abbrev meant : Language Statement Ordered
   meant = spoken function_of scalar step finish order_of total has
 
   abbrev Whole : Option (Piece Statement) → Result Reply Refusal → C → Type 0
-  Whole p result left = Executed meant host is_clean stands old params p result left
+  Whole p result left = Executed meant host is_honest is_clean stands old params p result left
 
   whole : (tokens : List Token) → (1000000 < length source → ⊥) → IsTokens source 0 tokens → meant.single source ≡ single_left source tokens
   unfolding spoken single_left
@@ -206,7 +207,7 @@ module _ {C : Type 0} (function_of : List ℕ → ℕ → Option Definition) (sc
   pub refuses_long_text : 1000000 < length source → Whole (meant.single source) (Err (Limit limit.Script)) old
   refuses_long_text long =
       subst (λ (p : Option (Piece Statement)). Whole p (Err (Limit limit.Script)) old) (sym (too_long_is long))
-      (record { was_clean = λ clean. clean; stays_clean = λ clean told. clean; executes = λ clean. (inl refl, refl) })
+      (record { was_honest = λ honest. honest; was_clean = λ clean. clean; stays_clean = λ honest clean told. clean; executes = λ clean. (inl refl, refl) })
 
   pub wants_text : Whole (meant.single source) (Err Memory) old
-  wants_text = wants_single meant host is_clean stands source [] params old (meant.single source)
+  wants_text = wants_single meant host is_honest is_clean stands source [] params old (meant.single source)

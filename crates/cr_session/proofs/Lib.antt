@@ -6,7 +6,10 @@ pub mod Turning
 pub mod Selecting
 pub mod Carrying
 pub mod Making
+pub mod Looking
 pub mod Changing
+pub mod Bringing
 pub mod Committing
+pub mod Inserting
 pub mod Receiving
 pub mod Executions

@@ -36,7 +36,7 @@ use Rattle.cr_world.specs.Statement.{Host, ended, marked_reply, no_default, not_
 use Rattle.cr_fit.specs.Suited.{HasRelation, FitsIn}
 use Rattle.cr_fit.proofs.Adding.{new_column}
 use Rattle.cr_session.specs.Performing.{Passes, Performs, Performed, against, is_commit, is_table}
-use Rattle.cr_session.specs.Sessions.{clean, standing, state_of}
+use Rattle.cr_session.specs.Sessions.{clean, honest, standing, state_of}
 use Rattle.cr_session.proofs.Selecting.{or_free}
 use Rattle.cr_session.proofs.Takings.{want_of_store, wanting}
 
@@ -58,46 +58,49 @@ still (Ok x) P p = p
 still (Err f) P p = λ e. p
 
 -- nothing of the store is asked for
-pub untouched : {C : Type 0} (means : Means) (params : List Value) (host : Host) (is_clean : C → Type 0) (stands : C → State) (old : C) (x : Resolved) (result : Result Reply Refusal)
-    → (is_clean old → Performs means params host (stands old) (view x) result (stands old)) → Performed means params host is_clean stands old x result old
-untouched means params host is_clean stands old x result p = record {
+pub untouched : {C : Type 0} (means : Means) (params : List Value) (host : Host) (is_honest is_clean : C → Type 0) (stands : C → State) (old : C) (x : Resolved) (result : Result Reply Refusal)
+    → (is_clean old → Performs means params host (stands old) (view x) result (stands old)) → Performed means params host is_honest is_clean stands old x result old
+untouched means params host is_honest is_clean stands old x result p = record {
+  was_honest = λ honest. honest;
   was_clean = λ clean. clean;
-  stays_clean = λ clean. still result (is_clean old) clean;
+  stays_clean = λ honest clean. still result (is_clean old) clean;
   performs = p;
 }
 
 -- ---- a definition of a store
 
-module _ {C : Type 0} (means : Means) (params : List Value) (host : Host) (is_clean : C → Type 0) (holding : C → Holding) (old new : C) (x : Resolved) (wanted : Holding)
-    (was : is_clean new → is_clean old) where
+module _ {C : Type 0} (means : Means) (params : List Value) (host : Host) (is_honest is_clean : C → Type 0) (holding : C → Holding) (old new : C) (x : Resolved) (wanted : Holding)
+    (honest_was : is_honest new → is_honest old) (was : is_clean new → is_clean old) where
   abbrev Does : Result Reply Refusal → Type 0
-  Does result = Performed means params host (clean is_clean) (standing holding) (old, None) x result (new, None)
+  Does result = Performed means params host (honest is_honest) (clean is_clean) (standing holding) (old, None) x result (new, None)
 
-  pub defined : (reply : Reply) → (is_clean old → is_clean new) → (is_clean new → Defines (holding old) (holding new) (Ok tt) wanted)
+  pub defined : (reply : Reply) → (is_honest new → is_clean old → is_clean new) → (is_clean new → Defines (holding old) (holding new) (Ok tt) wanted)
       → (is_clean new → Performs means params host (standing holding (old, None)) (view x) (Ok reply) (state_of wanted None)) → Does (Ok reply)
   defined reply stays defines p = record {
+    was_honest = honest_was;
     was_clean = was;
     stays_clean = stays;
     performs = λ clean. subst (λ (h : Holding). Performs means params host (standing holding (old, None)) (view x) (Ok reply) (state_of h None)) (sym (defines clean)) (p clean);
   }
 
-  pub not_defined : (e : CellsError) (f : Refusal) → f ≡ of_store e → is_commit (view x) ≡ false → (is_clean old → calls.is_want e ≡ false → is_clean new) → (is_clean new → Defines (holding old) (holding new) (Err e) wanted)
+  pub not_defined : (e : CellsError) (f : Refusal) → f ≡ of_store e → is_commit (view x) ≡ false → (is_honest new → is_clean old → calls.is_want e ≡ false → is_clean new) → (is_clean new → Defines (holding old) (holding new) (Err e) wanted)
       → Does (Err f)
   not_defined e f told lasts stays defines = record {
+    was_honest = honest_was;
     was_clean = was;
-    stays_clean = λ clean want. stays clean (sym (want_of_store e) ∙ ap is_want (sym told) ∙ want);
+    stays_clean = λ honest clean want. stays honest clean (sym (want_of_store e) ∙ ap is_want (sym told) ∙ want);
     performs = λ clean. (inl (subst IsWant (sym told) (wanting e (defines clean).1)), ap (λ (h : Holding). state_of h None) (defines clean).0 ∙ sym (ap (λ (b : Bool). cond (b && false) (ended (standing holding (old, None))) (standing holding (old, None))) lasts));
   }
 
-none_is : {X : Type 0} (o : Option X) → is_some o ≡ false → o ≡ None
+pub none_is : {X : Type 0} (o : Option X) → is_some o ≡ false → o ≡ None
 none_is None e = refl
 none_is (Some x) e = absurd (let z : ⊥ = cc in z)
 
 -- outside of transactions
-pub outside : {C : Type 0} (means : Means) (params : List Value) (host : Host) (is_clean : C → Type 0) (holding : C → Holding) (old new : C) (x : Resolved) (result : Result Reply Refusal) (pending : Option (List Change)) → is_some pending ≡ false
-    → Performed means params host (clean is_clean) (standing holding) (old, None) x result (new, None) → Performed means params host (clean is_clean) (standing holding) (old, pending) x result (new, pending)
-outside means params host is_clean holding old new x result pending e =
-    subst (λ (p : Option (List Change)). Performed means params host (clean is_clean) (standing holding) (old, p) x result (new, p)) (sym (none_is pending e))
+pub outside : {C : Type 0} (means : Means) (params : List Value) (host : Host) (is_honest is_clean : C → Type 0) (holding : C → Holding) (old new : C) (x : Resolved) (result : Result Reply Refusal) (pending : Option (List Change)) → is_some pending ≡ false
+    → Performed means params host (honest is_honest) (clean is_clean) (standing holding) (old, None) x result (new, None) → Performed means params host (honest is_honest) (clean is_clean) (standing holding) (old, pending) x result (new, pending)
+outside means params host is_honest is_clean holding old new x result pending e =
+    subst (λ (p : Option (List Change)). Performed means params host (honest is_honest) (clean is_clean) (standing holding) (old, p) x result (new, p)) (sym (none_is pending e))
 
 -- ---- what stands for a name
 

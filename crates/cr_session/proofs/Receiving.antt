@@ -27,7 +27,7 @@ use Rattle.cr_scalar.specs.declared.fault.EvalFault.{EvalFault}
 use Rattle.cr_exec.specs.Answers.{Faults, IsBoth, Stage}
 use Rattle.cr_taken.proofs.Refined.{rows_refine}
 use Rattle.cr_replica.specs.declared.snapshot.Snapshot.{Snapshot}
-use Rattle.cr_snapshot.specs.Seen.{IsSeen, catalog_of}
+use Rattle.cr_snapshot.specs.Seen.{IsNamed, catalog_of}
 use Rattle.cr_language.specs.Sql.{module_target, target_by, view}
 use Rattle.cr_world.specs.declared.command.Reply.{Reply}
 use Rattle.cr_world.specs.declared.command.Reply.TheVariants.{Done}
@@ -43,7 +43,7 @@ use Rattle.cr_fit.specs.Suited.{HasHeld, HasRelation}
 use Rattle.cr_received.specs.Received.{AreReceived, IsBad, IsFaulty, IsToldOf, first_bad_in}
 use Rattle.cr_received.proofs.Bad.{told_by_tables}
 use Rattle.cr_session.specs.Performing.{Adds, AreAdded, Performed, Performs, adding_cause, against, is_table, with_limit}
-use Rattle.cr_session.specs.Sessions.{SessionOf, clean, standing, state_of}
+use Rattle.cr_session.specs.Sessions.{SessionOf, clean, honest, standing, state_of}
 use Rattle.cr_session.proofs.Changing.{added_to, judged_is, never}
 use Rattle.cr_session.proofs.Making.{told_first, untouched}
 use Rattle.cr_session.proofs.Selecting.{fault_told}
@@ -130,7 +130,7 @@ module _ (means : Means) (params : List Value) (host : Host) (h : Holding) (pend
 
 -- ---- of a session
 
-module _ {C : Type 0} (means : Means) (params : List Value) (host : Host) (is_clean : C → Type 0) (holding : C → Holding) (old : SessionOf C) (snap : Snapshot) (seen : is_clean old.0 → IsSeen (standing holding old) snap)
+module _ {C : Type 0} (means : Means) (params : List Value) (host : Host) (is_honest is_clean : C → Type 0) (holding : C → Holding) (old : SessionOf C) (snap : Snapshot) (named : is_clean old.0 → IsNamed (standing holding old) snap)
     (i : Insert) (has : HasRelation (catalog_of snap) i.relation) (e : is_table i.relation.held ≡ false) where
   received_view : (b : Bool) → i.is_ignored ≡ b → view (r.Insert i) ≡ world.Insert world.Changes (record { places = (insert i).places; tuples = (insert i).tuples; is_ignored = b })
   received_view b ig = λ j. world.Insert (target_of i.relation.held i.relation.definition e (is_changes snap i.relation has e) j) (record { places = (insert i).places; tuples = (insert i).tuples; is_ignored = ig j })
@@ -144,12 +144,12 @@ module _ {C : Type 0} (means : Means) (params : List Value) (host : Host) (is_cl
   as_insert : (b : Bool) (result : Result Reply Refusal) (new : State) → i.is_ignored ≡ b → Does b result new → Performs means params host at (view (r.Insert i)) result new
   as_insert b result new ig p = subst (λ (x : Resolved Ordered). Performs means params host at x result new) (sym (received_view b ig)) p
 
-  pub receive_ignored : i.is_ignored ≡ true → Performed means params host (clean is_clean) (standing holding) old (r.Insert i) (Ok Done) old
-  receive_ignored ig = untouched means params host (clean is_clean) (standing holding) old (r.Insert i) (Ok Done) (λ clean. as_insert true (Ok Done) at ig (performs_ignored means params host (holding old.0) old.1 (insert i)))
+  pub receive_ignored : i.is_ignored ≡ true → Performed means params host (honest is_honest) (clean is_clean) (standing holding) old (r.Insert i) (Ok Done) old
+  receive_ignored ig = untouched means params host (honest is_honest) (clean is_clean) (standing holding) old (r.Insert i) (Ok Done) (λ clean. as_insert true (Ok Done) at ig (performs_ignored means params host (holding old.0) old.1 (insert i)))
 
   -- the tables are those of the store
   bad_is : is_clean old.0 → (rows : List Row) → first_bad at rows ≡ first_bad_in snap.tables rows
-  bad_is clean rows = told_by_tables at rows ∙ ap (λ (ts : List Table). first_bad_in ts rows) (sym (seen clean).tables)
+  bad_is clean rows = told_by_tables at rows ∙ ap (λ (ts : List Table). first_bad_in ts rows) (sym (named clean).tables)
 
   -- what is brought, where it is not ignored
   abbrev brought_by : (b : Bool) → Stage (List Row)
@@ -164,12 +164,13 @@ module _ {C : Type 0} (means : Means) (params : List Value) (host : Host) (is_cl
     by_first (b, is, told) =
         (inr (bad_told means params host (holding old.0) old.1 (insert i) bad.rows (subst (λ (b : Bool). IsBoth means params (brought_by b) bad.rows) ig bad.brought) b f (bad_is clean bad.rows ∙ is) told), refl)
 
-  pub receive_refused : (f : Refusal) → i.is_ignored ≡ false → (f ≡ refusal.Memory) ⊎ (IsFaulty means params snap.tables i f ⊎ IsBad means params snap.tables i f) → Performed means params host (clean is_clean) (standing holding) old (r.Insert i) (Err f) old
-  receive_refused f ig l = untouched means params host (clean is_clean) (standing holding) old (r.Insert i) (Err f) (λ clean. as_insert false (Err f) at ig (refused_so clean f ig l))
+  pub receive_refused : (f : Refusal) → i.is_ignored ≡ false → (f ≡ refusal.Memory) ⊎ (IsFaulty means params snap.tables i f ⊎ IsBad means params snap.tables i f) → Performed means params host (honest is_honest) (clean is_clean) (standing holding) old (r.Insert i) (Err f) old
+  receive_refused f ig l = untouched means params host (honest is_honest) (clean is_clean) (standing holding) old (r.Insert i) (Err f) (λ clean. as_insert false (Err f) at ig (refused_so clean f ig l))
 
-  pub receives : (new : SessionOf C) (changes : List Change) (result : Result Reply Refusal) → i.is_ignored ≡ false → AreReceived means params snap.tables i changes → Adds host (clean is_clean) (standing holding) old changes result new
-      → Performed means params host (clean is_clean) (standing holding) old (r.Insert i) result new
+  pub receives : (new : SessionOf C) (changes : List Change) (result : Result Reply Refusal) → i.is_ignored ≡ false → AreReceived means params snap.tables i changes → Adds host (honest is_honest) (clean is_clean) (standing holding) old changes result new
+      → Performed means params host (honest is_honest) (clean is_clean) (standing holding) old (r.Insert i) result new
   receives new changes result ig l c = record {
+    was_honest = c.was_honest;
     was_clean = c.was_clean;
     stays_clean = c.stays_clean;
     performs = λ clean. as_insert false result (standing holding new) ig

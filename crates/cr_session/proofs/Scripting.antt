@@ -31,7 +31,7 @@ use Rattle.cr_language.specs.Engines.{OrderOf, AreTotal}
 use Rattle.cr_language.specs.Sql.{of_unread, piece, too_long}
 use Rattle.cr_language.specs.Texts.{tokens_of}
 use Rattle.cr_language.proofs.Texts.{have_tokens}
-use Rattle.cr_session.specs.Sessions.{Does, SessionOf, clean, standing}
+use Rattle.cr_session.specs.Sessions.{Does, SessionOf, clean, honest, standing}
 use Rattle.cr_world.proofs.Keeping.{runs_leave}
 use Rattle.cr_session.specs.Speaking.{spoken}
 use Rattle.cr_session.specs.Scripts.{CarriesAll, Stops, next, pieces_left}
@@ -56,19 +56,19 @@ folded source tokens x n e = are_names_folded source tokens x n e
 abbrev pub Told : SqlError → Refusal → Type 0
 Told error r = (r ≡ of_unread (says error)) ⊎ (r ≡ Memory)
 
-module _ {E C : Type 0} (l : Language Statement E) (host : Host) (is_clean : C → Type 0) (stands : C → State) where
-  wants : (old : C) (x : Result (Option (Statement × ℕ)) _) (r : Refusal) → (r ≡ Memory) ⊎ (r ≡ Memory) → Stops l host is_clean stands old x r old
+module _ {E C : Type 0} (l : Language Statement E) (host : Host) (is_honest is_clean : C → Type 0) (stands : C → State) where
+  wants : (old : C) (x : Result (Option (Statement × ℕ)) _) (r : Refusal) → (r ≡ Memory) ⊎ (r ≡ Memory) → Stops l host is_honest is_clean stands old x r old
   wants old x r (inl e) = inr (inr (e, refl))
   wants old x r (inr e) = inr (inr (e, refl))
 
   unread : (source : List ℕ) (tokens : List Token) (old : C) (answer : Result (Option (Statement × ℕ)) SqlError) (error : SqlError) (r : Refusal) → (error ≡ sql.Memory → ⊥)
-      → ReadsNext source tokens answer → answer ≡ Err error → Told error r → Stops l host is_clean stands old (next source tokens) r old
+      → ReadsNext source tokens answer → answer ≡ Err error → Told error r → Stops l host is_honest is_clean stands old (next source tokens) r old
   unfolding next
   unread source tokens old answer error r other reads e told =
       inl (says error, sym (reads (λ f. let q : Err error ≡ Err sql.Memory = sym e ∙ f in other cc)) ∙ ap scripts.says_next e, told, refl)
 
   pub stops_unread : (source : List ℕ) (tokens : List Token) (old : C) (answer : Result (Option (Statement × ℕ)) SqlError) (error : SqlError) (r : Refusal)
-      → ReadsNext source tokens answer → answer ≡ Err error → Told error r → Stops l host is_clean stands old (next source tokens) r old
+      → ReadsNext source tokens answer → answer ≡ Err error → Told error r → Stops l host is_honest is_clean stands old (next source tokens) r old
   stops_unread source tokens old answer sql.Memory r reads e told = wants old (next source tokens) r told
   stops_unread source tokens old answer (sql.Syntax at) r reads e told = unread source tokens old answer (sql.Syntax at) r (λ q. let z : ⊥ = cc in z) reads e told
   stops_unread source tokens old answer (sql.OutOfProfile word) r reads e told = unread source tokens old answer (sql.OutOfProfile word) r (λ q. let z : ⊥ = cc in z) reads e told
@@ -85,7 +85,7 @@ long_is true xs ys e = refl
 long_is false xs ys e = absurd (let q : ⊥ = cc in q)
 
 module _ {C : Type 0} (function_of : List ℕ → ℕ → Option Definition) (scalar : ℕ → List Value → Result Value (List ℕ)) (step : ℕ → Value → List Value → Result Value (List ℕ)) (finish : ℕ → Value → Result Value (List ℕ))
-    (order_of : OrderOf) (total : AreTotal order_of) (has : List ℕ → Bool) (host : Host) (is_clean : C → Type 0) (stands : C → State) (source : List ℕ) (old new : C) where
+    (order_of : OrderOf) (total : AreTotal order_of) (has : List ℕ → Bool) (host : Host) (is_honest is_clean : C → Type 0) (stands : C → State) (source : List ℕ) (old new : C) where
   abbrev language : Language Statement Ordered
   language = spoken function_of scalar step finish order_of total has
 
@@ -98,25 +98,27 @@ module _ {C : Type 0} (function_of : List ℕ → ℕ → Option Definition) (sc
       short_is (nat_lt 1000000 (length source)) _ _ (le-ltb 1000000 (length source) within) ∙ ap (λ (ts : List Token). map piece (scripts.pieces source ts)) same
 
   pub carries_whole : (tokens : List Token) (replies : List Reply) (why : Option Refusal) → (1000000 < length source → ⊥) → IsTokens source 0 tokens
-      → CarriesAll language host is_clean stands old (pieces_left (length tokens) source tokens) replies why new → CarriesAll language host is_clean stands old (language.pieces source) replies why new
-  carries_whole tokens replies why short are h = subst (λ (ps : List (Piece Statement)). CarriesAll language host is_clean stands old ps replies why new) (sym (whole tokens short are)) h
+      → CarriesAll language host is_honest is_clean stands old (pieces_left (length tokens) source tokens) replies why new → CarriesAll language host is_honest is_clean stands old (language.pieces source) replies why new
+  carries_whole tokens replies why short are h = subst (λ (ps : List (Piece Statement)). CarriesAll language host is_honest is_clean stands old ps replies why new) (sym (whole tokens short are)) h
 
   too_long_is : 1000000 < length source → language.pieces source ≡ too_long ∷ []
   unfolding spoken
   too_long_is long = long_is (nat_lt 1000000 (length source)) _ _ (lt-ltb 1000000 (length source) long)
 
-  pub refuses_long : 1000000 < length source → CarriesAll language host is_clean stands old (language.pieces source) [] (Some (Limit limit.Script)) old
+  pub refuses_long : 1000000 < length source → CarriesAll language host is_honest is_clean stands old (language.pieces source) [] (Some (Limit limit.Script)) old
   refuses_long long = record {
+    was_honest = λ honest. honest;
     was_clean = λ clean. clean;
-    stays_clean = λ clean told. clean;
+    stays_clean = λ honest clean told. clean;
     runs = λ clean. subst (λ (ps : List (Piece Statement)). Runs language host (stands old) ps [] (Some (Limit limit.Script)) (stands old)) (sym (too_long_is long)) (inl refl, refl);
   }
 
-  pub wants_at_once : CarriesAll language host is_clean stands old (language.pieces source) [] (Some Memory) old
+  pub wants_at_once : CarriesAll language host is_honest is_clean stands old (language.pieces source) [] (Some Memory) old
   wants_at_once = record {
+    was_honest = λ honest. honest;
     was_clean = λ clean. clean;
-    stays_clean = λ clean told. clean;
-    runs = λ clean. wanting language host is_clean stands (stands old) (language.pieces source);
+    stays_clean = λ honest clean told. clean;
+    runs = λ clean. wanting language host is_honest is_clean stands (stands old) (language.pieces source);
   }
 
 -- the collations of the language are those of the host
@@ -126,9 +128,10 @@ unfolding spoken
 collations_are function_of scalar step finish order_of total has = refl
 
 -- a script as a command of a replica
-pub script_does : {S E C : Type 0} (l : Language S E) (host : Host) (is_clean : C → Type 0) (holding : C → Holding) (old new : SessionOf C) (source : List ℕ) (x : Script)
-    → CarriesAll l host (clean is_clean) (standing holding) old (l.pieces source) x.replies x.refusal new → Does l host (clean is_clean) (standing holding) old (Sql source) (reply.Script x) new
-script_does l host is_clean holding old new source x h = record {
+pub script_does : {S E C : Type 0} (l : Language S E) (host : Host) (is_honest is_clean : C → Type 0) (holding : C → Holding) (old new : SessionOf C) (source : List ℕ) (x : Script)
+    → CarriesAll l host (honest is_honest) (clean is_clean) (standing holding) old (l.pieces source) x.replies x.refusal new → Does l host (honest is_honest) (clean is_clean) (standing holding) old (Sql source) (reply.Script x) new
+script_does l host is_honest is_clean holding old new source x h = record {
+  was_honest = h.was_honest;
   was_clean = h.was_clean;
   stays_clean = h.stays_clean;
   answers = λ clean. (standing holding new, h.runs clean);

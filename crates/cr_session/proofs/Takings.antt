@@ -1,8 +1,10 @@
 -- Takings: what the two steps of a replica mean for a session.
-use Rattle.std.proofs.Common.{◌≡◌, ◌⊎◌, inl, inr, Bool, true, false, List, [], ◌∷◌, Option, Some, None, Ok, Err, refl, sym, ap, subst, ◌∙◌}
+use Rattle.std.proofs.Common.{◌≡◌, ◌⊎◌, inl, inr, Bool, true, false, List, [], ◌∷◌, Option, Some, None, Result, Ok, Err, refl, sym, ap, subst, ◌∙◌}
+use Rattle.std.specs.Prelude.{is_some, if◌then◌else◌}
 use Rattle.std.specs.Option.{option_map}
 use Rattle.cr_lattice.specs.declared.change.Change.{Change}
 use Rattle.cr_lattice.specs.declared.check.BadChange.{BadChange}
+use Rattle.cr_lattice.specs.Check.{same_bytes}
 use Rattle.cr_cells.specs.declared.store.CellsError.{CellsError}
 use Rattle.cr_cells.specs.declared.store.CellsError.TheVariants as cells
 use Rattle.cr_cells.specs.Calls as calls
@@ -19,11 +21,11 @@ use Rattle.cr_replica.specs.Taking.{IsNotTaken, IsReady, Prepares, CommitsAll}
 use Rattle.cr_world.specs.declared.refusal.Refusal.{Refusal}
 use Rattle.cr_world.specs.declared.refusal.Refusal.TheVariants as refusal
 use Rattle.cr_world.specs.Refusals.{is_want, of_store, of_taking}
-use Rattle.cr_world.specs.Causes.{Cause, Tells, IsWant, first_cause, of_option, where_true}
+use Rattle.cr_world.specs.Causes.{Cause, Free, Is, Evaluation, Tells, IsWant, first_cause, of_option, or_else, where_true}
 use Rattle.cr_world.specs.State.{State}
 use Rattle.cr_world.specs.Statement.{Host}
-use Rattle.cr_world.specs.Takings.{taking_cause}
-use Rattle.cr_session.specs.Sessions.{TakesAll, clean, standing, state_of}
+use Rattle.cr_world.specs.Takings.{take_cause, taking_cause}
+use Rattle.cr_session.specs.Sessions.{SessionOf, TakesAll, TakesFrom, clean, honest, standing, state_of}
 
 pub want_of_taking : (e : TakeError) → is_want (of_taking e) ≡ takings.is_want e
 want_of_taking take.Memory = refl
@@ -68,23 +70,25 @@ module _ (host : Host) (h : Holding) (pending : Option (List Change)) (more : Li
   told_veto news r v = tells _ _ (veto_is news true r v) refl
 
 -- of a store; the open transaction stays as it is
-module _ {C : Type 0} (host : Host) (is_clean : C → Type 0) (holding : C → Holding) (old mid : C) (pending : Option (List Change)) (more : List Change) (mark : Option Mark) (cleans : is_clean mid → is_clean old) where
+module _ {C : Type 0} (host : Host) (is_honest is_clean : C → Type 0) (holding : C → Holding) (old mid : C) (pending : Option (List Change)) (more : List Change) (mark : Option Mark) (honests : is_honest mid → is_honest old) (cleans : is_clean mid → is_clean old) where
   abbrev left : Holding → State
   left h = state_of h pending
 
-  pub take_unready : (e : TakeError) → (is_clean old → takings.is_want e ≡ false → is_clean mid) → (is_clean mid → Prepares (holding old) (holding mid) more (Err e))
-      → TakesAll host (clean is_clean) (standing holding) (old, pending) more mark (Err (of_taking e)) (mid, pending)
+  pub take_unready : (e : TakeError) → (is_honest mid → is_clean old → takings.is_want e ≡ false → is_clean mid) → (is_clean mid → Prepares (holding old) (holding mid) more (Err e))
+      → TakesAll host (honest is_honest) (clean is_clean) (standing holding) (old, pending) more mark (Err (of_taking e)) (mid, pending)
   take_unready e lasts p = record {
+    was_honest = honests;
     was_clean = cleans;
-    stays_clean = λ clean w. lasts clean (sym (want_of_taking e) ∙ w);
+    stays_clean = λ honest clean w. lasts honest clean (sym (want_of_taking e) ∙ w);
     takes = λ clean. (not_prepared host (holding old) pending more e (p clean).1, ap left (p clean).0);
   }
 
-  module _ (taking : Taking) (lasts : is_clean old → is_clean mid) (p : is_clean mid → Prepares (holding old) (holding mid) more (Ok taking)) where
-    pub take_vetoed : host.vetoes taking.newly_kept ≡ true → TakesAll host (clean is_clean) (standing holding) (old, pending) more mark (Err refusal.Veto) (mid, pending)
+  module _ (taking : Taking) (lasts : is_honest mid → is_clean old → is_clean mid) (p : is_clean mid → Prepares (holding old) (holding mid) more (Ok taking)) where
+    pub take_vetoed : host.vetoes taking.newly_kept ≡ true → TakesAll host (honest is_honest) (clean is_clean) (standing holding) (old, pending) more mark (Err refusal.Veto) (mid, pending)
     take_vetoed v = record {
+      was_honest = honests;
       was_clean = cleans;
-      stays_clean = λ clean w. lasts clean;
+      stays_clean = λ honest clean w. lasts honest clean;
       takes = λ clean. (told_veto host (holding old) pending more taking.newly_kept (p clean).2 v, ap left (p clean).0);
     }
 
@@ -93,11 +97,12 @@ module _ {C : Type 0} (host : Host) (is_clean : C → Type 0) (holding : C → H
         subst (λ (h : Holding). IsReady h taking.changes.now taking.newly_kept) (sym (p clean).0)
         (subst (λ (cs : List Change). IsReady (holding old) cs taking.newly_kept) (sym (p clean).1) (p clean).2)
 
-    module _ (new : C) (cleans_mid : is_clean new → is_clean mid) (v : host.vetoes taking.newly_kept ≡ false) where
-      pub take_done : (is_clean mid → is_clean new) → (is_clean new → CommitsAll (holding mid) (holding new) taking.changes.now mark (Ok tt)) → TakesAll host (clean is_clean) (standing holding) (old, pending) more mark (Ok tt) (new, pending)
+    module _ (new : C) (honests_mid : is_honest new → is_honest mid) (cleans_mid : is_clean new → is_clean mid) (v : host.vetoes taking.newly_kept ≡ false) where
+      pub take_done : (is_honest new → is_clean mid → is_clean new) → (is_clean new → CommitsAll (holding mid) (holding new) taking.changes.now mark (Ok tt)) → TakesAll host (honest is_honest) (clean is_clean) (standing holding) (old, pending) more mark (Ok tt) (new, pending)
       take_done last c = record {
+        was_honest = λ honest. honests (honests_mid honest);
         was_clean = λ clean. cleans (cleans_mid clean);
-        stays_clean = λ clean. last (lasts clean);
+        stays_clean = λ honest clean. last honest (lasts (honests_mid honest) clean);
         takes = λ clean. (
             let q = p (cleans_mid clean) in (
               veto_is host (holding old) pending more taking.newly_kept false q.2 v,
@@ -105,10 +110,65 @@ module _ {C : Type 0} (host : Host) (is_clean : C → Type 0) (holding : C → H
             ));
       }
 
-      pub take_refused : (e : CellsError) → (is_clean mid → calls.is_want e ≡ false → is_clean new) → (is_clean new → CommitsAll (holding mid) (holding new) taking.changes.now mark (Err e))
-          → TakesAll host (clean is_clean) (standing holding) (old, pending) more mark (Err (of_store e)) (new, pending)
+      pub take_refused : (e : CellsError) → (is_honest new → is_clean mid → calls.is_want e ≡ false → is_clean new) → (is_clean new → CommitsAll (holding mid) (holding new) taking.changes.now mark (Err e))
+          → TakesAll host (honest is_honest) (clean is_clean) (standing holding) (old, pending) more mark (Err (of_store e)) (new, pending)
       take_refused e last c = record {
+        was_honest = λ honest. honests (honests_mid honest);
         was_clean = λ clean. cleans (cleans_mid clean);
-        stays_clean = λ clean w. last (lasts clean) (sym (want_of_store e) ∙ w);
+        stays_clean = λ honest clean w. last honest (lasts (honests_mid honest) clean) (sym (want_of_store e) ∙ w);
         takes = λ clean. (inl (wanting e (c clean).1), ap left ((c clean).0 ∙ (p (cleans_mid clean)).0));
       }
+
+-- ---- what a peer sent
+
+or_free_behind : (c : Cause) → or_else c Free ≡ c
+or_free_behind Free = refl
+or_free_behind (Is f) = refl
+or_free_behind (Evaluation b) = refl
+
+module _ {C : Type 0} (host : Host) (is_honest is_clean : C → Type 0) (holding : C → Holding) (old : SessionOf C) (more : List Change) (mark : Mark) where
+  abbrev at : State
+  at = standing holding old
+
+  -- the cause, by whether a transaction is open, and whether the site is one's own
+  abbrev peer_cause : Bool → Bool → Cause
+  peer_cause opened own = first_cause (of_option (if opened then Some refusal.TransactionState else (if own then Some refusal.SameSite else None)) ∷ taking_cause host at more ∷ [])
+
+  abbrev TakesPeer : Result (Unit {0}) Refusal → SessionOf C → Type 0
+  TakesPeer result new = TakesFrom host (honest is_honest) (clean is_clean) (standing holding) old more mark result new
+
+  -- refused before the store is asked for anything
+  at_once_refused : (f : Refusal) → (is_clean old.0 → Tells (take_cause host at more (Some mark)) f) → TakesPeer (Err f) old
+  at_once_refused f told = record {
+    was_honest = λ honest. honest;
+    was_clean = λ clean. clean;
+    stays_clean = λ honest clean w. clean;
+    takes = λ clean. (inr (told clean), refl);
+  }
+
+  pub peer_inside : is_some old.1 ≡ true → TakesPeer (Err refusal.TransactionState) old
+  peer_inside e = at_once_refused refusal.TransactionState (λ clean.
+      subst (λ (b : Bool). Tells (peer_cause b (same_bytes mark.0 (holding old.0).site)) refusal.TransactionState) (sym e) refl)
+
+  pub peer_itself : is_some old.1 ≡ false → (is_clean old.0 → same_bytes mark.0 (holding old.0).site ≡ true) → TakesPeer (Err refusal.SameSite) old
+  peer_itself e own = at_once_refused refusal.SameSite (λ clean.
+      subst (λ (b : Bool). Tells (peer_cause b (same_bytes mark.0 (holding old.0).site)) refusal.SameSite) (sym e)
+      (subst (λ (b : Bool). Tells (peer_cause false b) refusal.SameSite) (sym (own clean)) refl))
+
+  cause_left : is_some old.1 ≡ false → same_bytes mark.0 (holding old.0).site ≡ false → take_cause host at more (Some mark) ≡ taking_cause host at more
+  cause_left e other = (λ i. peer_cause (e i) (other i)) ∙ or_free_behind (taking_cause host at more)
+
+  pub peer_taken : is_some old.1 ≡ false → (is_clean old.0 → same_bytes mark.0 (holding old.0).site ≡ false) → (result : Result (Unit {0}) Refusal) (new : SessionOf C)
+      → TakesAll host (honest is_honest) (clean is_clean) (standing holding) old more (Some mark) result new → TakesPeer result new
+  peer_taken e other (Ok u) new t = record {
+    was_honest = t.was_honest;
+    was_clean = t.was_clean;
+    stays_clean = t.stays_clean;
+    takes = λ clean. (cause_left e (other (t.was_clean clean)) ∙ (t.takes clean).0, (t.takes clean).1);
+  }
+  peer_taken e other (Err f) new t = record {
+    was_honest = t.was_honest;
+    was_clean = t.was_clean;
+    stays_clean = t.stays_clean;
+    takes = λ clean. (subst (λ (c : Cause). IsWant f ⊎ Tells c f) (sym (cause_left e (other (t.was_clean clean)))) (t.takes clean).0, (t.takes clean).1);
+  }

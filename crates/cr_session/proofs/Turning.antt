@@ -120,24 +120,26 @@ unread_left n source tokens why e = ap (λ (o : Result (Option (Statement × ℕ
 
 -- ---- turns
 
-module _ {E C : Type 0} (l : Language Statement E) (host : Host) (is_clean : C → Type 0) (stands : C → State) where
+module _ {E C : Type 0} (l : Language Statement E) (host : Host) (is_honest is_clean : C → Type 0) (stands : C → State) where
   -- The statements so far led from one store to another, with these replies: what is left of the script goes on from there.
   pub record Led (source : List ℕ) (all : List (Piece Statement)) (old now : C) (rest : List Token) (replies : List Reply) : Type 0 where
+    pub was_honest : is_honest now → is_honest old
     pub was_clean : is_clean now → is_clean old
-    pub stays_clean : is_clean old → is_clean now
+    pub stays_clean : is_honest now → is_clean old → is_clean now
     pub turns : ℕ
     pub enough : length rest ≤ turns
     pub leads : is_clean now → (xs : List Reply) (why : Option Refusal) (new : State) → Runs l host (stands now) (pieces_left turns source rest) xs why new
         → Runs l host (stands old) all (replies ++ xs) why new
 
   -- what a turn answers
-  pub turned : (old new : C) (found : Result (Option (Statement × ℕ)) Unread) (o p : Option (Reply × ℕ)) → o ≡ p → Turns l host is_clean stands old found (Ok o) new → Turns l host is_clean stands old found (Ok p) new
-  turned old new found o p e = subst (λ (x : Option (Reply × ℕ)). Turns l host is_clean stands old found (Ok x) new) e
+  pub turned : (old new : C) (found : Result (Option (Statement × ℕ)) Unread) (o p : Option (Reply × ℕ)) → o ≡ p → Turns l host is_honest is_clean stands old found (Ok o) new → Turns l host is_honest is_clean stands old found (Ok p) new
+  turned old new found o p e = subst (λ (x : Option (Reply × ℕ)). Turns l host is_honest is_clean stands old found (Ok x) new) e
 
   pub starts : (source : List ℕ) (tokens : List Token) (c : C) (replies : List Reply) → replies ≡ [] → Led source (pieces_left (length tokens) source tokens) c c tokens replies
   starts source tokens c replies e = record {
+    was_honest = λ honest. honest;
     was_clean = λ clean. clean;
-    stays_clean = λ clean. clean;
+    stays_clean = λ honest clean. clean;
     turns = length tokens;
     enough = omega arith;
     leads = λ clean xs why new run. subst (λ (r : List Reply). Runs l host (stands c) (pieces_left (length tokens) source tokens) (r ++ xs) why new) (sym e) run;
@@ -146,15 +148,16 @@ module _ {E C : Type 0} (l : Language Statement E) (host : Host) (is_clean : C �
   -- a statement leads on
   one_run : (source : List ℕ) (all : List (Piece Statement)) (old now : C) (rest rest' : List Token) (replies : List Reply) (t : Reply × ℕ) (now' : C) (turns : ℕ) → length rest ≤ turns
       → (is_clean now → (xs : List Reply) (why : Option Refusal) (new : State) → Runs l host (stands now) (pieces_left turns source rest) xs why new → Runs l host (stands old) all (replies ++ xs) why new)
-      → (is_clean now' → is_clean old) → (is_clean old → is_clean now')
-      → (g : Goes l host is_clean stands now (next source rest) t now') → rest' ≡ drop t.1 rest → Led source all old now' rest' (replies ++ t.0 ∷ [])
-  one_run source all old now rest rest' replies t now' zero few leads was stays g same =
+      → (is_honest now' → is_honest old) → (is_clean now' → is_clean old) → (is_honest now' → is_clean old → is_clean now')
+      → (g : Goes l host is_honest is_clean stands now (next source rest) t now') → rest' ≡ drop t.1 rest → Led source all old now' rest' (replies ++ t.0 ∷ [])
+  one_run source all old now rest rest' replies t now' zero few leads honest_was was stays g same =
       let some = takes source rest g.statement t.1 g.is in
       absurd (omega (arith, few, some.0, some.1))
-  one_run source all old now rest rest' replies t now' (suc n) few leads was stays g same =
+  one_run source all old now rest rest' replies t now' (suc n) few leads honest_was was stays g same =
       let some = takes source rest g.statement t.1 g.is in
       let fewer : length (drop t.1 rest) ≤ n = omega (arith, few, some.0, some.1, length-drop t.1 rest) in
       subst (λ (r : List Token). Led source all old now' r (replies ++ t.0 ∷ [])) (sym same) (record {
+        was_honest = honest_was;
         was_clean = was;
         stays_clean = stays;
         turns = n;
@@ -167,18 +170,19 @@ module _ {E C : Type 0} (l : Language Statement E) (host : Host) (is_clean : C �
       })
 
   pub more : (source : List ℕ) (all : List (Piece Statement)) (old now : C) (rest rest' : List Token) (replies replies' : List Reply) (t : Reply × ℕ) (now' : C)
-      → Led source all old now rest replies → Goes l host is_clean stands now (next source rest) t now' → rest' ≡ drop t.1 rest → replies' ≡ replies ++ t.0 ∷ [] → Led source all old now' rest' replies'
+      → Led source all old now rest replies → Goes l host is_honest is_clean stands now (next source rest) t now' → rest' ≡ drop t.1 rest → replies' ≡ replies ++ t.0 ∷ [] → Led source all old now' rest' replies'
   more source all old now rest rest' replies replies' t now' d g same told =
       subst (Led source all old now' rest') (sym told)
-      (one_run source all old now rest rest' replies t now' d.turns d.enough d.leads (λ clean. d.was_clean (g.carries.was_clean clean)) (λ clean. g.carries.stays_clean (d.stays_clean clean)) g same)
+      (one_run source all old now rest rest' replies t now' d.turns d.enough d.leads (λ honest. d.was_honest (g.carries.was_honest honest)) (λ clean. d.was_clean (g.carries.was_clean clean)) (λ honest clean. g.carries.stays_clean honest (d.stays_clean (g.carries.was_honest honest) clean)) g same)
 
   -- ---- how a script ends
 
   pub ends : (source : List ℕ) (all : List (Piece Statement)) (old now : C) (rest : List Token) (replies : List Reply)
-      → Led source all old now rest replies → next source rest ≡ Ok None → CarriesAll l host is_clean stands old all replies None now
+      → Led source all old now rest replies → next source rest ≡ Ok None → CarriesAll l host is_honest is_clean stands old all replies None now
   ends source all old now rest replies d e = record {
+    was_honest = d.was_honest;
     was_clean = d.was_clean;
-    stays_clean = λ clean told. d.stays_clean clean;
+    stays_clean = λ honest clean told. d.stays_clean honest clean;
     runs = λ clean.
         subst (λ (r : List Reply). Runs l host (stands old) all r None (stands now)) (append-nil replies)
         (d.leads clean [] None (stands now)
@@ -193,20 +197,21 @@ module _ {E C : Type 0} (l : Language Statement E) (host : Host) (is_clean : C �
 
   -- what is left ends with this refusal
   refused : (source : List ℕ) (all : List (Piece Statement)) (old now : C) (rest : List Token) (replies : List Reply) (r : Refusal) (new : C)
-      → (d : Led source all old now rest replies) → (is_clean new → is_clean now) → (is_clean now → is_want r ≡ false → is_clean new)
-      → (is_clean new → Runs l host (stands now) (pieces_left d.turns source rest) [] (Some r) (stands new)) → CarriesAll l host is_clean stands old all replies (Some r) new
-  refused source all old now rest replies r new d was stays run = record {
+      → (d : Led source all old now rest replies) → (is_honest new → is_honest now) → (is_clean new → is_clean now) → (is_honest new → is_clean now → is_want r ≡ false → is_clean new)
+      → (is_clean new → Runs l host (stands now) (pieces_left d.turns source rest) [] (Some r) (stands new)) → CarriesAll l host is_honest is_clean stands old all replies (Some r) new
+  refused source all old now rest replies r new d honest_was was stays run = record {
+    was_honest = λ honest. d.was_honest (honest_was honest);
     was_clean = λ clean. d.was_clean (was clean);
-    stays_clean = λ clean told. stays (d.stays_clean clean) told;
+    stays_clean = λ honest clean told. stays honest (d.stays_clean (honest_was honest) clean) told;
     runs = λ clean.
         subst (λ (x : List Reply). Runs l host (stands old) all x (Some r) (stands new)) (append-nil replies)
         (d.leads (was clean) [] (Some r) (stands new) (run clean));
   }
 
   pub wants : (source : List ℕ) (all : List (Piece Statement)) (old now : C) (rest : List Token) (replies : List Reply)
-      → Led source all old now rest replies → CarriesAll l host is_clean stands old all replies (Some Memory) now
+      → Led source all old now rest replies → CarriesAll l host is_honest is_clean stands old all replies (Some Memory) now
   wants source all old now rest replies d =
-      refused source all old now rest replies Memory now d (λ clean. clean) (λ clean told. clean) (λ clean. wanting (stands now) (pieces_left d.turns source rest))
+      refused source all old now rest replies Memory now d (λ honest. honest) (λ clean. clean) (λ honest clean told. clean) (λ clean. wanting (stands now) (pieces_left d.turns source rest))
 
   -- what is left begins with a piece, where there is a next statement or why it isn't read
   unread_runs : (source : List ℕ) (rest : List Token) (st : State) (n : ℕ) (why : Unread) (r : Refusal) → length rest ≤ n → next source rest ≡ Err why → (r ≡ of_unread why) ⊎ (r ≡ Memory)
@@ -217,18 +222,18 @@ module _ {E C : Type 0} (l : Language Statement E) (host : Host) (is_clean : C �
       subst (λ (ps : List (Piece Statement)). Runs l host st ps [] (Some r) st) (sym (unread_left n source rest why e)) (told, refl)
 
   refuses_runs : (source : List ℕ) (rest : List Token) (now new : C) (n : ℕ) (x : Statement) (k : ℕ) (r : Refusal) → length rest ≤ n → next source rest ≡ Ok (Some (x, k))
-      → Carries l host is_clean stands now [] x (Err r) new → is_clean new → Runs l host (stands now) (pieces_left n source rest) [] (Some r) (stands new)
+      → Carries l host is_honest is_clean stands now [] x (Err r) new → is_clean new → Runs l host (stands now) (pieces_left n source rest) [] (Some r) (stands new)
   refuses_runs source rest now new zero x k r few e carries clean = let some = takes source rest x k e in absurd (omega (arith, few, some.0, some.1))
   refuses_runs source rest now new (suc n) x k r few e carries clean =
       subst (λ (ps : List (Piece Statement)). Runs l host (stands now) ps [] (Some r) (stands new)) (sym (one_left n source rest x k e)) (carries.answers clean, sym (carries.leaves clean))
 
   pub stops : (source : List ℕ) (all : List (Piece Statement)) (old now : C) (rest : List Token) (replies : List Reply) (r : Refusal) (new : C)
-      → Led source all old now rest replies → Stops l host is_clean stands now (next source rest) r new → CarriesAll l host is_clean stands old all replies (Some r) new
+      → Led source all old now rest replies → Stops l host is_honest is_clean stands now (next source rest) r new → CarriesAll l host is_honest is_clean stands old all replies (Some r) new
   stops source all old now rest replies r new d (inl (why, e, told, same)) =
-      subst (CarriesAll l host is_clean stands old all replies (Some r)) (sym same)
-      (refused source all old now rest replies r now d (λ clean. clean) (λ clean told. clean) (λ clean. unread_runs source rest (stands now) d.turns why r d.enough e told))
+      subst (CarriesAll l host is_honest is_clean stands old all replies (Some r)) (sym same)
+      (refused source all old now rest replies r now d (λ honest. honest) (λ clean. clean) (λ honest clean told. clean) (λ clean. unread_runs source rest (stands now) d.turns why r d.enough e told))
   stops source all old now rest replies r new d (inr (inl (x, k, e, carries))) =
-      refused source all old now rest replies r new d carries.was_clean carries.stays_clean (refuses_runs source rest now new d.turns x k r d.enough e carries)
+      refused source all old now rest replies r new d carries.was_honest carries.was_clean carries.stays_clean (refuses_runs source rest now new d.turns x k r d.enough e carries)
   stops source all old now rest replies r new d (inr (inr (e, same))) =
-      subst (CarriesAll l host is_clean stands old all replies (Some r)) (sym same)
-      (subst (λ (x : Refusal). CarriesAll l host is_clean stands old all replies (Some x) now) (sym e) (wants source all old now rest replies d))
+      subst (CarriesAll l host is_honest is_clean stands old all replies (Some r)) (sym same)
+      (subst (λ (x : Refusal). CarriesAll l host is_honest is_clean stands old all replies (Some x) now) (sym e) (wants source all old now rest replies d))

@@ -110,10 +110,11 @@ module _ (means : Means) (params : List Value) (host : Host) (st : State) (x : V
   Performs (Err f) new = (IsWant f ⊎ Tells against f) × (new ≡ refused st x f)
 
 -- A statement whose names are resolved, with these parameters. It holds where the store is clean after it, as it is where it was
--- clean before and there was no want.
-pub record Performed {C : Type 0} (means : Means) (params : List Value) (host : Host) (is_clean : C → Type 0) (stands : C → State) (old : C) (x : Resolved) (result : Result Reply Refusal) (new : C) : Type 0 where
+-- clean before, its device is honest, and there was no want.
+pub record Performed {C : Type 0} (means : Means) (params : List Value) (host : Host) (is_honest is_clean : C → Type 0) (stands : C → State) (old : C) (x : Resolved) (result : Result Reply Refusal) (new : C) : Type 0 where
+  pub was_honest : is_honest new → is_honest old
   pub was_clean : is_clean new → is_clean old
-  pub stays_clean : is_clean old → UnlessWant is_want result (is_clean new)
+  pub stays_clean : is_honest new → is_clean old → UnlessWant is_want result (is_clean new)
   pub performs : is_clean new → Performs means params host (stands old) (view x) result (stands new)
 
 -- ---- the changes of a write
@@ -129,9 +130,10 @@ abbrev pub AreCommitted : Host → State → List Change → Result Reply Refusa
 AreCommitted host old more (Ok reply) new = (commit_cause host old more ≡ Free) × ((reply ≡ Done) × (new ≡ taking more None old))
 AreCommitted host old more (Err f) new = (IsWant f ⊎ Tells (commit_cause host old more) f) × (new ≡ old)
 
-pub record Commits {C : Type 0} (host : Host) (is_clean : C → Type 0) (stands : C → State) (old : C) (more : List Change) (result : Result Reply Refusal) (new : C) : Type 0 where
+pub record Commits {C : Type 0} (host : Host) (is_honest is_clean : C → Type 0) (stands : C → State) (old : C) (more : List Change) (result : Result Reply Refusal) (new : C) : Type 0 where
+  pub was_honest : is_honest new → is_honest old
   pub was_clean : is_clean new → is_clean old
-  pub stays_clean : is_clean old → UnlessWant is_want result (is_clean new)
+  pub stays_clean : is_honest new → is_clean old → UnlessWant is_want result (is_clean new)
   pub commits : is_clean new → AreCommitted host (stands old) more result (stands new)
 
 -- nothing holds against changes that an open transaction keeps
@@ -144,7 +146,8 @@ abbrev pub AreAdded : Host → State → List Change → Result Reply Refusal �
 AreAdded host old more (Ok reply) new = (adding_cause host old more ≡ Free) × ((reply ≡ Done) × (new ≡ adding more old))
 AreAdded host old more (Err f) new = (IsWant f ⊎ Tells (adding_cause host old more) f) × (new ≡ old)
 
-pub record Adds {C : Type 0} (host : Host) (is_clean : C → Type 0) (stands : C → State) (old : C) (more : List Change) (result : Result Reply Refusal) (new : C) : Type 0 where
+pub record Adds {C : Type 0} (host : Host) (is_honest is_clean : C → Type 0) (stands : C → State) (old : C) (more : List Change) (result : Result Reply Refusal) (new : C) : Type 0 where
+  pub was_honest : is_honest new → is_honest old
   pub was_clean : is_clean new → is_clean old
-  pub stays_clean : is_clean old → UnlessWant is_want result (is_clean new)
+  pub stays_clean : is_honest new → is_clean old → UnlessWant is_want result (is_clean new)
   pub adds : is_clean new → AreAdded host (stands old) more result (stands new)

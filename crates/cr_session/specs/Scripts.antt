@@ -40,39 +40,42 @@ second_place [] = None
 second_place (t ∷ []) = None
 second_place (t ∷ u ∷ us) = Some u.from
 
-module _ {S E C : Type 0} (l : Language S E) (host : Host) (is_clean : C → Type 0) (stands : C → State) where
-  -- A statement with these parameters. It holds where the store is clean after it, as it is where it was clean before and there
-  -- was no want.
+module _ {S E C : Type 0} (l : Language S E) (host : Host) (is_honest is_clean : C → Type 0) (stands : C → State) where
+  -- A statement with these parameters. It holds where the store is clean after it, as it is where it was clean before, its device
+  -- is honest, and there was no want.
   pub record Carries (old : C) (params : List Value) (x : S) (result : Result Reply Refusal) (new : C) : Type 0 where
+    pub was_honest : is_honest new → is_honest old
     pub was_clean : is_clean new → is_clean old
-    pub stays_clean : is_clean old → UnlessWant is_want result (is_clean new)
+    pub stays_clean : is_honest new → is_clean old → UnlessWant is_want result (is_clean new)
     pub answers : is_clean new → Answers l host (stands old) params x result (stands old).modules
     pub leaves : is_clean new → stepped l host (stands old) params x result (stands old).modules ≡ stands new
 
   -- a text that is to be one statement, with these parameters
   pub record Executed (old : C) (params : List Value) (piece : Option (Piece S)) (result : Result Reply Refusal) (new : C) : Type 0 where
+    pub was_honest : is_honest new → is_honest old
     pub was_clean : is_clean new → is_clean old
-    pub stays_clean : is_clean old → UnlessWant is_want result (is_clean new)
+    pub stays_clean : is_honest new → is_clean old → UnlessWant is_want result (is_clean new)
     pub executes : is_clean new → Executes l host (stands old) params piece result (stands new)
 
   -- the same of the pieces of a script, with these replies, and this refusal if there is one
   pub record CarriesAll (old : C) (pieces : List (Piece S)) (replies : List Reply) (why : Option Refusal) (new : C) : Type 0 where
+    pub was_honest : is_honest new → is_honest old
     pub was_clean : is_clean new → is_clean old
-    pub stays_clean : is_clean old → script_wants why ≡ false → is_clean new
+    pub stays_clean : is_honest new → is_clean old → script_wants why ≡ false → is_clean new
     pub runs : is_clean new → Runs l host (stands old) pieces replies why (stands new)
 
-module _ {E C : Type 0} (l : Language Statement E) (host : Host) (is_clean : C → Type 0) (stands : C → State) where
+module _ {E C : Type 0} (l : Language Statement E) (host : Host) (is_honest is_clean : C → Type 0) (stands : C → State) where
   -- The next statement of a script is refused: it can't be read, or it can't be carried out, or there is no memory for it.
   abbrev pub Stops : C → Result (Option (Statement × ℕ)) Unread → Refusal → C → Type 0
   Stops old found r new =
       ((why : Unread) × (found ≡ Err why) × ((r ≡ of_unread why) ⊎ (r ≡ refusal.Memory)) × (new ≡ old))
-      ⊎ (((x : Statement) × (n : ℕ) × (found ≡ Ok (Some (x, n))) × Carries l host is_clean stands old [] x (Err r) new)
+      ⊎ (((x : Statement) × (n : ℕ) × (found ≡ Ok (Some (x, n))) × Carries l host is_honest is_clean stands old [] x (Err r) new)
       ⊎ ((r ≡ refusal.Memory) × (new ≡ old)))
 
   pub record Goes (old : C) (found : Result (Option (Statement × ℕ)) Unread) (t : Reply × ℕ) (new : C) : Type 0 where
     pub statement : Statement
     pub is : found ≡ Ok (Some (statement, t.1))
-    pub carries : Carries l host is_clean stands old [] statement (Ok t.0) new
+    pub carries : Carries l host is_honest is_clean stands old [] statement (Ok t.0) new
 
   -- one statement, and how many tokens it takes; none where no statement is left
   abbrev pub Turns : C → Result (Option (Statement × ℕ)) Unread → Result (Option (Reply × ℕ)) Refusal → C → Type 0

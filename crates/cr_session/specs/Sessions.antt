@@ -1,5 +1,5 @@
 -- What a replica replies to a command that looks at no other, and where it then stands. Source: this project's own.
-use Rattle.std.specs.Prelude.{◌≡◌, ◌⊎◌, ℕ, Bool, true, false, List, [], ◌++◌, find, Option, Result, Ok, Err, MatchResult}
+use Rattle.std.specs.Prelude.{◌≡◌, ◌⊎◌, ℕ, Bool, true, false, List, [], ◌++◌, find, Option, Some, Result, Ok, Err, MatchResult}
 use Rattle.cr_lattice.specs.declared.change.Change.{Change}
 use Rattle.cr_cells.specs.declared.store.CellsError.{CellsError}
 use Rattle.cr_cells.specs.Calls.{IsRefusal, UnlessWant}
@@ -12,7 +12,7 @@ use Rattle.cr_replica.specs.declared.snapshot.Snapshot.{Snapshot}
 use Rattle.cr_replica.specs.ChangeRow.{change_of}
 use Rattle.cr_replica.specs.declared.definition.DefineError.{DefineError}
 use Rattle.cr_replica.specs.declared.definition.DefineError.TheVariants as define
-use Rattle.cr_snapshot.specs.Seen.{IsSeen}
+use Rattle.cr_snapshot.specs.Seen.{IsNamed, IsSeen}
 use Rattle.cr_world.specs.declared.command.Command.{Command}
 use Rattle.cr_world.specs.declared.command.Command.TheVariants.{Open, Use, Define, Take, Rows, Changes, Pull, PullSince, Policy, Sql}
 use Rattle.cr_world.specs.declared.command.Declaration.TheVariants.{Real, Table as Declared}
@@ -30,7 +30,7 @@ use Rattle.cr_world.specs.Statement.{Host}
 use Rattle.cr_world.specs.Scripts.{Runs, after_script, added_by_script}
 use Rattle.cr_world.specs.World.{Member, Closures}
 use Rattle.cr_world.specs.Answers.{IsDone, Takes, ShowsRows, ShowsChanges, tells_want}
-use Rattle.cr_world.specs.Takings.{taking_cause, taking, define_cause, defining, taking_row}
+use Rattle.cr_world.specs.Takings.{take_cause, taking_cause, taking, define_cause, defining, taking_row}
 
 -- what authorizer and commit hook say
 abbrev pub closures : Asked → (List Change → Bool) → Closures
@@ -51,6 +51,10 @@ abbrev pub SessionOf : Type 0 → Type 0
 SessionOf C = C × Option (List Change)
 
 -- the device of its store gave back what was written
+abbrev pub honest : {C : Type 0} → (C → Type 0) → SessionOf C → Type 0
+honest is_honest s = is_honest s.0
+
+-- the same, and it is still there
 abbrev pub clean : {C : Type 0} → (C → Type 0) → SessionOf C → Type 0
 clean is_clean s = is_clean s.0
 
@@ -62,7 +66,12 @@ state_of h pending = record { holding = h; pending = pending; modules = [] }
 abbrev pub standing : {C : Type 0} → (C → Holding) → SessionOf C → State
 standing holding s = state_of (holding s.0) s.1
 
--- a reading leaves a session where it stands, and gives what is seen there, or memory or the store does not suffice
+-- a reading leaves a session where it stands, and gives the names there, or memory or the store does not suffice
+pub record Names (old new : State) (result : Result Snapshot CellsError) : Type 0 where
+  pub same : new ≡ old
+  pub names : MatchResult result (IsNamed old) IsRefusal
+
+-- the same of what is seen there
 pub record Sees (old new : State) (result : Result Snapshot CellsError) : Type 0 where
   pub same : new ≡ old
   pub sees : MatchResult result (IsSeen old) IsRefusal
@@ -74,10 +83,22 @@ abbrev pub Taken : Host → State → List Change → Option Mark → Result (Un
 Taken host old more mark (Ok u) new = (taking_cause host old more ≡ Free) × (new ≡ taking more mark old)
 Taken host old more mark (Err r) new = (IsWant r ⊎ Tells (taking_cause host old more) r) × (new ≡ old)
 
-pub record TakesAll {C : Type 0} (host : Host) (is_clean : C → Type 0) (stands : C → State) (old : C) (more : List Change) (mark : Option Mark) (result : Result (Unit {0}) Refusal) (new : C) : Type 0 where
+pub record TakesAll {C : Type 0} (host : Host) (is_honest is_clean : C → Type 0) (stands : C → State) (old : C) (more : List Change) (mark : Option Mark) (result : Result (Unit {0}) Refusal) (new : C) : Type 0 where
+  pub was_honest : is_honest new → is_honest old
   pub was_clean : is_clean new → is_clean old
-  pub stays_clean : is_clean old → UnlessWant is_want result (is_clean new)
+  pub stays_clean : is_honest new → is_clean old → UnlessWant is_want result (is_clean new)
   pub takes : is_clean new → Taken host (stands old) more mark result (stands new)
+
+-- The same of what a peer sent, with its mark: an open transaction is told first, and then that the peer's site is one's own.
+abbrev pub TakenFrom : Host → State → List Change → Mark → Result (Unit {0}) Refusal → State → Type 0
+TakenFrom host old more mark (Ok u) new = (take_cause host old more (Some mark) ≡ Free) × (new ≡ taking more (Some mark) old)
+TakenFrom host old more mark (Err r) new = (IsWant r ⊎ Tells (take_cause host old more (Some mark)) r) × (new ≡ old)
+
+pub record TakesFrom {C : Type 0} (host : Host) (is_honest is_clean : C → Type 0) (stands : C → State) (old : C) (more : List Change) (mark : Mark) (result : Result (Unit {0}) Refusal) (new : C) : Type 0 where
+  pub was_honest : is_honest new → is_honest old
+  pub was_clean : is_clean new → is_clean old
+  pub stays_clean : is_honest new → is_clean old → UnlessWant is_want result (is_clean new)
+  pub takes : is_clean new → TakenFrom host (stands old) more mark result (stands new)
 
 -- ---- commands
 
@@ -139,10 +160,11 @@ module _ {S E : Type 0} (l : Language S E) (host : Host) where
   own_after (Sql text) (Script x) m = script_left text x m
   own_after command reply m = m
 
-  -- A command of one replica. It holds where the store is clean after it, as it is where it was clean before and the reply
-  -- does not tell of want.
-  pub record Does {C : Type 0} (is_clean : C → Type 0) (stands : C → State) (old : C) (command : Command) (reply : FleetReply) (new : C) : Type 0 where
+  -- A command of one replica. It holds where the store is clean after it, as it is where it was clean before, its device is
+  -- honest, and the reply does not tell of want.
+  pub record Does {C : Type 0} (is_honest is_clean : C → Type 0) (stands : C → State) (old : C) (command : Command) (reply : FleetReply) (new : C) : Type 0 where
+    pub was_honest : is_honest new → is_honest old
     pub was_clean : is_clean new → is_clean old
-    pub stays_clean : is_clean old → tells_want reply ≡ false → is_clean new
+    pub stays_clean : is_honest new → is_clean old → tells_want reply ≡ false → is_clean new
     pub answers : is_clean new → OwnAnswers (stands old) command reply
     pub leaves : is_clean new → (m : Member) → m.state ≡ stands old → (own_after command reply m).state ≡ stands new

@@ -6,7 +6,7 @@ ghost use Rattle.cr_session.specs.Scripts.{is_empty, second_place};
 use crate::script::{behind, of_unread};
 use crate::session::Session;
 use crate::speaking::{Speaking, Watching};
-use cr_cells::store::NewCells;
+use cr_cells::store::Cells;
 use cr_guard::guarding::Guarding;
 use cr_host::functions::Functions;
 use cr_lex::scan::tokens;
@@ -38,10 +38,10 @@ fn second_place(tokens: &[Token]) -> Option<usize>
     }
 }
 
-impl<C: NewCells> Session<C> {
+impl<C: Cells> Session<C> {
     ghost use Rattle.std.specs.Prelude.{ℕ, Bool, List};
     ghost use Rattle.cr_session.specs.Scripts.{Executed, single_left};
-    ghost use Rattle.cr_session.specs.Sessions.{clean, standing};
+    ghost use Rattle.cr_session.specs.Sessions.{clean, honest, standing};
 
     // Carries out the one statement of these tokens, if there is one.
     fn single<F: Functions, G: Guarding>(
@@ -56,7 +56,7 @@ impl<C: NewCells> Session<C> {
         requires functions { F.is_faithful functions.now }
         requires guard { G.is_faithful guard.now }
         ensures { (has : List ℕ → Bool) → ⟦<F as Speaking>⟧.are_names functions.now has
-            → Executed (⟦<F as Speaking>⟧.language functions.now has) (⟦<G as Watching>⟧.host guard.now) (clean C.is_clean) (standing C.holding) self.old params.now (single_left source.now tokens.now) result self.new }
+            → Executed (⟦<F as Speaking>⟧.language functions.now has) (⟦<G as Watching>⟧.host guard.now) (honest C.is_honest) (clean C.is_clean) (standing C.holding) self.old params.now (single_left source.now tokens.now) result self.new }
     {
         if is_empty(source, tokens) {
             return match second_place(tokens) {
@@ -94,7 +94,7 @@ impl<C: NewCells> Session<C> {
         requires functions { F.is_faithful functions.now }
         requires guard { G.is_faithful guard.now }
         ensures { (has : List ℕ → Bool) → ⟦<F as Speaking>⟧.are_names functions.now has
-            → Executed (⟦<F as Speaking>⟧.language functions.now has) (⟦<G as Watching>⟧.host guard.now) (clean C.is_clean) (standing C.holding) self.old params.now ((⟦<F as Speaking>⟧.language functions.now has).single source.now) result self.new }
+            → Executed (⟦<F as Speaking>⟧.language functions.now has) (⟦<G as Watching>⟧.host guard.now) (honest C.is_honest) (clean C.is_clean) (standing C.holding) self.old params.now ((⟦<F as Speaking>⟧.language functions.now has).single source.now) result self.new }
     {
         match tokens(alloc, source) {
             Ok(tokens) => self.single(alloc, functions, guard, source, &tokens, params),

@@ -15,7 +15,7 @@ ghost use Rattle.cr_session.specs.Performing.{Passes, Performs, not_replicated};
 use crate::session::Session;
 use crate::speaking::Watching;
 use cr_answer::selecting::answer_query;
-use cr_cells::store::NewCells;
+use cr_cells::store::Cells;
 use cr_expr::given::Hosted;
 use cr_guard::guarding::Guarding;
 use cr_host::functions::Functions;
@@ -86,8 +86,8 @@ fn marked_reply(alloc: Global, is_ignored: bool) -> Result<Reply, AllocError>
     Ok(Reply::Rows(Items::new(rows)))
 }
 
-// Answers a SELECT.
-fn select<F: Functions>(
+// Answers a SELECT over what is seen.
+fn answered<F: Functions>(
     alloc: Global,
     functions: &F,
     snapshot: &Snapshot,
@@ -103,7 +103,7 @@ fn select<F: Functions>(
     }
 }
 
-impl<C: NewCells> Session<C> {
+impl<C: Cells> Session<C> {
     ghost use Rattle.std.specs.Prelude.{◌≡◌, true, false, List};
     ghost use Rattle.cr_cells.specs.Holding.{IsSound};
     ghost use Rattle.cr_cells.specs.Tables.{IsNewTable};
@@ -111,17 +111,36 @@ impl<C: NewCells> Session<C> {
     ghost use Rattle.cr_replica.specs.Snapshots.{IsWhole};
     ghost use Rattle.cr_scalar.specs.Host.{Host as Means};
     ghost use Rattle.cr_value.specs.declared.value.Value.{Value};
-    ghost use Rattle.cr_snapshot.specs.Seen.{IsSeen, catalog_of};
+    ghost use Rattle.cr_snapshot.specs.Seen.{IsNamed, catalog_of};
     ghost use Rattle.cr_term.specs.declared.query.Resolved.TheVariants as r;
     ghost use Rattle.cr_world.specs.State.{catalog};
     ghost use Rattle.cr_world.specs.Statement.{Host};
     ghost use Rattle.cr_session.specs.Performing.{Performed, is_performed, is_table};
-    ghost use Rattle.cr_session.specs.Sessions.{clean, standing};
+    ghost use Rattle.cr_session.specs.Sessions.{clean, honest, standing};
+
+    // Answers a SELECT.
+    fn select<F: Functions>(
+        &mut self,
+        alloc: Global,
+        functions: &F,
+        names: Snapshot,
+        query: &Query,
+        params: &[Value],
+    ) -> Result<Reply, Refusal>
+        requires functions { F.is_faithful functions.now }
+        requires named { C.is_clean self.old.0 → IsNamed (standing C.holding self.old) names }
+        ensures { (host : Host) → Performed (⟦<F as Hosted>⟧.means functions.now) params.now host (honest C.is_honest) (clean C.is_clean) (standing C.holding) self.old (r.Select query.now) result self.new }
+    {
+        match self.see(alloc, names) {
+            Ok(snapshot) => answered(alloc, functions, &snapshot, query, params),
+            Err(error) => Err(Refusal::from(error)),
+        }
+    }
 
     // Makes a new table outside of transactions, unless its name is taken and that is no matter.
     fn create(&mut self, alloc: Global, create: &Create) -> Result<Reply, Refusal>
         requires { C.is_clean self.old.0 → create.now.is_there ≡ false → IsNewTable (C.holding self.old.0).tables create.now.definition }
-        ensures { (means : Means) (params : List Value) (host : Host) → Performed means params host (clean C.is_clean) (standing C.holding) self.old (r.Create create.now) result self.new }
+        ensures { (means : Means) (params : List Value) (host : Host) → Performed means params host (honest C.is_honest) (clean C.is_clean) (standing C.holding) self.old (r.Create create.now) result self.new }
     {
         if self.in_transaction() {
             return Err(Refusal::TransactionState);
@@ -140,7 +159,7 @@ impl<C: NewCells> Session<C> {
         requires sound { C.is_clean self.old.0 → IsSound (C.holding self.old.0) }
         requires relation { C.is_clean self.old.0 → HasRelation (catalog (standing C.holding self.old)) alter.now.relation }
         requires fits { FitsIn alter.now.relation.definition alter.now.column }
-        ensures { (means : Means) (params : List Value) (host : Host) → Performed means params host (clean C.is_clean) (standing C.holding) self.old (r.Alter alter.now) result self.new }
+        ensures { (means : Means) (params : List Value) (host : Host) → Performed means params host (honest C.is_honest) (clean C.is_clean) (standing C.holding) self.old (r.Alter alter.now) result self.new }
     {
         if self.in_transaction() {
             return Err(Refusal::TransactionState);
@@ -162,7 +181,7 @@ impl<C: NewCells> Session<C> {
     // Makes a table replicated outside of transactions, unless the authorizer ignores the call.
     fn mark_replicated(&mut self, alloc: Global, mark: &MarkReplicated) -> Result<Reply, Refusal>
         requires { C.is_clean self.old.0 → HasRelation (catalog (standing C.holding self.old)) mark.now.relation }
-        ensures { (means : Means) (params : List Value) (host : Host) → Performed means params host (clean C.is_clean) (standing C.holding) self.old (r.MarkReplicated mark.now) result self.new }
+        ensures { (means : Means) (params : List Value) (host : Host) → Performed means params host (honest C.is_honest) (clean C.is_clean) (standing C.holding) self.old (r.MarkReplicated mark.now) result self.new }
     {
         if self.in_transaction() {
             return Err(Refusal::TransactionState);
@@ -186,39 +205,32 @@ impl<C: NewCells> Session<C> {
         }
     }
 
-    /// Carries out a statement that neither opens nor ends a transaction, over what is seen, with these
-    /// parameters.
+    /// Carries out a statement that neither opens nor ends a transaction, under these names, with these parameters.
     pub(crate) fn perform<F: Functions, G: Guarding>(
         &mut self,
         alloc: Global,
         functions: &F,
         guard: &G,
-        snapshot: &Snapshot,
+        names: Snapshot,
         statement: &Resolved,
         params: &[Value],
     ) -> Result<Reply, Refusal>
         requires functions { F.is_faithful functions.now }
         requires guard { G.is_faithful guard.now }
         requires sound { C.is_clean self.old.0 → IsSound (C.holding self.old.0) }
-        requires seen { C.is_clean self.old.0 → IsSeen (standing C.holding self.old) snapshot.now }
-        requires whole { IsWhole snapshot.now }
-        requires suits { Suits (catalog_of snapshot.now) statement.now }
+        requires named { C.is_clean self.old.0 → IsNamed (standing C.holding self.old) names }
+        requires whole { IsWhole names }
+        requires suits { Suits (catalog_of names) statement.now }
         requires form { is_performed statement.now ≡ true }
-        ensures { Performed (⟦<F as Hosted>⟧.means functions.now) params.now (⟦<G as Watching>⟧.host guard.now) (clean C.is_clean) (standing C.holding) self.old statement.now result self.new }
+        ensures { Performed (⟦<F as Hosted>⟧.means functions.now) params.now (⟦<G as Watching>⟧.host guard.now) (honest C.is_honest) (clean C.is_clean) (standing C.holding) self.old statement.now result self.new }
     {
         match statement {
-            Resolved::Select(query) => select(alloc, functions, snapshot, query, params),
+            Resolved::Select(query) => self.select(alloc, functions, names, query, params),
             Resolved::MarkReplicated(mark) => self.mark_replicated(alloc, mark),
             Resolved::Create(create) => self.create(alloc, create),
-            Resolved::Insert(insert) => self.insert(
-                alloc, functions, guard, snapshot, insert, params,
-            ),
-            Resolved::Update(update) => self.update(
-                alloc, functions, guard, snapshot, update, params,
-            ),
-            Resolved::Delete(delete) => self.delete(
-                alloc, functions, guard, snapshot, delete, params,
-            ),
+            Resolved::Insert(insert) => self.insert(alloc, functions, guard, names, insert, params),
+            Resolved::Update(update) => self.update(alloc, functions, guard, names, update, params),
+            Resolved::Delete(delete) => self.delete(alloc, functions, guard, names, delete, params),
             Resolved::Alter(alter) => self.alter(alloc, alter),
             // No such statement comes here: it is carried out without a look at the store.
             Resolved::Begin | Resolved::Commit | Resolved::Rollback => {

@@ -10,7 +10,7 @@ ghost use Rattle.cr_session.specs.Performing.{is_transaction};
 use crate::session::Session;
 use crate::speaking::{Speaking, Watching};
 use cr_answer::allowing::allowed;
-use cr_cells::store::NewCells;
+use cr_cells::store::Cells;
 use cr_guard::guarding::Guarding;
 use cr_host::functions::Functions;
 use cr_lattice::table::Items;
@@ -78,11 +78,11 @@ pub(crate) fn behind(tokens: &[Token], len: usize) -> &[Token]
     &tokens[len..]
 }
 
-impl<C: NewCells> Session<C> {
+impl<C: Cells> Session<C> {
     ghost use Rattle.std.specs.Prelude.{◌<◌, ℕ, Bool, List, []};
     ghost use Rattle.cr_fit.specs.Folded.{DefinesFolded};
     ghost use Rattle.cr_session.specs.Scripts.{Carries, CarriesAll, Turns, next, pieces_left};
-    ghost use Rattle.cr_session.specs.Sessions.{clean, standing};
+    ghost use Rattle.cr_session.specs.Sessions.{clean, honest, standing};
 
     /// Carries out a statement, with values for its parameters.
     pub(crate) fn statement<F: Functions, G: Guarding>(
@@ -97,20 +97,20 @@ impl<C: NewCells> Session<C> {
         requires guard { G.is_faithful guard.now }
         requires folded { DefinesFolded statement.now }
         ensures { (has : List ℕ → Bool) → ⟦<F as Speaking>⟧.are_names functions.now has
-            → Carries (⟦<F as Speaking>⟧.language functions.now has) (⟦<G as Watching>⟧.host guard.now) (clean C.is_clean) (standing C.holding) self.old params.now statement.now result self.new }
+            → Carries (⟦<F as Speaking>⟧.language functions.now has) (⟦<G as Watching>⟧.host guard.now) (honest C.is_honest) (clean C.is_clean) (standing C.holding) self.old params.now statement.now result self.new }
     {
         if is_transaction(statement) {
             return self.transact(alloc, functions, guard, statement, params);
         }
-        let snapshot = match self.snapshot(alloc) {
-            Ok(snapshot) => snapshot,
+        let names = match self.names(alloc) {
+            Ok(names) => names,
             Err(error) => return Err(Refusal::from(error)),
         };
-        let resolved = match allowed(alloc, functions, guard, &snapshot, statement, params.len()) {
+        let resolved = match allowed(alloc, functions, guard, &names, statement, params.len()) {
             Ok(resolved) => resolved,
             Err(refusal) => return Err(refusal),
         };
-        self.perform(alloc, functions, guard, &snapshot, &resolved, params)
+        self.perform(alloc, functions, guard, names, &resolved, params)
     }
 
     // Carries out the next statement of a script, and tells how many tokens stand up to its end; none where no statement is
@@ -127,7 +127,7 @@ impl<C: NewCells> Session<C> {
         requires guard { G.is_faithful guard.now }
         ensures takes { IfOk result (λ o. IfSome o (λ t. (0 < t.1) × (t.1 ≤ length tokens.now))) }
         ensures turns { (has : List ℕ → Bool) → ⟦<F as Speaking>⟧.are_names functions.now has
-            → Turns (⟦<F as Speaking>⟧.language functions.now has) (⟦<G as Watching>⟧.host guard.now) (clean C.is_clean) (standing C.holding) self.old (next source.now tokens.now) result self.new }
+            → Turns (⟦<F as Speaking>⟧.language functions.now has) (⟦<G as Watching>⟧.host guard.now) (honest C.is_honest) (clean C.is_clean) (standing C.holding) self.old (next source.now tokens.now) result self.new }
     {
         let next = next_statement(alloc, source, tokens);
         match &next {
@@ -156,7 +156,7 @@ impl<C: NewCells> Session<C> {
         requires guard { G.is_faithful guard.now }
         requires empty { replies.old.items ≡ [] }
         ensures { (has : List ℕ → Bool) → ⟦<F as Speaking>⟧.are_names functions.now has
-            → CarriesAll (⟦<F as Speaking>⟧.language functions.now has) (⟦<G as Watching>⟧.host guard.now) (clean C.is_clean) (standing C.holding) self.old (pieces_left (length tokens.now) source.now tokens.now) replies.new.items result self.new }
+            → CarriesAll (⟦<F as Speaking>⟧.language functions.now has) (⟦<G as Watching>⟧.host guard.now) (honest C.is_honest) (clean C.is_clean) (standing C.holding) self.old (pieces_left (length tokens.now) source.now tokens.now) replies.new.items result self.new }
     {
         let mut rest = tokens;
         loop {
@@ -190,7 +190,7 @@ impl<C: NewCells> Session<C> {
         requires functions { F.is_faithful functions.now }
         requires guard { G.is_faithful guard.now }
         ensures { (has : List ℕ → Bool) → ⟦<F as Speaking>⟧.are_names functions.now has
-            → CarriesAll (⟦<F as Speaking>⟧.language functions.now has) (⟦<G as Watching>⟧.host guard.now) (clean C.is_clean) (standing C.holding) self.old ((⟦<F as Speaking>⟧.language functions.now has).pieces source.now) result.replies result.refusal self.new }
+            → CarriesAll (⟦<F as Speaking>⟧.language functions.now has) (⟦<G as Watching>⟧.host guard.now) (honest C.is_honest) (clean C.is_clean) (standing C.holding) self.old ((⟦<F as Speaking>⟧.language functions.now has).pieces source.now) result.replies result.refusal self.new }
     {
         let mut replies = Vec::new(alloc);
         let refusal = match tokens(alloc, source) {

@@ -5,7 +5,7 @@ ghost use Rattle.cr_session.specs.Sessions.{is_early, reply_of};
 
 use crate::speaking::{Speaking, Watching};
 use cr_cells::marks::Mark;
-use cr_cells::store::{CellsError, NewCells};
+use cr_cells::store::{Cells, CellsError};
 use cr_guard::guarding::Guarding;
 use cr_host::functions::Functions;
 use cr_lattice::change::{Change, Site};
@@ -16,7 +16,8 @@ use cr_replica::change_row::ChangeRow;
 use cr_replica::definition::{DefineError, accept};
 use cr_replica::replica::Replica;
 use cr_replica::snapshot::Snapshot;
-use cr_value::text::Text;
+use cr_value::order::same_bytes;
+use cr_value::text::{Bytes, Text};
 use cr_world::command::{Command, Declaration, FleetReply};
 use cr_world::refusal::{OutOfProfile, Refusal, of_definition, of_rows};
 use std::alloc::{AllocError, Global};
@@ -56,13 +57,15 @@ impl<C: Drop> Model for Session<C> {
     ghost view = { λ s. (s.replica, option_map (λ v. v.items) s.pending) };
 }
 
-impl<C: NewCells> Session<C> {
+impl<C: Cells> Session<C> {
     ghost use Rattle.std.specs.Prelude.{◌≡◌, ◌≤ℤ◌, ℕ, Bool, List, None, pos, true, is_some, IfOk};
     ghost use Rattle.std.specs.Option.{ForSome};
     ghost use Rattle.cr_cells.specs.Calls.{Reads, is_want, UnlessWant};
     ghost use Rattle.cr_cells.specs.Holding.{IsSound, since, changes_of};
     ghost use Rattle.cr_cells.specs.Marks.{seen_of};
-    ghost use Rattle.cr_replica.specs.Snapshots.{IsWhole};
+    ghost use Rattle.cr_lattice.specs.Keep.{keep};
+    ghost use Rattle.cr_replica.specs.Snapshots.{IsOfNames, IsWhole, kept_of_keys};
+    ghost use Rattle.cr_snapshot.specs.Seen.{IsNamed};
     ghost use Rattle.cr_world.specs.declared.command.Command.TheVariants.{Define, Take, Rows, Changes, Sql};
     ghost use Rattle.cr_world.specs.declared.command.Declaration.TheVariants as declared;
     ghost use Rattle.cr_world.specs.declared.command.FleetReply.TheVariants.{Refused};
@@ -71,7 +74,7 @@ impl<C: NewCells> Session<C> {
     ghost use Rattle.cr_world.specs.Statement.{Host};
     ghost use Rattle.cr_meaning.specs.View.{Ordered};
     ghost use Rattle.cr_tree.specs.declared.statement.Statement.{Statement};
-    ghost use Rattle.cr_session.specs.Sessions.{Does, TakesAll, Sees, clean, is_own, standing};
+    ghost use Rattle.cr_session.specs.Sessions.{Does, Names, TakesAll, TakesFrom, Sees, clean, honest, is_own, standing};
 
     /// A session over the store, which may hold something already.
     pub fn new(cells: C) -> Session<C>
@@ -81,6 +84,13 @@ impl<C: NewCells> Session<C> {
             replica: Replica::new(cells),
             pending: None,
         }
+    }
+
+    /// The store as it stands: what the last commit left. What an open transaction kept is gone.
+    pub fn into_cells(self) -> C
+        ensures { result ≡ self.0 }
+    {
+        self.replica.into_cells()
     }
 
     /// Whether a transaction is open.
@@ -109,8 +119,9 @@ impl<C: NewCells> Session<C> {
     /// # Errors
     /// `Memory`, or `Store(Refused)`.
     pub fn changes_above(&mut self, alloc: Global, version: i64) -> Result<Vec<Change>, CellsError>
+        ensures was_honest { C.is_honest self.new.0 → C.is_honest self.old.0 }
         ensures was_clean { C.is_clean self.new.0 → C.is_clean self.old.0 }
-        ensures stays_clean { C.is_clean self.old.0 → UnlessWant is_want result (C.is_clean self.new.0) }
+        ensures stays_clean { C.is_honest self.new.0 → C.is_clean self.old.0 → UnlessWant is_want result (C.is_clean self.new.0) }
         ensures sound { C.is_clean self.new.0 → IsSound (C.holding self.new.0) }
         ensures reads { C.is_clean self.new.0 → Reads (C.holding self.old.0) (C.holding self.new.0) result
             (λ changes. changes.items ≡ changes_of (since (C.holding self.old.0).cells version)) }
@@ -119,19 +130,30 @@ impl<C: NewCells> Session<C> {
         self.replica.changes_above(alloc, version)
     }
 
-    /// What a statement sees, which is answered without asking the store again: what the replica holds, and with what it keeps
-    /// the changes of the open transaction.
-    ///
-    /// # Errors
-    /// `Memory`, or `Store(Refused)`.
-    pub fn snapshot(&mut self, alloc: Global) -> Result<Snapshot, CellsError>
+    // What a statement may name, which is answered without asking the store again.
+    pub(crate) fn names(&mut self, alloc: Global) -> Result<Snapshot, CellsError>
+        ensures was_honest { C.is_honest self.new.0 → C.is_honest self.old.0 }
         ensures was_clean { C.is_clean self.new.0 → C.is_clean self.old.0 }
-        ensures stays_clean { C.is_clean self.old.0 → UnlessWant is_want result (C.is_clean self.new.0) }
+        ensures stays_clean { C.is_honest self.new.0 → C.is_clean self.old.0 → UnlessWant is_want result (C.is_clean self.new.0) }
         ensures sound { C.is_clean self.new.0 → IsSound (C.holding self.new.0) }
-        ensures sees { C.is_clean self.new.0 → Sees (standing C.holding self.old) (standing C.holding self.new) result }
+        ensures names { C.is_clean self.new.0 → Names (standing C.holding self.old) (standing C.holding self.new) result }
         ensures whole { IfOk result IsWhole }
     {
-        let mut snapshot = match self.replica.snapshot(alloc) {
+        self.replica.names(alloc)
+    }
+
+    // What a statement sees under these names: what the replica holds, and with what it keeps the changes of the open
+    // transaction.
+    pub(crate) fn see(&mut self, alloc: Global, names: Snapshot) -> Result<Snapshot, CellsError>
+        requires named { C.is_clean self.old.0 → IsNamed (standing C.holding self.old) names }
+        ensures was_honest { C.is_honest self.new.0 → C.is_honest self.old.0 }
+        ensures was_clean { C.is_clean self.new.0 → C.is_clean self.old.0 }
+        ensures stays_clean { C.is_honest self.new.0 → C.is_clean self.old.0 → UnlessWant is_want result (C.is_clean self.new.0) }
+        ensures sees { C.is_clean self.new.0 → Sees (standing C.holding self.old) (standing C.holding self.new) result }
+        ensures names { IfOk result (IsOfNames names) }
+        ensures kept { IfOk result (λ snapshot. keep snapshot.kept ≡ snapshot.kept) }
+    {
+        let mut snapshot = match self.replica.complete(alloc, names) {
             Ok(snapshot) => snapshot,
             Err(error) => return Err(error),
         };
@@ -143,13 +165,32 @@ impl<C: NewCells> Session<C> {
         Ok(snapshot)
     }
 
+    // What the last commit keeps of some keys of a table. Reads the cells of these keys and no others.
+    pub(crate) fn kept_of_keys(
+        &mut self,
+        alloc: Global,
+        table: &str,
+        keys: &[Bytes],
+    ) -> Result<Vec<Change>, CellsError>
+        ensures was_honest { C.is_honest self.new.0 → C.is_honest self.old.0 }
+        ensures was_clean { C.is_clean self.new.0 → C.is_clean self.old.0 }
+        ensures stays_clean { C.is_honest self.new.0 → C.is_clean self.old.0 → UnlessWant is_want result (C.is_clean self.new.0) }
+        ensures reads { C.is_clean self.new.0 → Reads (C.holding self.old.0) (C.holding self.new.0) result
+            (λ kept. kept.items ≡ kept_of_keys (C.holding self.old.0) table.now keys.now) }
+        ensures kept { IfOk result (λ kept. keep kept.items ≡ kept.items) }
+        ensures pending { self.new.1 ≡ self.old.1 }
+    {
+        self.replica.kept_of_keys(alloc, table, keys)
+    }
+
     /// The version up to which the changes of a peer were taken, by the peer's site: 0 where it has no mark.
     ///
     /// # Errors
     /// `Memory`, or `Store(Refused)`.
     pub fn seen(&mut self, alloc: Global, site: Site) -> Result<i64, CellsError>
+        ensures was_honest { C.is_honest self.new.0 → C.is_honest self.old.0 }
         ensures was_clean { C.is_clean self.new.0 → C.is_clean self.old.0 }
-        ensures stays_clean { C.is_clean self.old.0 → UnlessWant is_want result (C.is_clean self.new.0) }
+        ensures stays_clean { C.is_honest self.new.0 → C.is_clean self.old.0 → UnlessWant is_want result (C.is_clean self.new.0) }
         ensures reads { C.is_clean self.new.0 → Reads (C.holding self.old.0) (C.holding self.new.0) result
             (λ version. version ≡ seen_of (C.holding self.old.0).marks site) }
         ensures pending { self.new.1 ≡ self.old.1 }
@@ -173,7 +214,7 @@ impl<C: NewCells> Session<C> {
     ) -> Result<(), Refusal>
         requires faithful { G.is_faithful guard.now }
         requires from_0 { ForSome mark (λ m. pos 0 ≤ℤ m.1) }
-        ensures { TakesAll (⟦<G as Watching>⟧.host guard.now) (clean C.is_clean) (standing C.holding) self.old changes.now mark result self.new }
+        ensures { TakesAll (⟦<G as Watching>⟧.host guard.now) (honest C.is_honest) (clean C.is_clean) (standing C.holding) self.old changes.now mark result self.new }
     {
         let taking = match self.replica.prepare(alloc, changes) {
             Ok(taking) => taking,
@@ -188,6 +229,32 @@ impl<C: NewCells> Session<C> {
         }
     }
 
+    /// Takes what a peer sent, all in one commit or none, and with it the peer's mark: its site, and its version, at least 0, up to
+    /// which its changes were taken. The mark is kept where no change wins, too.
+    ///
+    /// # Errors
+    /// `TransactionState` inside a transaction; then `SameSite` where the site is this replica's own; then as of `take_all`.
+    pub fn take_from<G: Guarding>(
+        &mut self,
+        alloc: Global,
+        guard: &G,
+        changes: &[Change],
+        mark: Mark,
+    ) -> Result<(), Refusal>
+        requires faithful { G.is_faithful guard.now }
+        requires from_0 { pos 0 ≤ℤ mark.1 }
+        ensures { TakesFrom (⟦<G as Watching>⟧.host guard.now) (honest C.is_honest) (clean C.is_clean) (standing C.holding) self.old changes.now mark result self.new }
+    {
+        if self.in_transaction() {
+            return Err(Refusal::TransactionState);
+        }
+        let (site, _) = mark;
+        if same_bytes(&site, &self.site()) {
+            return Err(Refusal::SameSite);
+        }
+        self.take_all(alloc, guard, changes, Some(mark))
+    }
+
     // Why a table is not defined inside a transaction: what stands against it comes first, but for its columns' defaults.
     fn refuse_definition<F: Functions>(
         &mut self,
@@ -196,13 +263,13 @@ impl<C: NewCells> Session<C> {
         def: &TableDef,
     ) -> Refusal
         requires { is_some self.old.1 ≡ true }
-        ensures { (has : List ℕ → Bool) (host : Host) → Does (⟦<F as Speaking>⟧.language functions.now has) host (clean C.is_clean) (standing C.holding) self.old (Define (declared.Table def.now)) (Refused result) self.new }
+        ensures { (has : List ℕ → Bool) (host : Host) → Does (⟦<F as Speaking>⟧.language functions.now has) host (honest C.is_honest) (clean C.is_clean) (standing C.holding) self.old (Define (declared.Table def.now)) (Refused result) self.new }
     {
-        let snapshot = match self.replica.snapshot(alloc) {
-            Ok(snapshot) => snapshot,
+        let names = match self.replica.names(alloc) {
+            Ok(names) => names,
             Err(error) => return Refusal::from(error),
         };
-        match accept(functions, snapshot.tables.as_slice(), def) {
+        match accept(functions, names.tables.as_slice(), def) {
             Ok(()) => Refusal::TransactionState,
             Err(error) => {
                 if is_early(error) {
@@ -221,7 +288,7 @@ impl<C: NewCells> Session<C> {
         declaration: &Declaration,
     ) -> FleetReply
         requires { IsReady (Define declaration.now) }
-        ensures { (has : List ℕ → Bool) (host : Host) → Does (⟦<F as Speaking>⟧.language functions.now has) host (clean C.is_clean) (standing C.holding) self.old (Define declaration.now) result self.new }
+        ensures { (has : List ℕ → Bool) (host : Host) → Does (⟦<F as Speaking>⟧.language functions.now has) host (honest C.is_honest) (clean C.is_clean) (standing C.holding) self.old (Define declaration.now) result self.new }
     {
         let Declaration::Table(def) = declaration else {
             return FleetReply::Refused(Refusal::OutOfProfile(OutOfProfile::Real));
@@ -237,7 +304,7 @@ impl<C: NewCells> Session<C> {
 
     fn take<G: Guarding>(&mut self, alloc: Global, guard: &G, row: &ChangeRow) -> FleetReply
         requires { G.is_faithful guard.now }
-        ensures { (l : Language Statement Ordered) → Does l (⟦<G as Watching>⟧.host guard.now) (clean C.is_clean) (standing C.holding) self.old (Take row.now) result self.new }
+        ensures { (l : Language Statement Ordered) → Does l (⟦<G as Watching>⟧.host guard.now) (honest C.is_honest) (clean C.is_clean) (standing C.holding) self.old (Take row.now) result self.new }
     {
         if self.in_transaction() {
             return FleetReply::Refused(Refusal::TransactionState);
@@ -251,7 +318,7 @@ impl<C: NewCells> Session<C> {
     }
 
     fn rows(&mut self, alloc: Global, name: &Text) -> FleetReply
-        ensures { (l : Language Statement Ordered) (host : Host) → Does l host (clean C.is_clean) (standing C.holding) self.old (Rows name.now) result self.new }
+        ensures { (l : Language Statement Ordered) (host : Host) → Does l host (honest C.is_honest) (clean C.is_clean) (standing C.holding) self.old (Rows name.now) result self.new }
     {
         match self.replica.rows_of(alloc, name.as_str()) {
             Ok(rows) => FleetReply::Rows(rows),
@@ -260,7 +327,7 @@ impl<C: NewCells> Session<C> {
     }
 
     fn changes(&mut self, alloc: Global, version: &i64) -> FleetReply
-        ensures { (l : Language Statement Ordered) (host : Host) → Does l host (clean C.is_clean) (standing C.holding) self.old (Changes version.now) result self.new }
+        ensures { (l : Language Statement Ordered) (host : Host) → Does l host (honest C.is_honest) (clean C.is_clean) (standing C.holding) self.old (Changes version.now) result self.new }
     {
         match self.replica.changes_since(alloc, *version) {
             Ok(cells) => FleetReply::Changes(Items::new(cells)),
@@ -278,7 +345,7 @@ impl<C: NewCells> Session<C> {
         requires functions { F.is_faithful functions.now }
         requires guard { G.is_faithful guard.now }
         ensures { (has : List ℕ → Bool) → ⟦<F as Speaking>⟧.are_names functions.now has
-            → Does (⟦<F as Speaking>⟧.language functions.now has) (⟦<G as Watching>⟧.host guard.now) (clean C.is_clean) (standing C.holding) self.old (Sql source.now) result self.new }
+            → Does (⟦<F as Speaking>⟧.language functions.now has) (⟦<G as Watching>⟧.host guard.now) (honest C.is_honest) (clean C.is_clean) (standing C.holding) self.old (Sql source.now) result self.new }
     {
         FleetReply::Script(self.script(alloc, functions, guard, source.as_str()))
     }
@@ -296,7 +363,7 @@ impl<C: NewCells> Session<C> {
         requires ready { IsReady command.now }
         requires own { is_own command.now ≡ true }
         ensures { (has : List ℕ → Bool) → ⟦<F as Speaking>⟧.are_names functions.now has
-            → Does (⟦<F as Speaking>⟧.language functions.now has) (⟦<G as Watching>⟧.host guard.now) (clean C.is_clean) (standing C.holding) self.old command.now result self.new }
+            → Does (⟦<F as Speaking>⟧.language functions.now has) (⟦<G as Watching>⟧.host guard.now) (honest C.is_honest) (clean C.is_clean) (standing C.holding) self.old command.now result self.new }
     {
         match command {
             Command::Define(declaration) => self.define(alloc, functions, declaration),

@@ -9,7 +9,7 @@ ghost use Rattle.cr_session.specs.Performing.{Permits};
 use crate::session::Session;
 use crate::speaking::{Speaking, Watching};
 use cr_answer::allowing::allowed;
-use cr_cells::store::NewCells;
+use cr_cells::store::Cells;
 use cr_guard::guarding::Guarding;
 use cr_host::functions::Functions;
 use cr_lattice::change::Site;
@@ -56,7 +56,7 @@ fn check_allowed<F: Functions, G: Guarding>(
     }
 }
 
-impl<C: NewCells> Session<C> {
+impl<C: Cells> Session<C> {
     ghost use Rattle.std.specs.Prelude.{◌≡◌, true, ℕ, Bool, List};
     ghost use Rattle.cr_scalar.specs.Host.{Host as Means};
     ghost use Rattle.cr_value.specs.declared.value.Value.{Value};
@@ -64,11 +64,11 @@ impl<C: NewCells> Session<C> {
     ghost use Rattle.cr_term.specs.declared.query.Resolved.TheVariants as r;
     ghost use Rattle.cr_session.specs.Performing.{Performed, is_transaction};
     ghost use Rattle.cr_session.specs.Scripts.{Carries};
-    ghost use Rattle.cr_session.specs.Sessions.{clean, standing};
+    ghost use Rattle.cr_session.specs.Sessions.{clean, honest, standing};
 
     // Opens a transaction.
     fn begin(&mut self, alloc: Global) -> Result<Reply, Refusal>
-        ensures { (means : Means) (params : List Value) (host : Host) → Performed means params host (clean C.is_clean) (standing C.holding) self.old r.Begin result self.new }
+        ensures { (means : Means) (params : List Value) (host : Host) → Performed means params host (honest C.is_honest) (clean C.is_clean) (standing C.holding) self.old r.Begin result self.new }
     {
         if self.in_transaction() {
             return Err(Refusal::TransactionState);
@@ -80,7 +80,7 @@ impl<C: NewCells> Session<C> {
     // Commits the changes of the open transaction, all or none, and ends it; where memory is wanting, it stays open.
     fn commit<G: Guarding>(&mut self, alloc: Global, guard: &G) -> Result<Reply, Refusal>
         requires { G.is_faithful guard.now }
-        ensures { (means : Means) (params : List Value) → Performed means params (⟦<G as Watching>⟧.host guard.now) (clean C.is_clean) (standing C.holding) self.old r.Commit result self.new }
+        ensures { (means : Means) (params : List Value) → Performed means params (⟦<G as Watching>⟧.host guard.now) (honest C.is_honest) (clean C.is_clean) (standing C.holding) self.old r.Commit result self.new }
     {
         let Some(changes) = self.pending.take() else {
             return Err(Refusal::TransactionState);
@@ -98,7 +98,7 @@ impl<C: NewCells> Session<C> {
 
     // Ends the open transaction: its changes are gone.
     fn rollback(&mut self) -> Result<Reply, Refusal>
-        ensures { (means : Means) (params : List Value) (host : Host) → Performed means params host (clean C.is_clean) (standing C.holding) self.old r.Rollback result self.new }
+        ensures { (means : Means) (params : List Value) (host : Host) → Performed means params host (honest C.is_honest) (clean C.is_clean) (standing C.holding) self.old r.Rollback result self.new }
     {
         match self.pending.take() {
             Some(_) => Ok(Reply::Done),
@@ -119,7 +119,7 @@ impl<C: NewCells> Session<C> {
         requires guard { G.is_faithful guard.now }
         requires form { is_transaction statement.now ≡ true }
         ensures { (has : List ℕ → Bool) → ⟦<F as Speaking>⟧.are_names functions.now has
-            → Carries (⟦<F as Speaking>⟧.language functions.now has) (⟦<G as Watching>⟧.host guard.now) (clean C.is_clean) (standing C.holding) self.old params.now statement.now result self.new }
+            → Carries (⟦<F as Speaking>⟧.language functions.now has) (⟦<G as Watching>⟧.host guard.now) (honest C.is_honest) (clean C.is_clean) (standing C.holding) self.old params.now statement.now result self.new }
     {
         let nothing = empty_snapshot(alloc, self.site());
         if let Err(refusal) = check_allowed(

@@ -3,28 +3,38 @@
 use crate::performing::{check_replicated, check_table};
 use crate::session::Session;
 use crate::speaking::Watching;
-use cr_cells::store::{NewCells, StoreFault};
-use cr_changed::write::{changes_of_delete, changes_of_insert, changes_of_update};
+use cr_cells::store::{Cells, StoreFault};
+use cr_changed::write::{changes_of_delete, changes_of_rows, changes_of_update, check_rows};
+use cr_delta::key::keys_of;
 use cr_expr::given::Hosted;
 use cr_guard::guarding::Guarding;
 use cr_host::functions::Functions;
 use cr_lattice::change::Change;
+use cr_lattice::table::Row;
 use cr_received::receiving::changes_of_received;
 use cr_replica::snapshot::Snapshot;
 use cr_term::query::{Delete, Held, Insert, Update};
 use cr_value::value::Value;
+use cr_wanted::insert::inserted_rows;
 use cr_world::command::Reply;
 use cr_world::refusal::Refusal;
 use std::alloc::{AllocError, Global};
 
-impl<C: NewCells> Session<C> {
-    ghost use Rattle.std.specs.Prelude.{◌≡◌, true, false};
+impl<C: Cells> Session<C> {
+    ghost use Rattle.std.specs.Prelude.{◌≡◌, true, false, List, None};
+    ghost use Rattle.cr_value.specs.declared.value.Value.{Value};
+    ghost use Rattle.cr_cells.specs.Holding.{IsSound};
+    ghost use Rattle.cr_scalar.specs.Host.{Host as Means};
+    ghost use Rattle.cr_exec.specs.Answers.{IsBoth};
+    ghost use Rattle.cr_wanted.specs.Judged.{AreWide};
+    ghost use Rattle.cr_changed.specs.Changed.{insert_brings};
     ghost use Rattle.cr_fit.specs.Suited.{HasRelation};
     ghost use Rattle.cr_replica.specs.Snapshots.{IsWhole};
-    ghost use Rattle.cr_snapshot.specs.Seen.{IsSeen, catalog_of};
+    ghost use Rattle.cr_snapshot.specs.Seen.{IsNamed, catalog_of};
     ghost use Rattle.cr_term.specs.declared.query.Resolved.TheVariants as r;
-    ghost use Rattle.cr_session.specs.Performing.{Adds, Commits, Performed, is_table};
-    ghost use Rattle.cr_session.specs.Sessions.{clean, standing};
+    ghost use Rattle.cr_world.specs.Causes.{Free};
+    ghost use Rattle.cr_session.specs.Performing.{Adds, Commits, Performed, is_table, not_replicated};
+    ghost use Rattle.cr_session.specs.Sessions.{clean, honest, standing};
 
     /// Commits changes, all or none; an open transaction stays as it is. They are well formed: where the store doesn't take them
     /// as such, it is not as it was a moment ago.
@@ -39,7 +49,7 @@ impl<C: NewCells> Session<C> {
         changes: &[Change],
     ) -> Result<Reply, Refusal>
         requires { G.is_faithful guard.now }
-        ensures { Commits (⟦<G as Watching>⟧.host guard.now) (clean C.is_clean) (standing C.holding) self.old changes.now result self.new }
+        ensures { Commits (⟦<G as Watching>⟧.host guard.now) (honest C.is_honest) (clean C.is_clean) (standing C.holding) self.old changes.now result self.new }
     {
         match self.take_all(alloc, guard, changes, None) {
             Ok(()) => Ok(Reply::Done),
@@ -56,7 +66,7 @@ impl<C: NewCells> Session<C> {
         changes: Vec<Change>,
     ) -> Result<Reply, Refusal>
         requires { G.is_faithful guard.now }
-        ensures { Adds (⟦<G as Watching>⟧.host guard.now) (clean C.is_clean) (standing C.holding) self.old changes.items result self.new }
+        ensures { Adds (⟦<G as Watching>⟧.host guard.now) (honest C.is_honest) (clean C.is_clean) (standing C.holding) self.old changes.items result self.new }
     {
         let mut changes = changes;
         let Some(mut pending) = self.pending.take() else {
@@ -70,31 +80,135 @@ impl<C: NewCells> Session<C> {
         }
     }
 
+    // Brings rows to a replicated table, inside a transaction: what stands against them is told by all rows that show there.
+    fn bring_among_all<G: Guarding>(
+        &mut self,
+        alloc: Global,
+        guard: &G,
+        names: Snapshot,
+        insert: &Insert,
+        rows: Vec<Row>,
+    ) -> Result<Reply, Refusal>
+        requires guard { G.is_faithful guard.now }
+        requires named { C.is_clean self.old.0 → IsNamed (standing C.holding self.old) names }
+        requires whole { IsWhole names }
+        requires suits { HasRelation (catalog_of names) insert.now.relation }
+        requires table { is_table insert.now.relation.held ≡ true }
+        requires replicated { not_replicated insert.now.relation ≡ Free }
+        requires used { insert.now.is_ignored ≡ false }
+        requires width { AreWide insert.now.relation.definition.columns rows.items }
+        ensures { (means : Means) (params : List Value) → IsBoth means params (insert_brings insert.now) rows.items
+            → Performed means params (⟦<G as Watching>⟧.host guard.now) (honest C.is_honest) (clean C.is_clean) (standing C.holding) self.old (r.Insert insert.now) result self.new }
+    {
+        let definition = &insert.relation.definition;
+        let snapshot = match self.see(alloc, names) {
+            Ok(snapshot) => snapshot,
+            Err(error) => return Err(Refusal::from(error)),
+        };
+        match changes_of_rows(
+            alloc,
+            &snapshot.site,
+            snapshot.kept.as_slice(),
+            definition,
+            rows,
+        ) {
+            Ok(changes) => self.add_changes(alloc, guard, changes),
+            Err(refusal) => Err(refusal),
+        }
+    }
+
+    // Brings rows to a replicated table, outside of transactions: what stands against them is told by the keys that they have.
+    fn bring_by_keys<G: Guarding>(
+        &mut self,
+        alloc: Global,
+        guard: &G,
+        names: &Snapshot,
+        insert: &Insert,
+        rows: Vec<Row>,
+    ) -> Result<Reply, Refusal>
+        requires guard { G.is_faithful guard.now }
+        requires sound { C.is_clean self.old.0 → IsSound (C.holding self.old.0) }
+        requires named { C.is_clean self.old.0 → IsNamed (standing C.holding self.old) names.now }
+        requires whole { IsWhole names.now }
+        requires suits { HasRelation (catalog_of names.now) insert.now.relation }
+        requires table { is_table insert.now.relation.held ≡ true }
+        requires replicated { not_replicated insert.now.relation ≡ Free }
+        requires used { insert.now.is_ignored ≡ false }
+        requires width { AreWide insert.now.relation.definition.columns rows.items }
+        requires outside { self.old.1 ≡ None }
+        ensures { (means : Means) (params : List Value) → IsBoth means params (insert_brings insert.now) rows.items
+            → Performed means params (⟦<G as Watching>⟧.host guard.now) (honest C.is_honest) (clean C.is_clean) (standing C.holding) self.old (r.Insert insert.now) result self.new }
+    {
+        let definition = &insert.relation.definition;
+        if let Err(refusal) = check_rows(definition, &rows) {
+            return Err(refusal);
+        }
+        let keys = keys_of(alloc, definition, &rows)?;
+        let kept = match self.kept_of_keys(alloc, definition.name.as_str(), &keys) {
+            Ok(kept) => kept,
+            Err(error) => return Err(Refusal::from(error)),
+        };
+        match changes_of_rows(alloc, &names.site, &kept, definition, rows) {
+            Ok(changes) => self.add_changes(alloc, guard, changes),
+            Err(refusal) => Err(refusal),
+        }
+    }
+
+    // Brings rows to a replicated table.
+    fn bring<G: Guarding>(
+        &mut self,
+        alloc: Global,
+        guard: &G,
+        names: Snapshot,
+        insert: &Insert,
+        rows: Vec<Row>,
+    ) -> Result<Reply, Refusal>
+        requires guard { G.is_faithful guard.now }
+        requires sound { C.is_clean self.old.0 → IsSound (C.holding self.old.0) }
+        requires named { C.is_clean self.old.0 → IsNamed (standing C.holding self.old) names }
+        requires whole { IsWhole names }
+        requires suits { HasRelation (catalog_of names) insert.now.relation }
+        requires table { is_table insert.now.relation.held ≡ true }
+        requires replicated { not_replicated insert.now.relation ≡ Free }
+        requires used { insert.now.is_ignored ≡ false }
+        requires width { AreWide insert.now.relation.definition.columns rows.items }
+        ensures { (means : Means) (params : List Value) → IsBoth means params (insert_brings insert.now) rows.items
+            → Performed means params (⟦<G as Watching>⟧.host guard.now) (honest C.is_honest) (clean C.is_clean) (standing C.holding) self.old (r.Insert insert.now) result self.new }
+    {
+        if self.in_transaction() {
+            self.bring_among_all(alloc, guard, names, insert, rows)
+        } else {
+            self.bring_by_keys(alloc, guard, &names, insert, rows)
+        }
+    }
+
     // Inserts rows into a table.
     fn insert_rows<F: Functions, G: Guarding>(
         &mut self,
         alloc: Global,
         functions: &F,
         guard: &G,
-        snapshot: &Snapshot,
+        names: Snapshot,
         insert: &Insert,
         params: &[Value],
     ) -> Result<Reply, Refusal>
         requires functions { F.is_faithful functions.now }
         requires guard { G.is_faithful guard.now }
-        requires seen { C.is_clean self.old.0 → IsSeen (standing C.holding self.old) snapshot.now }
-        requires whole { IsWhole snapshot.now }
-        requires suits { HasRelation (catalog_of snapshot.now) insert.now.relation }
+        requires sound { C.is_clean self.old.0 → IsSound (C.holding self.old.0) }
+        requires named { C.is_clean self.old.0 → IsNamed (standing C.holding self.old) names }
+        requires whole { IsWhole names }
+        requires suits { HasRelation (catalog_of names) insert.now.relation }
         requires table { is_table insert.now.relation.held ≡ true }
-        ensures { Performed (⟦<F as Hosted>⟧.means functions.now) params.now (⟦<G as Watching>⟧.host guard.now) (clean C.is_clean) (standing C.holding) self.old (r.Insert insert.now) result self.new }
+        ensures { Performed (⟦<F as Hosted>⟧.means functions.now) params.now (⟦<G as Watching>⟧.host guard.now) (honest C.is_honest) (clean C.is_clean) (standing C.holding) self.old (r.Insert insert.now) result self.new }
     {
         check_replicated(alloc, &insert.relation)?;
         if insert.is_ignored {
             return Ok(Reply::Done);
         }
-        match changes_of_insert(alloc, functions, snapshot, insert, params) {
-            Ok(changes) => self.add_changes(alloc, guard, changes),
-            Err(refusal) => Err(refusal),
+        let columns = insert.relation.definition.columns.as_slice();
+        match inserted_rows(alloc, columns, insert, functions, params) {
+            Ok(rows) => self.bring(alloc, guard, names, insert, rows),
+            Err(fault) => Err(Refusal::from(fault)),
         }
     }
 
@@ -104,21 +218,21 @@ impl<C: NewCells> Session<C> {
         alloc: Global,
         functions: &F,
         guard: &G,
-        snapshot: &Snapshot,
+        names: &Snapshot,
         insert: &Insert,
         params: &[Value],
     ) -> Result<Reply, Refusal>
         requires functions { F.is_faithful functions.now }
         requires guard { G.is_faithful guard.now }
-        requires seen { C.is_clean self.old.0 → IsSeen (standing C.holding self.old) snapshot.now }
-        requires suits { HasRelation (catalog_of snapshot.now) insert.now.relation }
+        requires named { C.is_clean self.old.0 → IsNamed (standing C.holding self.old) names.now }
+        requires suits { HasRelation (catalog_of names.now) insert.now.relation }
         requires module { is_table insert.now.relation.held ≡ false }
-        ensures { Performed (⟦<F as Hosted>⟧.means functions.now) params.now (⟦<G as Watching>⟧.host guard.now) (clean C.is_clean) (standing C.holding) self.old (r.Insert insert.now) result self.new }
+        ensures { Performed (⟦<F as Hosted>⟧.means functions.now) params.now (⟦<G as Watching>⟧.host guard.now) (honest C.is_honest) (clean C.is_clean) (standing C.holding) self.old (r.Insert insert.now) result self.new }
     {
         if insert.is_ignored {
             return Ok(Reply::Done);
         }
-        match changes_of_received(alloc, functions, snapshot.tables.as_slice(), insert, params) {
+        match changes_of_received(alloc, functions, names.tables.as_slice(), insert, params) {
             Ok(changes) => self.add_changes(alloc, guard, changes),
             Err(refusal) => Err(refusal),
         }
@@ -130,22 +244,21 @@ impl<C: NewCells> Session<C> {
         alloc: Global,
         functions: &F,
         guard: &G,
-        snapshot: &Snapshot,
+        names: Snapshot,
         insert: &Insert,
         params: &[Value],
     ) -> Result<Reply, Refusal>
         requires functions { F.is_faithful functions.now }
         requires guard { G.is_faithful guard.now }
-        requires seen { C.is_clean self.old.0 → IsSeen (standing C.holding self.old) snapshot.now }
-        requires whole { IsWhole snapshot.now }
-        requires suits { HasRelation (catalog_of snapshot.now) insert.now.relation }
-        ensures { Performed (⟦<F as Hosted>⟧.means functions.now) params.now (⟦<G as Watching>⟧.host guard.now) (clean C.is_clean) (standing C.holding) self.old (r.Insert insert.now) result self.new }
+        requires sound { C.is_clean self.old.0 → IsSound (C.holding self.old.0) }
+        requires named { C.is_clean self.old.0 → IsNamed (standing C.holding self.old) names }
+        requires whole { IsWhole names }
+        requires suits { HasRelation (catalog_of names) insert.now.relation }
+        ensures { Performed (⟦<F as Hosted>⟧.means functions.now) params.now (⟦<G as Watching>⟧.host guard.now) (honest C.is_honest) (clean C.is_clean) (standing C.holding) self.old (r.Insert insert.now) result self.new }
     {
         match insert.relation.held {
-            Held::Table(_, _) => self.insert_rows(
-                alloc, functions, guard, snapshot, insert, params,
-            ),
-            Held::Module(_) => self.receive(alloc, functions, guard, snapshot, insert, params),
+            Held::Table(_, _) => self.insert_rows(alloc, functions, guard, names, insert, params),
+            Held::Module(_) => self.receive(alloc, functions, guard, &names, insert, params),
         }
     }
 
@@ -155,22 +268,26 @@ impl<C: NewCells> Session<C> {
         alloc: Global,
         functions: &F,
         guard: &G,
-        snapshot: &Snapshot,
+        names: Snapshot,
         update: &Update,
         params: &[Value],
     ) -> Result<Reply, Refusal>
         requires functions { F.is_faithful functions.now }
         requires guard { G.is_faithful guard.now }
-        requires seen { C.is_clean self.old.0 → IsSeen (standing C.holding self.old) snapshot.now }
-        requires whole { IsWhole snapshot.now }
-        requires suits { HasRelation (catalog_of snapshot.now) update.now.relation }
-        ensures { Performed (⟦<F as Hosted>⟧.means functions.now) params.now (⟦<G as Watching>⟧.host guard.now) (clean C.is_clean) (standing C.holding) self.old (r.Update update.now) result self.new }
+        requires named { C.is_clean self.old.0 → IsNamed (standing C.holding self.old) names }
+        requires whole { IsWhole names }
+        requires suits { HasRelation (catalog_of names) update.now.relation }
+        ensures { Performed (⟦<F as Hosted>⟧.means functions.now) params.now (⟦<G as Watching>⟧.host guard.now) (honest C.is_honest) (clean C.is_clean) (standing C.holding) self.old (r.Update update.now) result self.new }
     {
         if let Err(refusal) = check_table(alloc, &update.relation) {
             return Err(refusal);
         }
         check_replicated(alloc, &update.relation)?;
-        match changes_of_update(alloc, functions, snapshot, update, params) {
+        let snapshot = match self.see(alloc, names) {
+            Ok(snapshot) => snapshot,
+            Err(error) => return Err(Refusal::from(error)),
+        };
+        match changes_of_update(alloc, functions, &snapshot, update, params) {
             Ok(changes) => self.add_changes(alloc, guard, changes),
             Err(refusal) => Err(refusal),
         }
@@ -182,22 +299,26 @@ impl<C: NewCells> Session<C> {
         alloc: Global,
         functions: &F,
         guard: &G,
-        snapshot: &Snapshot,
+        names: Snapshot,
         delete: &Delete,
         params: &[Value],
     ) -> Result<Reply, Refusal>
         requires functions { F.is_faithful functions.now }
         requires guard { G.is_faithful guard.now }
-        requires seen { C.is_clean self.old.0 → IsSeen (standing C.holding self.old) snapshot.now }
-        requires whole { IsWhole snapshot.now }
-        requires suits { HasRelation (catalog_of snapshot.now) delete.now.relation }
-        ensures { Performed (⟦<F as Hosted>⟧.means functions.now) params.now (⟦<G as Watching>⟧.host guard.now) (clean C.is_clean) (standing C.holding) self.old (r.Delete delete.now) result self.new }
+        requires named { C.is_clean self.old.0 → IsNamed (standing C.holding self.old) names }
+        requires whole { IsWhole names }
+        requires suits { HasRelation (catalog_of names) delete.now.relation }
+        ensures { Performed (⟦<F as Hosted>⟧.means functions.now) params.now (⟦<G as Watching>⟧.host guard.now) (honest C.is_honest) (clean C.is_clean) (standing C.holding) self.old (r.Delete delete.now) result self.new }
     {
         if let Err(refusal) = check_table(alloc, &delete.relation) {
             return Err(refusal);
         }
         check_replicated(alloc, &delete.relation)?;
-        match changes_of_delete(alloc, functions, snapshot, delete, params) {
+        let snapshot = match self.see(alloc, names) {
+            Ok(snapshot) => snapshot,
+            Err(error) => return Err(Refusal::from(error)),
+        };
+        match changes_of_delete(alloc, functions, &snapshot, delete, params) {
             Ok(changes) => self.add_changes(alloc, guard, changes),
             Err(refusal) => Err(refusal),
         }

@@ -1,5 +1,5 @@
 -- What is seen of a snapshot is what a session sees.
-use Rattle.std.proofs.Common.{◌≡◌, ℕ, List, [], ◌∷◌, map, find, sym}
+use Rattle.std.proofs.Common.{◌≡◌, ℕ, List, ◌∷◌, map, find, sym}
 use Rattle.cr_lattice.specs.declared.change.Change.{Change}
 use Rattle.cr_lattice.specs.declared.stamped.Stamped.{Stamped}
 use Rattle.cr_lattice.specs.declared.table.Table.{Table}
@@ -9,9 +9,12 @@ use Rattle.cr_query.specs.Query.{Row}
 use Rattle.cr_replica.specs.declared.snapshot.Snapshot.{Snapshot}
 use Rattle.std.specs.Prelude.{if◌then◌else◌}
 use Rattle.cr_world.specs.State.{State, ModuleState, catalog, changes_definition, changes_name, is_module, module_definition, module_rows, row_of, rows_named, rows_or}
-use Rattle.cr_snapshot.specs.Seen.{IsSeen, catalog_of, rows_seen}
+use Rattle.cr_snapshot.specs.Seen.{IsNamed, IsSeen, catalog_of, rows_seen}
 
-pub catalog_is : (st : State) (s : Snapshot) → IsSeen st s → catalog st ≡ catalog_of s
+pub named : (st : State) (s : Snapshot) → IsSeen st s → IsNamed st s
+named st s is = record { no_modules = is.no_modules; tables = is.tables; site = is.site; version = is.version }
+
+pub catalog_is : (st : State) (s : Snapshot) → IsNamed st s → catalog st ≡ catalog_of s
 catalog_is st s is = λ i. record {
   tables = sym is.tables i;
   modules = changes_definition ∷ map module_definition (is.no_modules i);

@@ -33,6 +33,13 @@ rows_seen s name = rows_or s.kept (find (is_named name) s.tables) (if same_bytes
 abbrev pub name_of : Joined → List ℕ
 name_of j = j.relation.definition.name
 
+-- The snapshot has the names of a session that stands there, without modules: what the last commit left.
+pub record IsNamed (st : State) (s : Snapshot) : Type 0 where
+  pub no_modules : st.modules ≡ []
+  pub tables : s.tables ≡ st.holding.tables
+  pub site : s.site ≡ st.holding.site
+  pub version : s.version ≡ st.holding.version
+
 -- The snapshot is what a session sees that stands there, without modules: what the last commit left, and what is kept of it
 -- with the changes of the open transaction.
 pub record IsSeen (st : State) (s : Snapshot) : Type 0 where

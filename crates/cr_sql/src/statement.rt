@@ -95,7 +95,7 @@ fn answer(
 /// `OutOfProfile` where the first of its tokens with which no statement goes on is out of this project's SQL; `Syntax`
 /// where it is not, with the byte where it begins, or, if more are wanted, with the byte where the `;` begins, else
 /// where the last token ends, or 0 without tokens; `Limit` with its kind where the depth of an expression would pass 100,
-/// its open parentheses 200, the arguments of a call 100 or the tables of a FROM 8, if that is met first from the left;
+/// its open parentheses 200, the arguments of a call 100 or the tables of a FROM 16, if that is met first from the left;
 /// `Memory`. How refusals are told is this project's own.
 pub fn statement(
     alloc: Global,

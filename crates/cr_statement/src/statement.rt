@@ -141,7 +141,7 @@ fn read(alloc: Global, symbols: &[Symbol]) -> Result<Statement, ParseError>
 /// # Errors
 /// `Syntax` with the number of symbols before the first with which no statement goes on, or with their number where
 /// more are wanted; `Limit` with its kind where the depth of an expression would pass 100, its open parentheses 200, the
-/// arguments of a call 100 or the tables of a FROM 8, if that is met first from the left; `Memory`.
+/// arguments of a call 100 or the tables of a FROM 16, if that is met first from the left; `Memory`.
 pub fn statement(alloc: Global, symbols: &[Symbol]) -> Result<Statement, ParseError>
     // What is read is a statement with this tree.
     ensures read { IfOk result (λ x. IsRead language.statement symbols.now x) }

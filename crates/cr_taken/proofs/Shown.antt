@@ -15,6 +15,7 @@ use Rattle.cr_value.specs.declared.value.Value.TheVariants.{Null, Int, Text, Blo
 use Rattle.cr_value.specs.Affinity.{applied}
 use Rattle.cr_value.specs.Order.{bytes_cmp, value_cmp}
 use Rattle.cr_value.specs.OrderLaws.{value_total}
+use Rattle.cr_value.specs.Packing.{packed}
 use Rattle.cr_value.specs.Unpacking.{unpacked}
 use Rattle.cr_value.proofs.ValueLaws.{applied_twice}
 use Rattle.cr_lattice.specs.declared.change.Change.{Change}
@@ -107,9 +108,9 @@ module _ (def : TableDef) (keyed : has_key def ≡ true) (pk : List ℕ) (is : i
         let stands : stands_at place col ≡ true = rw at (eq-eqb place place refl) in
         ap (λ (o : Option ColumnDef). option_map_or (λ c. c.affinity) o affinity.Blob) (one_found (stands_at place) def.columns col one m stands)
 
-    read_fixed : (o : Option (List Value)) → option_map_or (λ vs. eqb (length vs) (key_count def) && key_fits def 1 vs) o false ≡ true → is_fixed (key_affinity def place) (slice_index_or (unwrap_or o []) (place - 1) Null) ≡ true
+    read_fixed : (o : Option (List Value)) → option_map_or (λ vs. (eqb (length vs) (key_count def) && key_fits def 1 vs) && same_bytes (packed vs) pk) o false ≡ true → is_fixed (key_affinity def place) (slice_index_or (unwrap_or o []) (place - 1) Null) ≡ true
     read_fixed None e = absurd cc
-    read_fixed (Some vs) e = let low = (place_within def col place keyed m at).0 in part_fixed def 1 vs (place - 1) place (omega (arith, low)) (and_true _ _ e).1
+    read_fixed (Some vs) e = let low = (place_within def col place keyed m at).0 in part_fixed def 1 vs (place - 1) place (omega (arith, low)) (and_true _ _ (and_true _ _ e).0).1
 
     key_fixed : is_fixed col.affinity (slice_index_or (unwrap_or (unpacked pk) []) (place - 1) Null) ≡ true
     unfolding is_key

@@ -1,18 +1,14 @@
--- Without keys that are spelled, or without defaults, an INSERT must look at all that is kept.
-use Rattle.std.proofs.Common.{◌≡◌, inl, ℕ, pos, true, false, List, [], ◌∷◌, ◌++◌, Some, None, refl}
+-- Without defaults an INSERT must look at all that is kept.
+use Rattle.std.proofs.Common.{◌≡◌, ℕ, pos, true, false, List, [], ◌∷◌, ◌++◌, Some, None, refl}
 use Rattle.cr_value.specs.declared.affinity.Affinity.TheVariants as affinity
 use Rattle.cr_value.specs.declared.value.Value.TheVariants.{Null}
 use Rattle.cr_value.specs.Unpacking.{int_at, value_at, values_at, unpacked}
 use Rattle.cr_lattice.specs.declared.change.Change.{Change}
 use Rattle.cr_lattice.specs.declared.table.ColumnDef.{ColumnDef}
 use Rattle.cr_lattice.specs.declared.table.TableDef.{TableDef}
-use Rattle.cr_lattice.specs.Change.{row_cid, row_cmp, cid_cmp, weight_cmp, change_cmp, beats}
-use Rattle.cr_lattice.specs.Check.{is_too_big, key_affinity, key_fits, is_key, is_cid, has_lengths, fault_of}
-use Rattle.cr_lattice.specs.Keep.{in_order, is_beaten, keep}
+use Rattle.cr_lattice.specs.Change.{row_cid}
 use Rattle.cr_lattice.specs.Rows.{alive_keys, kept_change, row, rows}
-use Rattle.cr_delta.specs.Key.{key_part, key_values, key_of}
-use Rattle.cr_delta.specs.Wanted.{AreWellFormed}
-use Rattle.cr_query.specs.Writes.{has_twice, lacks_value}
+use Rattle.cr_query.specs.Writes.{lacks_value}
 use Rattle.cr_touched.specs.Parts.{part, under_keys}
 
 key_column : ColumnDef
@@ -28,32 +24,8 @@ table columns = record { name = 116 ∷ []; columns = columns }
 present : List ℕ → Change
 present pk = record { table = 116 ∷ []; pk = pk; cid = row_cid; val = Null; col_version = pos 1; site = []; cl = pos 1 }
 
--- ---- two spellings of 256, the one with a number over 255
-
 bytes : List ℕ
 bytes = 1 ∷ 1 ∷ 0 ∷ 0 ∷ 0 ∷ 0 ∷ 0 ∷ 0 ∷ 1 ∷ 0 ∷ []
-
-others : List ℕ
-others = 1 ∷ 1 ∷ 0 ∷ 0 ∷ 0 ∷ 0 ∷ 0 ∷ 0 ∷ 0 ∷ 256 ∷ []
-
-spelled_twice : List Change
-spelled_twice = present others ∷ present bytes ∷ []
-
-both_are_kept : keep spelled_twice ≡ spelled_twice
-unfolding table present bytes others spelled_twice keep in_order is_beaten row_cmp cid_cmp weight_cmp change_cmp beats
-both_are_kept = refl
-
-both_are_well_formed : AreWellFormed (table (key_column ∷ [])) spelled_twice
-unfolding key_column table present bytes others spelled_twice fault_of is_too_big is_key key_fits key_affinity is_cid has_lengths unpacked values_at value_at int_at
-both_are_well_formed = (inl refl, (inl refl, tt))
-
-all_have_it_twice : has_twice (table (key_column ∷ [])) (rows spelled_twice (table (key_column ∷ [])) ++ []) ≡ true
-unfolding key_column table present bytes others spelled_twice has_twice rows row alive_keys kept_change key_of key_values key_part unpacked values_at value_at int_at
-all_have_it_twice = refl
-
-theirs_does_not : has_twice (table (key_column ∷ [])) (rows (under_keys (table (key_column ∷ [])) [] spelled_twice) (table (key_column ∷ [])) ++ []) ≡ false
-unfolding key_column table present bytes others spelled_twice has_twice rows row alive_keys kept_change part
-theirs_does_not = refl
 
 -- ---- a column that wants a value, and has no default
 

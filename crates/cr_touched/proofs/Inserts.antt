@@ -24,7 +24,7 @@ use Rattle.cr_query.specs.Query.{Row}
 use Rattle.cr_query.specs.Writes.{repeats, has_twice, has_long_key, lacks_value, by_key}
 use Rattle.cr_touched.specs.Parts.{is_at, part, keys_of, is_key_of}
 use Rattle.cr_touched.specs.Touched.{passes, IsShownOutside}
-use Rattle.cr_touched.specs.Shown.{IsSpelled, AreKeptOf}
+use Rattle.cr_touched.specs.Shown.{AreKeptOf}
 use Rattle.cr_touched.specs.Inserts.{verdict_with}
 use Rattle.cr_touched.proofs.Parts.{filter-append, keep_part, alive_part, rows_part}
 use Rattle.cr_touched.proofs.Sets.{all_set, any_set, filter_set}
@@ -81,7 +81,6 @@ unfolding part
 kept_of_part def p kept are = record {
   unbeaten = sym (keep_part def.name p kept) ∙ ap (part def.name p) are.unbeaten;
   well_formed = all_filter (λ c. IsWellFormed c def ⊎ (same_bytes c.table def.name ≡ false)) (is_at def.name p) kept are.well_formed;
-  spelled = all_filter (λ c. same_bytes c.table def.name ≡ true → IsSpelled c.pk) (is_at def.name p) kept are.spelled;
 }
 
 -- ---- rows that come

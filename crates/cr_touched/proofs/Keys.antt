@@ -11,14 +11,14 @@ use Rattle.cr_value.specs.Unpacking.{unpacked}
 use Rattle.cr_lattice.specs.declared.change.Change.{Change}
 use Rattle.cr_lattice.specs.declared.table.ColumnDef.{ColumnDef}
 use Rattle.cr_lattice.specs.declared.table.TableDef.{TableDef}
-use Rattle.cr_lattice.specs.Check.{stands_at, key_fits, is_key}
+use Rattle.cr_lattice.specs.Check.{same_bytes, stands_at, key_fits, are_key_values, is_key}
 use Rattle.cr_lattice.specs.Profile.{key_count, places_once, has_key}
 use Rattle.cr_lattice.specs.Rows.{column_value, cell, row}
 use Rattle.cr_lattice.proofs.Tested.{and_true, split}
 use Rattle.cr_delta.specs.Key.{key_part, key_places, key_values, key_of}
 use Rattle.cr_delta.proofs.Among.{Among}
+use Rattle.cr_delta.proofs.Members.{same_is}
 use Rattle.cr_delta.proofs.KeyCells.{count_no, place_once, place_within}
-use Rattle.cr_touched.specs.Shown.{IsSpelled}
 use Rattle.cr_touched.proofs.Unpacked.{Unpacked, unpacked_is}
 
 -- ---- the values that a key spells
@@ -30,12 +30,15 @@ pub record Spells (def : TableDef) (pk : List ℕ) (vs : List Value) : Type 0 wh
   pub spelled : packed vs ≡ pk
   pub are : Unpacked pk vs
 
-pub spells : (def : TableDef) (pk : List ℕ) → IsSpelled pk → is_key def pk ≡ true → (vs : List Value) × Spells def pk vs
+pub spells : (def : TableDef) (pk : List ℕ) → is_key def pk ≡ true → (vs : List Value) × Spells def pk vs
 unfolding is_key
-spells def pk spelled is = by (unpacked pk) refl is where
-  by : (o : Option (List Value)) → unpacked pk ≡ o → option_map_or (λ vs. eqb (length vs) (key_count def) && key_fits def 1 vs) o false ≡ true → (vs : List Value) × Spells def pk vs
+spells def pk is = by (unpacked pk) refl is where
+  by : (o : Option (List Value)) → unpacked pk ≡ o → option_map_or (λ vs. are_key_values def vs && same_bytes (packed vs) pk) o false ≡ true → (vs : List Value) × Spells def pk vs
   by None e h = absurd cc
-  by (Some vs) e h = (vs, record { read = e; count = eqb-true _ _ (and_true _ _ h).0; spelled = spelled vs e; are = unpacked_is pk vs e })
+  by (Some vs) e h =
+      let both = and_true (are_key_values def vs) (same_bytes (packed vs) pk) h in
+      let values = and_true (eqb (length vs) (key_count def)) (key_fits def 1 vs) both.0 in
+      (vs, record { read = e; count = eqb-true _ _ values.0; spelled = same_is (packed vs) pk both.1; are = unpacked_is pk vs e })
 
 -- ---- parts, place by place
 

@@ -30,7 +30,7 @@ use Rattle.cr_delta.proofs.KeyCells.{place_within}
 use Rattle.cr_delta.proofs.Members.{same_is, is_same}
 use Rattle.cr_query.specs.Writes.{lacks, has_null_key, has_null, has_long_key, lacks_value, repeats, has_twice}
 use Rattle.cr_touched.specs.Parts.{keys_of}
-use Rattle.cr_touched.specs.Shown.{IsSpelled, AreKeptOf, AreSoundlyShown}
+use Rattle.cr_touched.specs.Shown.{AreKeptOf, AreSoundlyShown}
 use Rattle.cr_touched.proofs.Keys.{Spells, spells, key_cell, key_is}
 use Rattle.cr_touched.proofs.Parts.{sorted_keys}
 
@@ -191,10 +191,9 @@ module _ (def : TableDef) (keyed : has_key def ≡ true) (kept : List Change) (a
   alive_spells pk e =
       let r = member_of_any (λ c. is_of_row def.name pk c && is_odd c.cl) kept e in
       let of = and_true _ _ (and_true (is_of_row def.name pk r.0) (is_odd r.0.cl) r.2).0 in
-      let spelled = member_has (λ c. same_bytes c.table def.name ≡ true → IsSpelled c.pk) kept r.0 are.spelled r.1 of.0 in
       let well = member_has (λ c. IsWellFormed c def ⊎ (same_bytes c.table def.name ≡ false)) kept r.0 are.well_formed r.1 in
       subst (λ k. (vs : List Value) × Spells def k vs) (same_is r.0.pk pk of.1)
-      (spells def r.0.pk spelled (elim well [
+      (spells def r.0.pk (elim well [
         | inl here ↦ has_its_key r.0 def here
         | inr other ↦ (let so : same_bytes r.0.table def.name ≡ true = of.0 in absurd cc)
       ]))

@@ -1,5 +1,5 @@
 -- What the values of a key are like, whatever numbers it is made of.
-use Rattle.std.proofs.Common.{◌≡◌, inl, inr, ℕ, zero, suc, ◌≤◌, cond, ◌&&◌, eqb, leb, List, [], ◌∷◌, length, Some, None, refl, sym, ap, subst, arith}
+use Rattle.std.proofs.Common.{◌≡◌, inl, inr, ℕ, zero, suc, ◌≤◌, cond, ◌&&◌, eqb, leb, List, [], ◌∷◌, length, Some, None, refl, ap, subst, arith}
 use Rattle.std.specs.List.{AllByRecursion}
 use Rattle.std.specs.Int.{w64, cast_signed}
 use Rattle.std.specs.Str.{is_utf8}
@@ -8,12 +8,8 @@ use Rattle.cr_value.specs.declared.value.Value.{Value}
 use Rattle.cr_value.specs.declared.value.Value.TheVariants.{Int, Text, Blob}
 use Rattle.cr_value.specs.Packing.{IsNotNull, size_limit}
 use Rattle.cr_value.specs.Unpacking.{◌>>=◌, number_at, sized_at, int_at, text_at, blob_at, value_at, values_at, unpacked}
-use Rattle.cr_value.proofs.Fields.{some_is, bind_some, provided, chosen, unpacked_takes}
+use Rattle.cr_value.proofs.Fields.{some_is, bind_some, provided, chosen}
 use Rattle.cr_lattice.proofs.Tested.{and_true}
-use Rattle.cr_touched.specs.Shown.{BytesAreSpelled}
-
-pub bytes_are_spelled : BytesAreSpelled
-bytes_are_spelled pk bytes vs e = sym (unpacked_takes pk vs bytes e).spelled
 
 abbrev Read : Type 0
 Read = Value × List ℕ

@@ -2,7 +2,7 @@
 
 ghost use Rattle.cr_touched.specs.Parts.{PartsAreKept, PartsAreJoined, KeysMakeTheirPart, PartsShowTheirRows};
 ghost use Rattle.cr_touched.specs.Touched.{DeltaOfTouchedKeys, KeysByLookUps, NewlyKeptOfTheirRows};
-ghost use Rattle.cr_touched.specs.Shown.{BytesAreSpelled, ShownRowsAreSound};
+ghost use Rattle.cr_touched.specs.Shown.{ShownRowsAreSound};
 ghost use Rattle.cr_touched.specs.Inserts.{InsertsLookAtTheirKeys, InsertsMayLookFurther, InsertsAreJudgedAlike, InsertsFaultAlike};
 
 /// What is kept of some keys of a table is kept like the whole, is what is kept of each key, put together, and shows the rows
@@ -27,11 +27,6 @@ pub fn keys_by_look_ups()
 /// The changes that come in with a commit are told from what is kept of their rows.
 pub fn newly_kept_of_their_rows()
     ensures { NewlyKeptOfTheirRows }
-{}
-
-/// A key of bytes is what the values are packed as that it spells.
-pub fn bytes_are_spelled()
-    ensures { BytesAreSpelled }
 {}
 
 /// Rows that are shown have the keys that they are kept under, each once and within its limit, and every value that they want.

@@ -10,7 +10,7 @@ pub const DEPTH_LIMIT: u8 = 100;
 pub const ARGUMENT_LIMIT: u8 = 100;
 
 /// The most tables of a FROM.
-pub const TABLE_LIMIT: u8 = 8;
+pub const TABLE_LIMIT: u8 = 16;
 
 /// What a statement has too much of.
 #[derive(Clone, Copy, Debug, PartialEq, Eq)]

@@ -55,7 +55,7 @@ fn new_name(rt: &HostRuntime) -> Result<String, Fail> {
 }
 
 // The file and its log lose their names at once, so that nothing is left of them whatever the test finds.
-fn open_unnamed(rt: &HostRuntime) -> Result<Connection<FileStore<File>>, Fail> {
+pub(crate) fn open_unnamed(rt: &HostRuntime) -> Result<Connection<FileStore<File>>, Fail> {
     let name = new_name(rt)?;
     let conn = Connection::open(rt, &name)?;
     fs::remove_file(rt, name.as_str())?;
@@ -181,7 +181,10 @@ fn define<C: Cells>(alloc: Global, cells: &mut C) -> Result<(), Fail> {
     add_replicated(alloc, cells, &definition(alloc, "u", COLUMNS)?)
 }
 
-fn opened_again<S: Alter + Drop>(alloc: Global, store: Store<S>) -> Result<Store<S>, Fail> {
+pub(crate) fn opened_again<S: Alter + Drop>(
+    alloc: Global,
+    store: Store<S>,
+) -> Result<Store<S>, Fail> {
     match reopened(alloc, store) {
         Ok(store) => Ok(store),
         Err((error, _)) => Err(Fail::from(error)),

@@ -27,7 +27,7 @@ length-put_all cols (p ∷ ps) (v ∷ vs) row = length-put_all cols ps vs (put c
 
 -- ---- what holds of each part holds of what is gathered
 
-all-append : {Y : Type 0} (P : Y → Type 0) (xs ys : List Y) → AllByRecursion P xs → AllByRecursion P ys → AllByRecursion P (xs ++ ys)
+pub all-append : {Y : Type 0} (P : Y → Type 0) (xs ys : List Y) → AllByRecursion P xs → AllByRecursion P ys → AllByRecursion P (xs ++ ys)
 all-append P [] ys a b = b
 all-append P (x ∷ xs) ys a b = (a.0, all-append P xs ys a.1 b)
 
@@ -67,7 +67,7 @@ module _ {E : Type 0} (m : Meaning E) (cols : List ColumnDef) where
   inserted_wide : (places : List ℕ) (es : List E) (r : Row) → inserted m cols places es ≡ Some r → IsWide cols r
   inserted_wide places es r h = mapped (IsWide cols) (λ vs. put_all cols places vs (defaults cols)) (λ vs. length-put_all cols places vs (defaults cols) ∙ length-map cols default_of) (each (λ e. m.value e []) es) r h
 
-  brought_wide : (w : Insert E) (more : List Row) → inserted_rows m cols w ≡ Some more → AreWide cols more
+  pub brought_wide : (w : Insert E) (more : List Row) → inserted_rows m cols w ≡ Some more → AreWide cols more
   brought_wide w more h =
       elim w.is_ignored as (λ b. cond b (Some []) (each (inserted m cols w.places) w.tuples) ≡ Some more → AreWide cols more) [
         | true ↦ λ k. (let is : [] ≡ more = cc in subst (AreWide cols) is tt)

@@ -1,6 +1,6 @@
 //! The rows that an INSERT brings.
 
-ghost use Rattle.std.specs.Prelude.{◌≡◌, [], map, IfOk, if◌then◌else◌};
+ghost use Rattle.std.specs.Prelude.{◌≡◌, [], map, if◌then◌else◌};
 ghost use Rattle.cr_bags.specs.Bags.{each};
 ghost use Rattle.cr_query.specs.Writes as writes;
 ghost use Rattle.cr_meaning.specs.View as view;
@@ -18,7 +18,7 @@ use cr_term::expr::Expr;
 use cr_term::query::Insert;
 use cr_value::value::Value;
 use sqlite_items::Items as Listed;
-use std::alloc::{AllocError, Global};
+use std::alloc::Global;
 
 // The row of one tuple.
 fn inserted<F: Functions>(
@@ -89,36 +89,4 @@ pub fn inserted_rows<F: Functions>(
     let places = insert.columns.as_slice();
     let tuples = tuples_of(insert);
     inserted_each(alloc, columns, places, tuples, functions, params)
-}
-
-// Copies of rows.
-fn copies(alloc: Global, rows: &[Row]) -> Result<Vec<Row>, AllocError>
-    ensures { IfOk result (λ v. v.items ≡ rows.now) }
-{
-    let mut out = Vec::new(alloc);
-    for row in rows {
-        out.push(row.copy(alloc)?)?;
-    }
-    Ok(out)
-}
-
-/// The rows that an INSERT wants of a table that shows these: they and those of VALUES.
-///
-/// # Errors
-/// As those of `inserted_rows`.
-pub fn wanted_by_insert<F: Functions>(
-    alloc: Global,
-    columns: &[ColumnDef],
-    insert: &Insert,
-    rows: &[Row],
-    functions: &F,
-    params: &[Value],
-) -> Result<Vec<Row>, EvalFault>
-    requires { F.is_faithful functions.now }
-    ensures { Answers (⟦<F as Hosted>⟧.means functions.now) params.now result (λ v. v.items) (λ m. writes.wanted_by_insert m columns.now (view.insert insert.now) rows.now) }
-{
-    let mut more = inserted_rows(alloc, columns, insert, functions, params)?;
-    let mut out = copies(alloc, rows)?;
-    out.append(&mut more)?;
-    Ok(out)
 }

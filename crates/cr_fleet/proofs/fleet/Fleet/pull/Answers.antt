@@ -3,9 +3,10 @@ use Rattle.std.proofs.lemmas.List.{length-set}
 use Rattle.std.proofs.lemmas.Option.{slice_get-get_or}
 use Rattle.cr_lattice.specs.Check.{same_bytes}
 use Rattle.cr_world.specs.World.{item_at}
-use Rattle.cr_session.specs.Sessions.{clean, standing, state_of}
+use Rattle.cr_session.specs.Sessions.{clean, honest, standing, state_of}
 use Rattle.cr_fleet.specs.declared.fleet.Named.{Named}
 use Rattle.cr_fleet.specs.Fleets.{AreClean}
+use Rattle.cr_fleet.proofs.Honest.{takes_always}
 use Rattle.cr_fleet.proofs.Places.{pair, map_set, all_at, found_there}
 use Rattle.cr_fleet.proofs.Stepping.{pair_at, place_paired}
 use Rattle.cr_fleet.proofs.Pulling.{pull_unknown, pull_in_transaction, pull_same_site, pull_unread, pull_taken}
@@ -64,7 +65,7 @@ returns-in-Err g c = λ l.
     (c.site-2.ensures (all_at (λ x. g.C.Cells.is_clean x.1.0) (map pair items) c.in-Some.at _ clean paired) i))
     ∙ sym c.same_bytes.ensures ∙ c.if-same_bytes.false) in
     rw c.from.ensures (rw (← c.self.view_is) (rw (map_set pair items c.in-Some-place_of.from _)
-    (pull_unread l _ (clean g.C.Cells.is_clean) (standing g.C.Cells.holding) _ _ c.args.name.now c.in-Some.at _ place paired c.in-Some-place_of.from _ from there (sym c.in_transaction.ensures ∙ c.if-in_transaction.false) _ refl c.changes_above.ensures.was_clean sites c.in-Err.error c.in-Err.ensures.stays_clean
+    (pull_unread l _ (clean g.C.Cells.is_clean) (standing g.C.Cells.holding) _ _ c.args.name.now c.in-Some.at _ place paired c.in-Some-place_of.from _ from there (sym c.in_transaction.ensures ∙ c.if-in_transaction.false) _ refl c.changes_above.ensures.was_clean sites c.in-Err.error (c.in-Err.ensures.stays_clean (g.met.C.NewCells.always_honest _))
     (λ clean. ((λ i. state_of ((c.in-Err.ensures.reads clean).same i) (c.changes_above.ensures.pending i)), (c.in-Err.ensures.reads clean).answers)))))
 
 pub returns : goal.returns
@@ -92,5 +93,5 @@ returns g c = λ l.
     let paired_mid = rw (map_set pair items c.in-Some-place_of.from peer) at (pair_at mid c.in-Some.at c.in-Some-get_mut-2.taker.now at_mid) in
     rw c.reply_of.ensures (rw (← c.self.view_is) (rw (map_set pair mid c.in-Some.at _, map_set pair items c.in-Some-place_of.from peer)
     (pull_taken l _ (clean g.C.Cells.is_clean) (standing g.C.Cells.holding) _ _ c.args.name.now c.in-Some.at _ place paired c.in-Some-place_of.from _ from there (sym c.in_transaction.ensures ∙ c.if-in_transaction.false) _ refl c.changes_above.ensures.was_clean sites
-    c.in-Ok.changes.items c.in-Ok.ensures.stays_clean (λ clean i. state_of ((c.in-Ok.ensures.reads clean).same i) (c.changes_above.ensures.pending i)) c.changes_above.ensures.sound (λ clean. (c.in-Ok.ensures.reads clean).answers)
-    _ _ paired_mid refl c.take_all.result (rw c.deref-4.ensures.value at c.take_all.ensures))))
+    c.in-Ok.changes.items (c.in-Ok.ensures.stays_clean (g.met.C.NewCells.always_honest _)) (λ clean i. state_of ((c.in-Ok.ensures.reads clean).same i) (c.changes_above.ensures.pending i)) c.changes_above.ensures.sound (λ clean. (c.in-Ok.ensures.reads clean).answers)
+    _ _ paired_mid refl c.take_all.result (takes_always (honest g.C.Cells.is_honest) (clean g.C.Cells.is_clean) (standing g.C.Cells.holding) _ _ (g.met.C.NewCells.always_honest _) _ _ _ _ (rw c.deref-4.ensures.value at c.take_all.ensures)))))

@@ -3,8 +3,9 @@ use Rattle.std.proofs.lemmas.List.{length-set, length-map}
 use Rattle.std.proofs.lemmas.Option.{slice_get-get_or}
 use Rattle.cr_cells.specs.Marks.{Mark}
 use Rattle.cr_world.specs.Takings.{changes_above}
-use Rattle.cr_session.specs.Sessions.{clean, standing, state_of}
+use Rattle.cr_session.specs.Sessions.{clean, honest, standing, state_of}
 use Rattle.cr_fleet.specs.declared.fleet.Named.{Named}
+use Rattle.cr_fleet.proofs.Honest.{takes_always}
 use Rattle.cr_fleet.proofs.Places.{pair, map_set, within}
 use Rattle.cr_fleet.proofs.Stepping.{pair_at}
 use Rattle.cr_fleet.proofs.PullingSince.{met_peer, since_unread, since_no_version, since_taken}
@@ -18,7 +19,7 @@ returns-in-Err g c = λ l name o.
     let there = pair_at items c.args.from c.in-Some.peer.now at in
     rw c.from.ensures (rw (← c.self.view_is) (rw (map_set pair items c.args.from _)
     (since_unread l _ (clean g.C.Cells.is_clean) (standing g.C.Cells.holding) _ _ name c.args.at c.args.from c.args.seen (met_peer (clean g.C.Cells.is_clean) (standing g.C.Cells.holding) _ name c.args.at c.args.from c.args.seen (rw (← c.self.view_is) at o) _ there) _ refl c.changes_above.ensures.was_clean
-    c.in-Err.error c.in-Err.ensures.stays_clean (λ clean. ((λ i. state_of ((c.in-Err.ensures.reads clean).same i) (c.changes_above.ensures.pending i)), (c.in-Err.ensures.reads clean).answers)))))
+    c.in-Err.error (c.in-Err.ensures.stays_clean (g.met.C.NewCells.always_honest _)) (λ clean. ((λ i. state_of ((c.in-Err.ensures.reads clean).same i) (c.changes_above.ensures.pending i)), (c.in-Err.ensures.reads clean).answers)))))
 
 pub returns-then-version-lt0 : goal.returns-then-version-lt0
 returns-then-version-lt0 g c = λ l name o.
@@ -54,6 +55,6 @@ returns g c = λ l name o.
     let mark : Mark = (c.site-site.result, to_z w64 (of_z w64 c.version-version.result)) in
     rw c.reply_of.ensures (rw (← c.self.view_is) (rw (map_set pair mid c.args.at _, map_set pair items c.args.from peer)
     (since_taken l _ (clean g.C.Cells.is_clean) (standing g.C.Cells.holding) _ _ name c.args.at c.args.from c.args.seen (met_peer (clean g.C.Cells.is_clean) (standing g.C.Cells.holding) _ name c.args.at c.args.from c.args.seen (rw (← c.self.view_is) at o) _ there) _ refl c.changes_above.ensures.was_clean
-    (λ clean i. state_of ((c.in-Ok.ensures.reads clean).same i) (c.changes_above.ensures.pending i)) c.in-Ok.changes.items c.in-Ok.ensures.stays_clean (λ clean. (c.in-Ok.ensures.reads clean).answers ∙ ap (changes_above (g.C.Cells.holding c.in-Some.peer.now.session.0)) (to_z-of_z fits))
+    (λ clean i. state_of ((c.in-Ok.ensures.reads clean).same i) (c.changes_above.ensures.pending i)) c.in-Ok.changes.items (c.in-Ok.ensures.stays_clean (g.met.C.NewCells.always_honest _)) (λ clean. (c.in-Ok.ensures.reads clean).answers ∙ ap (changes_above (g.C.Cells.holding c.in-Some.peer.now.session.0)) (to_z-of_z fits))
     mark (λ clean. (λ i. (c.site-site.ensures clean i, (to_z-of_z version_fits ∙ c.version-version.ensures clean) i)) ∙ (λ i. (((c.in-Ok.ensures.reads clean).same i).site, ((c.in-Ok.ensures.reads clean).same i).version)))
-    _ _ paired_mid refl c.take_all.result (rw c.deref.ensures.value at c.take_all.ensures))))
+    _ _ paired_mid refl c.take_all.result (takes_always (honest g.C.Cells.is_honest) (clean g.C.Cells.is_clean) (standing g.C.Cells.holding) _ _ (g.met.C.NewCells.always_honest _) _ _ _ _ (rw c.deref.ensures.value at c.take_all.ensures)))))

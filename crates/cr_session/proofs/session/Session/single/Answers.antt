@@ -1,6 +1,6 @@
 use Rattle.std.proofs.Common.{rules, ◌∙◌, sym, ap}
 use Rattle.cr_session.specs.Scripts.{second_place}
-use Rattle.cr_session.specs.Sessions.{clean, standing}
+use Rattle.cr_session.specs.Sessions.{clean, honest, standing}
 use Rattle.cr_session.proofs.Executions.{carries_single, does_nothing, refuses_behind, refuses_more, refuses_unread}
 use Rattle.cr_session.proofs.Scripting.{folded, found}
 use Rattle.cr_session.proofs.Turning.{takes}
@@ -8,18 +8,18 @@ use Rattle.cr_session.proofs.session.Session.single.Goals as goal
 
 pub returns-in-Some : goal.returns-in-Some
 returns-in-Some g c = λ has names.
-    refuses_more _ _ (clean g.C.Cells.is_clean) (standing g.C.Cells.holding) c.args.source.now c.args.tokens.now c.args.params.now c.args.self.now c.in-Some.at (sym c.is_empty.ensures ∙ c.if-is_empty.true) (sym c.second_place.ensures ∙ c.in-Some.is)
+    refuses_more _ _ (honest g.C.Cells.is_honest) (clean g.C.Cells.is_clean) (standing g.C.Cells.holding) c.args.source.now c.args.tokens.now c.args.params.now c.args.self.now c.in-Some.at (sym c.is_empty.ensures ∙ c.if-is_empty.true) (sym c.second_place.ensures ∙ c.in-Some.is)
 
 pub returns-in-None : goal.returns-in-None
 returns-in-None g c = λ has names.
-    does_nothing _ _ (clean g.C.Cells.is_clean) (standing g.C.Cells.holding) c.args.source.now c.args.tokens.now c.args.params.now c.args.self.now (sym c.is_empty.ensures ∙ c.if-is_empty.true) (sym c.second_place.ensures ∙ c.in-None.is)
+    does_nothing _ _ (honest g.C.Cells.is_honest) (clean g.C.Cells.is_clean) (standing g.C.Cells.holding) c.args.source.now c.args.tokens.now c.args.params.now c.args.self.now (sym c.is_empty.ensures ∙ c.if-is_empty.true) (sym c.second_place.ensures ∙ c.in-None.is)
 
 pub behind-requires : goal.behind-requires
 behind-requires g c = (takes c.args.source.now c.args.tokens.now c.in-Ok-Some.statement c.in-Ok-Some.len (found c.args.source.now c.args.tokens.now c.next_statement-next.result _ c.next_statement-next.ensures (search rules))).1
 
 pub returns-in-Some-second_place : goal.returns-in-Some-second_place
 returns-in-Some-second_place g c = λ has names.
-    refuses_behind _ _ (clean g.C.Cells.is_clean) (standing g.C.Cells.holding) c.args.source.now c.args.tokens.now c.args.params.now c.args.self.now c.in-Ok-Some.statement c.in-Ok-Some.len c.in-Some-second_place.at
+    refuses_behind _ _ (honest g.C.Cells.is_honest) (clean g.C.Cells.is_clean) (standing g.C.Cells.holding) c.args.source.now c.args.tokens.now c.args.params.now c.args.self.now c.in-Ok-Some.statement c.in-Ok-Some.len c.in-Some-second_place.at
     (sym c.is_empty.ensures ∙ c.if-is_empty.false) (found c.args.source.now c.args.tokens.now c.next_statement-next.result _ c.next_statement-next.ensures (search rules))
     (sym (c.second_place-in-Ok-Some.ensures ∙ ap second_place c.behind.ensures) ∙ c.in-Some-second_place.is)
 
@@ -28,11 +28,11 @@ statement-requires-clause-folded g c = folded c.args.source.now c.args.tokens.no
 
 pub returns-in-Ok-Some : goal.returns-in-Ok-Some
 returns-in-Ok-Some g c = λ has names.
-    carries_single _ _ (clean g.C.Cells.is_clean) (standing g.C.Cells.holding) c.args.source.now c.args.tokens.now c.args.params.now c.args.self.now c.in-Ok-Some.statement c.in-Ok-Some.len c.statement.new.self
+    carries_single _ _ (honest g.C.Cells.is_honest) (clean g.C.Cells.is_clean) (standing g.C.Cells.holding) c.args.source.now c.args.tokens.now c.args.params.now c.args.self.now c.in-Ok-Some.statement c.in-Ok-Some.len c.statement.new.self
     (sym c.is_empty.ensures ∙ c.if-is_empty.false) (found c.args.source.now c.args.tokens.now c.next_statement-next.result _ c.next_statement-next.ensures (search rules))
     (sym (c.second_place-in-Ok-Some.ensures ∙ ap second_place c.behind.ensures) ∙ c.in-None-second_place.is) c.statement.result (c.statement.ensures has names)
 
 pub returns : goal.returns
 returns g c = λ has names.
-    refuses_unread _ _ (clean g.C.Cells.is_clean) (standing g.C.Cells.holding) c.args.source.now c.args.tokens.now c.args.params.now c.args.self.now c.next_statement-next.result c.in-Err.error c.of_unread.result
+    refuses_unread _ _ (honest g.C.Cells.is_honest) (clean g.C.Cells.is_clean) (standing g.C.Cells.holding) c.args.source.now c.args.tokens.now c.args.params.now c.args.self.now c.next_statement-next.result c.in-Err.error c.of_unread.result
     (sym c.is_empty.ensures ∙ c.if-is_empty.false) c.next_statement-next.ensures c.in-Err.is c.of_unread.ensures

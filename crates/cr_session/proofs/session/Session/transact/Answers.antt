@@ -7,19 +7,19 @@ use Rattle.cr_session.proofs.session.Session.transact.Goals as goal
 
 pub returns-in-Err : goal.returns-in-Err
 returns-in-Err g c = λ has names.
-    refuses_permitted _ _ _ _ _ _ has _ names _ g.C.Cells.is_clean g.C.Cells.holding c.args.params.now c.args.self.now c.args.statement.now c.empty_snapshot-nothing.result c.in-Err.refusal c.requires.form c.in-Err.ensures
+    refuses_permitted _ _ _ _ _ _ has _ names _ g.C.Cells.is_honest g.C.Cells.is_clean g.C.Cells.holding c.args.params.now c.args.self.now c.args.statement.now c.empty_snapshot-nothing.result c.in-Err.refusal c.requires.form c.in-Err.ensures
 
 pub returns-in-Begin : goal.returns-in-Begin
 returns-in-Begin g c = λ has names.
-    carries_transacted _ _ _ _ _ _ has _ names _ g.C.Cells.is_clean g.C.Cells.holding c.args.params.now c.args.self.now c.begin.new.self c.args.statement.now c.empty_snapshot-nothing.result r.Begin c.begin.result c.requires.form
+    carries_transacted _ _ _ _ _ _ has _ names _ g.C.Cells.is_honest g.C.Cells.is_clean g.C.Cells.holding c.args.params.now c.args.self.now c.begin.new.self c.args.statement.now c.empty_snapshot-nothing.result r.Begin c.begin.result c.requires.form
     (λ answers known. ap (λ x. left_of answers (read known x).made) c.in-Begin.is) (c.begin.ensures _ _ _) c.in_default.ensures
 
 pub returns-in-Commit : goal.returns-in-Commit
 returns-in-Commit g c = λ has names.
-    carries_transacted _ _ _ _ _ _ has _ names _ g.C.Cells.is_clean g.C.Cells.holding c.args.params.now c.args.self.now c.commit.new.self c.args.statement.now c.empty_snapshot-nothing.result r.Commit c.commit.result c.requires.form
+    carries_transacted _ _ _ _ _ _ has _ names _ g.C.Cells.is_honest g.C.Cells.is_clean g.C.Cells.holding c.args.params.now c.args.self.now c.commit.new.self c.args.statement.now c.empty_snapshot-nothing.result r.Commit c.commit.result c.requires.form
     (λ answers known. ap (λ x. left_of answers (read known x).made) c.in-Commit.is) (c.commit.ensures _ _) c.in_default.ensures
 
 pub returns : goal.returns
 returns g c = λ has names.
-    carries_transacted _ _ _ _ _ _ has _ names _ g.C.Cells.is_clean g.C.Cells.holding c.args.params.now c.args.self.now c.rollback.new.self c.args.statement.now c.empty_snapshot-nothing.result r.Rollback c.rollback.result c.requires.form
+    carries_transacted _ _ _ _ _ _ has _ names _ g.C.Cells.is_honest g.C.Cells.is_clean g.C.Cells.holding c.args.params.now c.args.self.now c.rollback.new.self c.args.statement.now c.empty_snapshot-nothing.result r.Rollback c.rollback.result c.requires.form
     (λ answers known. ap (λ x. left_of answers (read known x).made) (rollback_is c.args.statement.now c.requires.form c.in_default-statement.not-Begin c.in_default-statement.not-Commit)) (c.rollback.ensures _ _ _) c.in_default.ensures

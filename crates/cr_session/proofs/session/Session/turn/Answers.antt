@@ -1,5 +1,5 @@
 use Rattle.std.proofs.Common.{rules, refl, None, inl, inr}
-use Rattle.cr_session.specs.Sessions.{clean, standing}
+use Rattle.cr_session.specs.Sessions.{clean, honest, standing}
 use Rattle.cr_session.proofs.Scripting.{folded, found, stops_unread}
 use Rattle.cr_session.proofs.Turning.{takes}
 use Rattle.cr_session.proofs.session.Session.turn.Goals as goal
@@ -8,7 +8,7 @@ pub returns-in-Ok-None-clause-turns : goal.returns-in-Ok-None-clause-turns
 returns-in-Ok-None-clause-turns g c = λ has names. (found _ _ c.next_statement-next.result None c.next_statement-next.ensures (search rules), refl)
 
 pub returns-clause-turns : goal.returns-clause-turns
-returns-clause-turns g c = λ has names. stops_unread _ _ (clean g.C.Cells.is_clean) (standing g.C.Cells.holding) _ _ _ c.next_statement-next.result _ _ c.next_statement-next.ensures (search rules) c.of_unread.ensures
+returns-clause-turns g c = λ has names. stops_unread _ _ (honest g.C.Cells.is_honest) (clean g.C.Cells.is_clean) (standing g.C.Cells.holding) _ _ _ c.next_statement-next.result _ _ c.next_statement-next.ensures (search rules) c.of_unread.ensures
 
 pub returns-in-Ok-clause-turns : goal.returns-in-Ok-clause-turns
 returns-in-Ok-clause-turns g c = λ has names. record {

@@ -1,18 +1,18 @@
 use Rattle.std.proofs.Common.{rules, Some}
-use Rattle.cr_session.specs.Sessions.{clean, standing}
+use Rattle.cr_session.specs.Sessions.{clean, honest, standing}
 use Rattle.cr_session.proofs.Turning.{takes_of, fewer, turned, starts, more, ends, wants, stops}
 use Rattle.cr_session.proofs.session.Session.turns.Goals as goal
 
 pub loop-rest-init : goal.loop-rest-init
-loop-rest-init g c = λ has names. starts _ _ (clean g.C.Cells.is_clean) (standing g.C.Cells.holding) _ _ _ _ (search rules)
+loop-rest-init g c = λ has names. starts _ _ (honest g.C.Cells.is_honest) (clean g.C.Cells.is_clean) (standing g.C.Cells.holding) _ _ _ _ (search rules)
 
 pub returns-then-is_err : goal.returns-then-is_err
-returns-then-is_err g c = λ has names. rw c.reserve.ensures.items (wants _ _ (clean g.C.Cells.is_clean) (standing g.C.Cells.holding) _ _ _ _ _ _ (c.loop-rest.invariant has names))
+returns-then-is_err g c = λ has names. rw c.reserve.ensures.items (wants _ _ (honest g.C.Cells.is_honest) (clean g.C.Cells.is_clean) (standing g.C.Cells.holding) _ _ _ _ _ _ (c.loop-rest.invariant has names))
 
 pub returns-in-Ok-None : goal.returns-in-Ok-None
 returns-in-Ok-None g c = λ has names.
-    let none = turned _ _ (clean g.C.Cells.is_clean) (standing g.C.Cells.holding) _ _ _ _ _ c.in-Ok-None.field-0-is (c.in-Ok-None.ensures.turns has names) in
-    rw none.1 (rw c.reserve.ensures.items (ends _ _ (clean g.C.Cells.is_clean) (standing g.C.Cells.holding) _ _ _ _ _ _ (c.loop-rest.invariant has names) none.0))
+    let none = turned _ _ (honest g.C.Cells.is_honest) (clean g.C.Cells.is_clean) (standing g.C.Cells.holding) _ _ _ _ _ c.in-Ok-None.field-0-is (c.in-Ok-None.ensures.turns has names) in
+    rw none.1 (rw c.reserve.ensures.items (ends _ _ (honest g.C.Cells.is_honest) (clean g.C.Cells.is_clean) (standing g.C.Cells.holding) _ _ _ _ _ _ (c.loop-rest.invariant has names) none.0))
 
 pub behind-rest-requires : goal.behind-rest-requires
 behind-rest-requires g c = (takes_of _ (c.in-Ok-Some.reply, c.in-Ok-Some.len) _ (search rules) c.in-Ok-Some.ensures.takes).1
@@ -22,9 +22,9 @@ loop-rest-smaller g c = fewer _ _ (c.in-Ok-Some.reply, c.in-Ok-Some.len) c.behin
 
 pub loop-rest-preserved : goal.loop-rest-preserved
 loop-rest-preserved g c = λ has names.
-    more _ _ (clean g.C.Cells.is_clean) (standing g.C.Cells.holding) _ _ _ _ _ _ _ _ (c.in-Ok-Some.reply, c.in-Ok-Some.len) _ (c.loop-rest.invariant has names)
-    (turned _ _ (clean g.C.Cells.is_clean) (standing g.C.Cells.holding) _ _ _ _ (Some (c.in-Ok-Some.reply, c.in-Ok-Some.len)) (search rules) (c.in-Ok-Some.ensures.turns has names)) c.behind-rest.ensures (search rules)
+    more _ _ (honest g.C.Cells.is_honest) (clean g.C.Cells.is_clean) (standing g.C.Cells.holding) _ _ _ _ _ _ _ _ (c.in-Ok-Some.reply, c.in-Ok-Some.len) _ (c.loop-rest.invariant has names)
+    (turned _ _ (honest g.C.Cells.is_honest) (clean g.C.Cells.is_clean) (standing g.C.Cells.holding) _ _ _ _ (Some (c.in-Ok-Some.reply, c.in-Ok-Some.len)) (search rules) (c.in-Ok-Some.ensures.turns has names)) c.behind-rest.ensures (search rules)
 
 pub returns-in-Err : goal.returns-in-Err
 returns-in-Err g c = λ has names.
-    rw c.reserve.ensures.items (stops _ _ (clean g.C.Cells.is_clean) (standing g.C.Cells.holding) _ _ _ _ _ _ _ _ (c.loop-rest.invariant has names) (c.in-Err.ensures.turns has names))
+    rw c.reserve.ensures.items (stops _ _ (honest g.C.Cells.is_honest) (clean g.C.Cells.is_clean) (standing g.C.Cells.holding) _ _ _ _ _ _ _ _ (c.loop-rest.invariant has names) (c.in-Err.ensures.turns has names))

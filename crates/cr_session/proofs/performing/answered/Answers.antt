@@ -1,6 +1,6 @@
 use Rattle.std.proofs.Common.{Ok, Err, refl}
 use Rattle.cr_session.proofs.Selecting.{performs_select}
-use Rattle.cr_session.proofs.performing.select.Goals as goal
+use Rattle.cr_session.proofs.performing.answered.Goals as goal
 
 pub returns-in-Ok : goal.returns-in-Ok
 returns-in-Ok g c = λ host st is. performs_select _ c.args.params.now host st c.args.snapshot.now is c.args.query.now (Ok c.in-Ok.rows) _ c.in-Ok.ensures refl

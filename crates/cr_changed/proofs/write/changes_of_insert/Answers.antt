@@ -1,8 +1,0 @@
-use Rattle.cr_scalar.specs.Host.{host}
-use Rattle.cr_changed.proofs.Widths.{inserted_wide}
-use Rattle.cr_changed.proofs.write.changes_of_insert.Goals as goal
-
-pub changes_to-requires-clause-width : goal.changes_to-requires-clause-width
-changes_to-requires-clause-width g c =
-    inserted_wide (host (g.F.Functions.function_of c.args.functions.now) (g.F.Functions.scalar c.args.functions.now) (g.F.Functions.step c.args.functions.now) (g.F.Functions.finish c.args.functions.now) (g.F.Functions.order_of c.args.functions.now))
-    c.args.params.now c.args.snapshot.now c.args.insert.now c.in_ok-wanted.wanted.items c.in_ok-wanted.ensures
