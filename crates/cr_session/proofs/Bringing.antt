@@ -1,14 +1,12 @@
 -- Rows that an INSERT brings, judged by what is kept of their keys.
-use Rattle.std.proofs.Common.{◌≡◌, ◌⊎◌, inl, inr, ℕ, Bool, true, false, ◌||◌, List, [], ◌∷◌, ◌++◌, Option, Some, option_map, refl, sym, ap, subst, ◌∙◌, find}
-use Rattle.std.specs.Prelude.{filter}
-use Rattle.std.specs.List.{list_any, flat_map}
+use Rattle.std.proofs.Common.{◌≡◌, ◌⊎◌, inl, inr, ℕ, Bool, true, false, ◌||◌, List, [], ◌∷◌, ◌++◌, Option, option_map, refl, sym, ap, subst, ◌∙◌}
+use Rattle.std.specs.List.{list_any}
 use Rattle.cr_value.specs.declared.value.Value.{Value}
 use Rattle.cr_lattice.specs.declared.change.Change.{Change}
+use Rattle.cr_lattice.specs.declared.table.Table.{Table}
 use Rattle.cr_lattice.specs.declared.table.TableDef.{TableDef}
-use Rattle.cr_lattice.specs.Keep.{keep}
 use Rattle.cr_lattice.specs.Profile.{has_key}
-use Rattle.cr_lattice.specs.Rows.{is_of_row, rows}
-use Rattle.cr_cells.specs.Holding.{Holding, IsSound, kept_of, changes_of, cells_of}
+use Rattle.cr_lattice.specs.Rows.{rows}
 use Rattle.cr_cells.specs.Tables.{IsStored, has_defaults, is_named}
 use Rattle.cr_delta.specs.Delta.{passes_limit}
 use Rattle.cr_delta.proofs.Among.{member_has}
@@ -19,17 +17,14 @@ use Rattle.cr_term.specs.declared.query.Insert.{Insert}
 use Rattle.cr_scalar.specs.declared.fault.EvalFault.{EvalFault}
 use Rattle.cr_scalar.specs.declared.fault.EvalFault.TheVariants as fault
 use Rattle.cr_exec.specs.Answers.{Faults, IsBoth}
-use Rattle.cr_replica.specs.Snapshots.{kept_of_keys}
-use Rattle.cr_taken.specs.Taken.{replicated}
+use Rattle.cr_taken.specs.Taken.{AreKept, Replicates, replicated}
 use Rattle.cr_taken.proofs.Members.{found_member}
-use Rattle.cr_taken.proofs.Tables.{in_profile, kept_well_formed, sound_kept}
+use Rattle.cr_taken.proofs.Tables.{in_profile, kept_well_formed}
 use Rattle.cr_touched.specs.Parts.{is_key_of, keys_of, part}
 use Rattle.cr_touched.specs.Shown.{AreKeptOf}
 use Rattle.cr_touched.specs.Inserts.{Verdict, verdict_with}
 use Rattle.cr_touched.proofs.Inserts.{keys_pass, same_verdict}
-use Rattle.cr_touched.proofs.Parts.{keys_make_their_part}
 use Rattle.cr_touched.proofs.Shown.{soundly_shown}
-use Rattle.cr_touched.proofs.Twice.{map-filter}
 use Rattle.cr_world.specs.declared.refusal.Refusal.{Refusal}
 use Rattle.cr_world.specs.declared.refusal.Refusal.TheVariants as refusal
 use Rattle.cr_changed.specs.Changed.{AreMade, IsRefused, Leads, Stands, StandsAlone, insert_brings, insert_wants}
@@ -98,56 +93,43 @@ module _ (means : Means) (params : List Value) (i : Insert) (more : List Row) (b
   told_refused site r (inl memory) = inl memory
   told_refused site r (inr stands) = inr (inr (rows kept i.relation.definition ++ more, wants, stands))
 
--- ---- outside of transactions
+-- ---- where rows come to what is kept of a table
 
-module _ (h : Holding) (sound : IsSound h) (def : TableDef) (there : find (is_named def.name) h.tables ≡ Some (replicated def)) (more : List Row) where
-  abbrev kept : List Change
-  kept = kept_of h
-
+-- Tables and what is kept of them, as a sound store has them, or a transaction: so is what is kept of one of them.
+module _ (tables : List Table) (kept : List Change) (def : TableDef) (are : AreKept tables kept) (there : Replicates tables def) where
   keyed : has_key def ≡ true
-  keyed = (in_profile h.tables kept def (sound_kept h sound) there).key
+  keyed = (in_profile tables kept def are there).key
 
   defaults : has_defaults def ≡ true
-  defaults = (member_has IsStored h.tables (replicated def) sound.stored (found_member (is_named def.name) h.tables (replicated def) there)).defaults
+  defaults = (member_has IsStored tables (replicated def) are.stored (found_member (is_named def.name) tables (replicated def) there)).defaults
 
-  are : AreKeptOf def kept
-  are = record { unbeaten = sound.kept; well_formed = kept_well_formed h.tables kept def (sound_kept h sound) there }
+  kept_of_it : AreKeptOf def kept
+  kept_of_it = record { unbeaten = are.unbeaten; well_formed = kept_well_formed tables kept def are there }
 
-  -- what stands against the rows by themselves stands against them all
-  pub alone_stands : (site : List ℕ) (r : Refusal) → StandsAlone def more r → Stands def site kept (rows kept def ++ more) r
-  alone_stands site r (inl (long, told)) = inl (long_behind def (rows kept def) more ∙ ap (λ b. has_long_key def (rows kept def) || b) long ∙ or_true (has_long_key def (rows kept def)), told)
-  alone_stands site r (inr (short, lacks, told)) =
-      let shown = soundly_shown def keyed kept are defaults in
-      inr (inl (
-        long_behind def (rows kept def) more ∙ ap (λ b. b || has_long_key def more) shown.short ∙ short,
-        lacks_behind def (rows kept def) more ∙ ap (λ b. lacks_value def (rows kept def) || b) lacks ∙ or_true (lacks_value def (rows kept def)),
-        told,
-      ))
+  module _ (more : List Row) where
+    -- what stands against the rows by themselves stands against them all
+    pub alone_stands : (site : List ℕ) (r : Refusal) → StandsAlone def more r → Stands def site kept (rows kept def ++ more) r
+    alone_stands site r (inl (long, told)) = inl (long_behind def (rows kept def) more ∙ ap (λ b. has_long_key def (rows kept def) || b) long ∙ or_true (has_long_key def (rows kept def)), told)
+    alone_stands site r (inr (short, lacks, told)) =
+        let shown = soundly_shown def keyed kept kept_of_it defaults in
+        inr (inl (
+          long_behind def (rows kept def) more ∙ ap (λ b. b || has_long_key def more) shown.short ∙ short,
+          lacks_behind def (rows kept def) more ∙ ap (λ b. lacks_value def (rows kept def) || b) lacks ∙ or_true (lacks_value def (rows kept def)),
+          told,
+        ))
 
-  abbrev some : List Change
-  some = kept_of_keys h def.name (keys_of def more)
+    -- what is read of the keys is their part of all
+    module _ (some : List Change) (some_is : some ≡ part def.name (is_key_of (keys_of def more)) kept) where
+      verdicts : (site : List ℕ) → verdict_with def site more some ≡ verdict_with def site more kept
+      verdicts site =
+          ap (verdict_with def site more) some_is
+          ∙ sym (same_verdict def keyed defaults kept kept_of_it more (is_key_of (keys_of def more)) (keys_pass def more) site)
 
-  of_key : (pk : List ℕ) → changes_of (cells_of h.cells def.name pk) ≡ filter (is_of_row def.name pk) kept
-  unfolding cells_of
-  of_key pk = map-filter (λ s. s.change) (is_of_row def.name pk) h.cells
+      pub made_over : (site : List ℕ) (changes : List Change) → AreMade def site some (rows some def ++ more) changes → AreMade def site kept (rows kept def ++ more) changes
+      made_over site changes m =
+          let v : MadeBy (verdict_with def site more kept) changes = subst (λ (v : Verdict). MadeBy v changes) (verdicts site) (m.short, m.whole, m.once, m.within, m.are) in
+          record { short = v.0; whole = v.1; once = v.2; within = v.3; are = v.4 }
 
-  -- what is read of the keys is their part of all
-  some_is : some ≡ part def.name (is_key_of (keys_of def more)) kept
-  some_is =
-      (λ i. keep (flat_map (λ pk. of_key pk i) (keys_of def more)))
-      ∙ keys_make_their_part def.name (keys_of def more) kept
-      ∙ ap (part def.name (is_key_of (keys_of def more))) sound.kept
-
-  verdicts : (site : List ℕ) → verdict_with def site more some ≡ verdict_with def site more kept
-  verdicts site =
-      ap (verdict_with def site more) some_is
-      ∙ sym (same_verdict def keyed defaults kept are more (is_key_of (keys_of def more)) (keys_pass def more) site)
-
-  pub made_over : (site : List ℕ) (changes : List Change) → AreMade def site some (rows some def ++ more) changes → AreMade def site kept (rows kept def ++ more) changes
-  made_over site changes m =
-      let v : MadeBy (verdict_with def site more kept) changes = subst (λ (v : Verdict). MadeBy v changes) (verdicts site) (m.short, m.whole, m.once, m.within, m.are) in
-      record { short = v.0; whole = v.1; once = v.2; within = v.3; are = v.4 }
-
-  pub told_over : (site : List ℕ) (r : Refusal) → (r ≡ refusal.Memory) ⊎ Stands def site some (rows some def ++ more) r → (r ≡ refusal.Memory) ⊎ Stands def site kept (rows kept def ++ more) r
-  told_over site r (inl memory) = inl memory
-  told_over site r (inr stands) = inr (subst (λ (v : Verdict). ToldBy v r) (verdicts site) stands)
+      pub told_over : (site : List ℕ) (r : Refusal) → (r ≡ refusal.Memory) ⊎ Stands def site some (rows some def ++ more) r → (r ≡ refusal.Memory) ⊎ Stands def site kept (rows kept def ++ more) r
+      told_over site r (inl memory) = inl memory
+      told_over site r (inr stands) = inr (subst (λ (v : Verdict). ToldBy v r) (verdicts site) stands)

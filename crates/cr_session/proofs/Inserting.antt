@@ -1,10 +1,13 @@
 -- INSERT of a session, from the rows that it brings to where the session then stands.
-use Rattle.std.proofs.Common.{◌≡◌, ◌⊎◌, inl, inr, ℕ, true, false, List, ◌++◌, Option, None, Result, Err, sym, ap, subst, ◌∙◌}
+use Rattle.std.proofs.Common.{◌≡◌, ◌⊎◌, inl, inr, ℕ, true, false, List, ◌++◌, Result, Err, sym, subst, ◌∙◌}
+use Rattle.std.specs.Option.{ForSome}
 use Rattle.cr_value.specs.declared.value.Value.{Value}
 use Rattle.cr_lattice.specs.declared.change.Change.{Change}
+use Rattle.cr_lattice.specs.declared.table.Table.{Table}
 use Rattle.cr_lattice.specs.declared.table.TableDef.{TableDef}
 use Rattle.cr_lattice.specs.Rows.{rows}
-use Rattle.cr_cells.specs.Holding.{Holding, IsSound, kept_of}
+use Rattle.cr_cells.specs.Holding.{Holding, IsSound}
+use Rattle.cr_cells.specs.Tables.{AreWellFormed}
 use Rattle.cr_term.specs.declared.query.Insert.{Insert}
 use Rattle.cr_term.specs.declared.query.Resolved.TheVariants as r
 use Rattle.cr_scalar.specs.Host.{Host as Means}
@@ -12,9 +15,9 @@ use Rattle.cr_scalar.specs.declared.fault.EvalFault.{EvalFault}
 use Rattle.cr_query.specs.Query.{Row}
 use Rattle.cr_exec.specs.Answers.{Faults, IsBoth}
 use Rattle.cr_replica.specs.declared.snapshot.Snapshot.{Snapshot}
-use Rattle.cr_replica.specs.Snapshots.{kept_of_keys}
-use Rattle.cr_snapshot.specs.Seen.{IsNamed, IsSeen, catalog_of}
-use Rattle.cr_touched.specs.Parts.{keys_of}
+use Rattle.cr_snapshot.specs.Seen.{IsNamed, catalog_of}
+use Rattle.cr_taken.specs.Taken.{AreKept}
+use Rattle.cr_touched.specs.Parts.{is_key_of, keys_of, part}
 use Rattle.cr_world.specs.declared.command.Reply.{Reply}
 use Rattle.cr_world.specs.declared.refusal.Refusal.{Refusal}
 use Rattle.cr_world.specs.declared.refusal.Refusal.TheVariants as refusal
@@ -25,12 +28,12 @@ use Rattle.cr_world.specs.Statement.{Host}
 use Rattle.cr_fit.specs.Suited.{HasRelation}
 use Rattle.cr_changed.specs.Changed.{AreMade, IsRefused, Leads, Stands, StandsAlone, insert_brings, insert_wants}
 use Rattle.cr_session.specs.Performing.{Adds, Performed, is_table, not_replicated}
-use Rattle.cr_session.specs.Sessions.{SessionOf, clean, honest, standing, state_of}
+use Rattle.cr_session.specs.Sessions.{SessionOf, clean, honest, standing}
 use Rattle.cr_session.proofs.Changing.{Replicated}
 use Rattle.cr_session.proofs.Bringing.{alone_stands, faults_behind, made_leads, made_over, told_over, told_refused}
 use Rattle.cr_session.proofs.Committing.{insert_refused_rows, inserts, replicated_seen, replicated_there}
 use Rattle.cr_session.proofs.Looking.{after_look}
-use Rattle.cr_session.proofs.Seeing.{now_outside}
+use Rattle.cr_session.proofs.Seeing.{now_kept}
 
 -- what may stand against rows, or memory is wanting
 abbrev pub Told : TableDef → List ℕ → List Change → List Row → Refusal → Type 0
@@ -76,63 +79,36 @@ insert_faults means params host is_honest is_clean holding old names named i has
     insert_refused_rows means params host is_honest is_clean holding old names named i has e yet used f
     (λ clean. inr (inl (fault, told, faults_behind means params i (now (standing holding old)) fault faults)))
 
--- ---- by all that is seen
+-- ---- by what is seen of the keys of the rows
 
-module _ (st : State) (snap : Snapshot) (is : IsSeen st snap) (def : TableDef) (more : List Row) where
-  pub made_seen : (changes : List Change) → AreMade def snap.site snap.kept (rows snap.kept def ++ more) changes → AreMade def st.holding.site (now st) (rows (now st) def ++ more) changes
-  made_seen changes m =
-      subst (λ (site : List ℕ). AreMade def site (now st) (rows (now st) def ++ more) changes) is.site
-      (subst (λ (kept : List Change). AreMade def snap.site kept (rows kept def ++ more) changes) is.kept m)
-
-  pub told_seen : (f : Refusal) → Told def snap.site snap.kept (rows snap.kept def ++ more) f → Told def st.holding.site (now st) (rows (now st) def ++ more) f
-  told_seen f t =
-      subst (λ (site : List ℕ). Told def site (now st) (rows (now st) def ++ more) f) is.site
-      (subst (λ (kept : List Change). Told def snap.site kept (rows kept def ++ more) f) is.kept t)
-
--- ---- by the keys of the rows, outside of transactions
-
-module _ {C : Type 0} (is_clean : C → Type 0) (holding : C → Holding) (old : SessionOf C) (outside : old.1 ≡ None) (sound : is_clean old.0 → IsSound (holding old.0)) (names : Snapshot) (named : is_clean old.0 → IsNamed (standing holding old) names)
-    (i : Insert) (has : HasRelation (catalog_of names) i.relation) (e : is_table i.relation.held ≡ true) (yet : not_replicated i.relation ≡ Free) (more : List Row) where
+module _ {C : Type 0} (is_clean : C → Type 0) (holding : C → Holding) (old : SessionOf C) (sound : is_clean old.0 → IsSound (holding old.0)) (names : Snapshot) (named : is_clean old.0 → IsNamed (standing holding old) names)
+    (fit : ForSome old.1 (AreWellFormed names.tables)) (i : Insert) (has : HasRelation (catalog_of names) i.relation) (e : is_table i.relation.held ≡ true) (yet : not_replicated i.relation ≡ Free) (more : List Row) where
   abbrev at : State
   at = standing holding old
 
   abbrev table : TableDef
   table = i.relation.definition
 
-  now_is : now at ≡ kept_of (holding old.0)
-  now_is = ap (λ (p : Option (List Change)). now (state_of (holding old.0) p)) outside ∙ now_outside (holding old.0)
-
-  -- what is read of the keys of these rows
-  abbrev read : List Change
-  read = kept_of_keys (holding old.0) table.name (keys_of table more)
-
   module _ (here : is_clean old.0) where
-    abbrev h : Holding
-    h = holding old.0
-
     there : Replicated at table
     there = replicated_seen at names table (named here) (replicated_there names i.relation has e yet)
 
-    as_now : (P : List Change → Type 0) → P (kept_of h) → P (now at)
-    as_now P p = subst P (sym now_is) p
+    are : AreKept at.holding.tables (now at)
+    are = now_kept (holding old.0) old.1 (sound here) (subst (λ (ts : List Table). ForSome old.1 (AreWellFormed ts)) (named here).tables fit)
 
     pub alone_told : (f : Refusal) → StandsAlone table more f → Told table at.holding.site (now at) (rows (now at) table ++ more) f
-    alone_told f s =
-        as_now (λ (kept : List Change). Told table at.holding.site kept (rows kept table ++ more) f)
-        (inr (alone_stands h (sound here) table there more at.holding.site f s))
+    alone_told f s = inr (alone_stands at.holding.tables (now at) table are there more at.holding.site f s)
 
-    pub made_read : (kept changes : List Change) (site : List ℕ) → kept ≡ read → site ≡ names.site → AreMade table site kept (rows kept table ++ more) changes
-        → AreMade table at.holding.site (now at) (rows (now at) table ++ more) changes
-    made_read kept changes site k s m =
-        as_now (λ (kept : List Change). AreMade table at.holding.site kept (rows kept table ++ more) changes)
-        (made_over h (sound here) table there more at.holding.site changes
-        (subst (λ (site : List ℕ). AreMade table site read (rows read table ++ more) changes) (s ∙ (named here).site)
-        (subst (λ (kept : List Change). AreMade table site kept (rows kept table ++ more) changes) k m)))
+    module _ (kept : List Change) (site : List ℕ) (seen : kept ≡ part table.name (is_key_of (keys_of table more)) (now at)) (own : site ≡ names.site) where
+      own_there : site ≡ at.holding.site
+      own_there = own ∙ (named here).site
 
-    pub told_read : (kept : List Change) (site : List ℕ) (f : Refusal) → kept ≡ read → site ≡ names.site → Told table site kept (rows kept table ++ more) f
-        → Told table at.holding.site (now at) (rows (now at) table ++ more) f
-    told_read kept site f k s t =
-        as_now (λ (kept : List Change). Told table at.holding.site kept (rows kept table ++ more) f)
-        (told_over h (sound here) table there more at.holding.site f
-        (subst (λ (site : List ℕ). Told table site read (rows read table ++ more) f) (s ∙ (named here).site)
-        (subst (λ (kept : List Change). Told table site kept (rows kept table ++ more) f) k t)))
+      pub made_read : (changes : List Change) → AreMade table site kept (rows kept table ++ more) changes → AreMade table at.holding.site (now at) (rows (now at) table ++ more) changes
+      made_read changes m =
+          made_over at.holding.tables (now at) table are there more kept seen at.holding.site changes
+          (subst (λ (x : List ℕ). AreMade table x kept (rows kept table ++ more) changes) own_there m)
+
+      pub told_read : (f : Refusal) → Told table site kept (rows kept table ++ more) f → Told table at.holding.site (now at) (rows (now at) table ++ more) f
+      told_read f t =
+          told_over at.holding.tables (now at) table are there more kept seen at.holding.site f
+          (subst (λ (x : List ℕ). Told table x kept (rows kept table ++ more) f) own_there t)

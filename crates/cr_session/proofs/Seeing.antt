@@ -1,16 +1,26 @@
 -- What is seen of a session: what was read of its store, with the changes of the open transaction.
-use Rattle.std.proofs.Common.{◌≡◌, List, ◌++◌, Option, Some, None, Result, Ok, Err, refl, sym, ap, subst, ◌∙◌}
+use Rattle.std.proofs.Common.{◌≡◌, ℕ, List, ◌++◌, Option, Some, None, Result, Ok, Err, refl, sym, ap, subst, ◌∙◌}
+use Rattle.std.specs.Prelude.{filter, MatchResult}
+use Rattle.std.specs.List.{flat_map}
+use Rattle.std.specs.Option.{ForSome}
 use Rattle.cr_lattice.specs.declared.change.Change.{Change}
 use Rattle.cr_lattice.specs.Keep.{join, keep}
+use Rattle.cr_lattice.specs.Rows.{is_of_row}
 use Rattle.cr_lattice.proofs.KeepLaws.{keep_keep}
 use Rattle.cr_cells.specs.declared.store.CellsError.{CellsError}
-use Rattle.cr_cells.specs.Calls.{Reads}
-use Rattle.cr_cells.specs.Holding.{Holding, kept_of}
+use Rattle.cr_cells.specs.Calls.{IsRefusal, Reads}
+use Rattle.cr_cells.specs.Holding.{Holding, IsSound, changes_of, cells_of, kept_of}
+use Rattle.cr_cells.specs.Tables.{AreWellFormed}
 use Rattle.cr_replica.specs.declared.snapshot.Snapshot.{Snapshot}
-use Rattle.cr_replica.specs.Snapshots.{HasNamesOf, HasCellsOf, IsOfNames}
+use Rattle.cr_replica.specs.Snapshots.{HasNamesOf, HasCellsOf, IsOfNames, kept_of_keys}
 use Rattle.cr_snapshot.specs.Seen.{IsNamed, IsSeen, catalog_of}
+use Rattle.cr_taken.specs.Taken.{AreKept}
+use Rattle.cr_taken.proofs.Tables.{joined_kept, sound_kept}
+use Rattle.cr_touched.specs.Parts.{is_key_of, part}
+use Rattle.cr_touched.proofs.Parts.{keys_make_their_part, parts_are_joined}
+use Rattle.cr_touched.proofs.Twice.{map-filter}
 use Rattle.cr_world.specs.State.{State, now}
-use Rattle.cr_session.specs.Sessions.{Names, Sees, SessionOf, standing, state_of}
+use Rattle.cr_session.specs.Sessions.{Names, Sees, SeesKeys, SessionOf, standing, state_of}
 
 pub now_outside : (h : Holding) → now (state_of h None) ≡ kept_of h
 unfolding now
@@ -68,9 +78,9 @@ module _ (h h' : Holding) (names snap : Snapshot) (of : IsOfNames names snap) (r
     };
   }
 
--- no kept change is beaten by another
-pub kept_inside : (pending kept : List Change) (snap : Snapshot) → kept ≡ join snap.kept pending → keep kept ≡ kept
-kept_inside pending kept snap e = ap keep e ∙ keep_keep (snap.kept ++ pending) ∙ sym e
+-- no change that two sets keep together is beaten by another
+pub kept_joined : (xs ys kept : List Change) → kept ≡ join xs ys → keep kept ≡ kept
+kept_joined xs ys kept e = ap keep e ∙ keep_keep (xs ++ ys) ∙ sym e
 
 module _ {C : Type 0} (holding : C → Holding) (self : SessionOf C) (before after : C) (pending : Option (List Change)) (is : (before, pending) ≡ self) (names snap : Snapshot) (named : IsNamed (standing holding self) names)
     (of : IsOfNames names snap) (reads : Reads (holding before) (holding after) (Ok snap) (HasCellsOf (holding before))) where
@@ -92,3 +102,54 @@ module _ {C : Type 0} (holding : C → Holding) (self : SessionOf C) (before aft
 -- what was seen is seen where the session stands then
 pub seen_then : (st st' : State) (snap : Snapshot) → Sees st st' (Ok snap) → IsSeen st' snap
 seen_then st st' snap s = subst (λ (x : State). IsSeen x snap) (sym s.same) s.sees
+
+-- ---- what is seen of some keys of a table
+
+module _ (h : Holding) (sound : IsSound h) (table : List ℕ) (keys : List (List ℕ)) where
+  of_key : (pk : List ℕ) → changes_of (cells_of h.cells table pk) ≡ filter (is_of_row table pk) (kept_of h)
+  unfolding cells_of
+  of_key pk = map-filter (λ s. s.change) (is_of_row table pk) h.cells
+
+  -- what is read of the keys is their part of what is kept
+  part_read : kept_of_keys h table keys ≡ part table (is_key_of keys) (kept_of h)
+  part_read = (λ i. keep (flat_map (λ pk. of_key pk i) keys)) ∙ keys_make_their_part table keys (kept_of h) ∙ ap (part table (is_key_of keys)) sound.kept
+
+  keys_outside : kept_of_keys h table keys ≡ part table (is_key_of keys) (now (state_of h None))
+  keys_outside = part_read ∙ ap (part table (is_key_of keys)) (sym (now_outside h))
+
+  keys_inside : (more : List Change) → join (kept_of_keys h table keys) (part table (is_key_of keys) more) ≡ part table (is_key_of keys) (now (state_of h (Some more)))
+  keys_inside more =
+      ap (λ (k : List Change). join k (part table (is_key_of keys) more)) part_read
+      ∙ parts_are_joined table (is_key_of keys) (kept_of h) more
+      ∙ ap (part table (is_key_of keys)) (sym (now_inside h more))
+
+module _ {C T : Type 0} (changes : T → List Change) (holding : C → Holding) (self : SessionOf C) (before after : C) (pending : Option (List Change)) (is : (before, pending) ≡ self) (table : List ℕ) (keys : List (List ℕ)) where
+  abbrev Seen : Result T CellsError → Type 0
+  Seen result = SeesKeys changes (standing holding self) (standing holding (after, pending)) table keys result
+
+  abbrev Shown : Option (List Change) → T → Type 0
+  Shown p kept = changes kept ≡ part table (is_key_of keys) (now (state_of (holding before) p))
+
+  seen_as : (result : Result T CellsError) → holding after ≡ holding before → MatchResult result (Shown pending) IsRefusal → Seen result
+  seen_as result same sees =
+      subst (λ (s : SessionOf C). SeesKeys changes (standing holding s) (standing holding (after, pending)) table keys result) is
+      (record { same = ap (λ (x : Holding). state_of x pending) same; sees = sees })
+
+  pub keys_seen_outside : (kept : T) → IsSound (holding before) → Reads (holding before) (holding after) (Ok kept) (λ v. changes v ≡ kept_of_keys (holding before) table keys) → pending ≡ None → Seen (Ok kept)
+  keys_seen_outside kept sound reads e =
+      seen_as (Ok kept) reads.same (subst (λ (p : Option (List Change)). Shown p kept) (sym e) (reads.answers ∙ keys_outside (holding before) sound table keys))
+
+  pub keys_seen_inside : (read kept : T) (more : List Change) → IsSound (holding before) → Reads (holding before) (holding after) (Ok read) (λ v. changes v ≡ kept_of_keys (holding before) table keys) → pending ≡ Some more
+      → changes kept ≡ join (changes read) (part table (is_key_of keys) more) → Seen (Ok kept)
+  keys_seen_inside read kept more sound reads e j =
+      seen_as (Ok kept) reads.same (subst (λ (p : Option (List Change)). Shown p kept) (sym e)
+      (j ∙ ap (λ (k : List Change). join k (part table (is_key_of keys) more)) reads.answers ∙ keys_inside (holding before) sound table keys more))
+
+  pub keys_unseen : (e : CellsError) → holding after ≡ holding before → IsRefusal e → Seen (Err e)
+  keys_unseen e same refused = seen_as (Err e) same refused
+
+-- ---- what is seen is kept as a store keeps it
+
+pub now_kept : (h : Holding) (pending : Option (List Change)) → IsSound h → ForSome pending (AreWellFormed h.tables) → AreKept h.tables (now (state_of h pending))
+now_kept h None sound fit = subst (AreKept h.tables) (sym (now_outside h)) (sound_kept h sound)
+now_kept h (Some more) sound fit = subst (AreKept h.tables) (sym (now_inside h more)) (joined_kept h.tables (kept_of h) more (sound_kept h sound) (fit more refl))

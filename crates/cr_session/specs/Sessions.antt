@@ -13,6 +13,7 @@ use Rattle.cr_replica.specs.ChangeRow.{change_of}
 use Rattle.cr_replica.specs.declared.definition.DefineError.{DefineError}
 use Rattle.cr_replica.specs.declared.definition.DefineError.TheVariants as define
 use Rattle.cr_snapshot.specs.Seen.{IsNamed, IsSeen}
+use Rattle.cr_touched.specs.Parts.{is_key_of, part}
 use Rattle.cr_world.specs.declared.command.Command.{Command}
 use Rattle.cr_world.specs.declared.command.Command.TheVariants.{Open, Use, Define, Take, Rows, Changes, Pull, PullSince, Policy, Sql}
 use Rattle.cr_world.specs.declared.command.Declaration.TheVariants.{Real, Table as Declared}
@@ -24,7 +25,7 @@ use Rattle.cr_world.specs.declared.refusal.Refusal.TheVariants as refusal
 use Rattle.cr_world.specs.declared.refusal.OutOfProfile.TheVariants as out
 use Rattle.cr_world.specs.Refusals.{is_want}
 use Rattle.cr_world.specs.Language.{Language, Asked}
-use Rattle.cr_world.specs.State.{State}
+use Rattle.cr_world.specs.State.{State, now}
 use Rattle.cr_world.specs.Causes.{Free, Tells, IsWant}
 use Rattle.cr_world.specs.Statement.{Host}
 use Rattle.cr_world.specs.Scripts.{Runs, after_script, added_by_script}
@@ -75,6 +76,11 @@ pub record Names (old new : State) (result : Result Snapshot CellsError) : Type 
 pub record Sees (old new : State) (result : Result Snapshot CellsError) : Type 0 where
   pub same : new ≡ old
   pub sees : MatchResult result (IsSeen old) IsRefusal
+
+-- the same of what is seen there of some keys of a table
+pub record SeesKeys {T : Type 0} (changes : T → List Change) (old new : State) (table : List ℕ) (keys : List (List ℕ)) (result : Result T CellsError) : Type 0 where
+  pub same : new ≡ old
+  pub sees : MatchResult result (λ kept. changes kept ≡ part table (is_key_of keys) (now old)) IsRefusal
 
 -- ---- takings by a call
 

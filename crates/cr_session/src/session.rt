@@ -11,7 +11,8 @@ use cr_host::functions::Functions;
 use cr_lattice::change::{Change, Site};
 use cr_lattice::check::BadChange;
 use cr_lattice::merge::merge;
-use cr_lattice::table::{Items, TableDef};
+use cr_lattice::table::{Items, Table, TableDef};
+use cr_pending::pending::Pending;
 use cr_replica::change_row::ChangeRow;
 use cr_replica::definition::{DefineError, accept};
 use cr_replica::replica::Replica;
@@ -44,8 +45,8 @@ fn is_early(error: DefineError) -> bool
 #[derive(Drop)]
 pub struct Session<C: Drop> {
     pub(crate) replica: Replica<C>,
-    // In the order in which they were made; none outside of transactions.
-    pub(crate) pending: Option<Vec<Change>>,
+    // None outside of transactions.
+    pub(crate) pending: Option<Pending>,
 }
 
 impl<C: Drop> Model for Session<C> {
@@ -54,17 +55,18 @@ impl<C: Drop> Model for Session<C> {
 
     ghost Value = { SessionOf C };
 
-    ghost view = { λ s. (s.replica, option_map (λ v. v.items) s.pending) };
+    ghost view = { λ s. (s.replica, option_map (λ p. p.1) s.pending) };
 }
 
 impl<C: Cells> Session<C> {
-    ghost use Rattle.std.specs.Prelude.{◌≡◌, ◌≤ℤ◌, ℕ, Bool, List, None, pos, true, is_some, IfOk};
+    ghost use Rattle.std.specs.Prelude.{◌≡◌, ◌≤ℤ◌, ℕ, Bool, List, None, pos, true, is_some, IfOk, IsTrue};
     ghost use Rattle.std.specs.Option.{ForSome};
     ghost use Rattle.cr_cells.specs.Calls.{Reads, is_want, UnlessWant};
     ghost use Rattle.cr_cells.specs.Holding.{IsSound, since, changes_of};
     ghost use Rattle.cr_cells.specs.Marks.{seen_of};
+    ghost use Rattle.cr_cells.specs.Tables.{AreWellFormed};
     ghost use Rattle.cr_lattice.specs.Keep.{keep};
-    ghost use Rattle.cr_replica.specs.Snapshots.{IsOfNames, IsWhole, kept_of_keys};
+    ghost use Rattle.cr_replica.specs.Snapshots.{IsOfNames, IsWhole};
     ghost use Rattle.cr_snapshot.specs.Seen.{IsNamed};
     ghost use Rattle.cr_world.specs.declared.command.Command.TheVariants.{Define, Take, Rows, Changes, Sql};
     ghost use Rattle.cr_world.specs.declared.command.Declaration.TheVariants as declared;
@@ -74,7 +76,7 @@ impl<C: Cells> Session<C> {
     ghost use Rattle.cr_world.specs.Statement.{Host};
     ghost use Rattle.cr_meaning.specs.View.{Ordered};
     ghost use Rattle.cr_tree.specs.declared.statement.Statement.{Statement};
-    ghost use Rattle.cr_session.specs.Sessions.{Does, Names, TakesAll, TakesFrom, Sees, clean, honest, is_own, standing};
+    ghost use Rattle.cr_session.specs.Sessions.{Does, Names, TakesAll, TakesFrom, Sees, SeesKeys, clean, honest, is_own, standing};
 
     /// A session over the store, which may hold something already.
     pub fn new(cells: C) -> Session<C>
@@ -160,27 +162,45 @@ impl<C: Cells> Session<C> {
         let Some(pending) = &self.pending else {
             return Ok(snapshot);
         };
-        let kept = merge(alloc, snapshot.kept.as_slice(), pending)?;
+        let kept = merge(alloc, snapshot.kept.as_slice(), pending.changes())?;
         snapshot.kept = Items::new(kept);
         Ok(snapshot)
     }
 
-    // What the last commit keeps of some keys of a table. Reads the cells of these keys and no others.
-    pub(crate) fn kept_of_keys(
+    // Whether the changes of the open transaction are well formed for these tables; outside of transactions there are none.
+    pub(crate) fn is_of(&self, tables: &[Table]) -> bool
+        ensures { IsTrue result → ForSome self.now.1 (AreWellFormed tables.now) }
+    {
+        match &self.pending {
+            Some(pending) => pending.is_of(tables),
+            None => true,
+        }
+    }
+
+    // What a statement sees of some keys of a table: what the last commit keeps of them, and with it the changes of the open
+    // transaction. Reads the cells of these keys and no others.
+    pub(crate) fn see_keys(
         &mut self,
         alloc: Global,
         table: &str,
         keys: &[Bytes],
     ) -> Result<Vec<Change>, CellsError>
+        requires sound { C.is_clean self.old.0 → IsSound (C.holding self.old.0) }
         ensures was_honest { C.is_honest self.new.0 → C.is_honest self.old.0 }
         ensures was_clean { C.is_clean self.new.0 → C.is_clean self.old.0 }
         ensures stays_clean { C.is_honest self.new.0 → C.is_clean self.old.0 → UnlessWant is_want result (C.is_clean self.new.0) }
-        ensures reads { C.is_clean self.new.0 → Reads (C.holding self.old.0) (C.holding self.new.0) result
-            (λ kept. kept.items ≡ kept_of_keys (C.holding self.old.0) table.now keys.now) }
+        ensures sees { C.is_clean self.new.0 → SeesKeys (λ v. v.items) (standing C.holding self.old) (standing C.holding self.new) table.now keys.now result }
         ensures kept { IfOk result (λ kept. keep kept.items ≡ kept.items) }
-        ensures pending { self.new.1 ≡ self.old.1 }
     {
-        self.replica.kept_of_keys(alloc, table, keys)
+        let kept = match self.replica.kept_of_keys(alloc, table, keys) {
+            Ok(kept) => kept,
+            Err(error) => return Err(error),
+        };
+        let Some(pending) = &self.pending else {
+            return Ok(kept);
+        };
+        let more = pending.of_keys(alloc, table, keys)?;
+        Ok(merge(alloc, &kept, &more)?)
     }
 
     /// The version up to which the changes of a peer were taken, by the peer's site: 0 where it has no mark.

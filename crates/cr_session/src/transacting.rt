@@ -14,6 +14,7 @@ use cr_guard::guarding::Guarding;
 use cr_host::functions::Functions;
 use cr_lattice::change::Site;
 use cr_lattice::table::Items;
+use cr_pending::pending::Pending;
 use cr_replica::snapshot::Snapshot;
 use cr_tree::statement::Statement;
 use cr_value::value::Value;
@@ -73,7 +74,7 @@ impl<C: Cells> Session<C> {
         if self.in_transaction() {
             return Err(Refusal::TransactionState);
         }
-        self.pending = Some(Vec::new(alloc));
+        self.pending = Some(Pending::new(alloc));
         Ok(Reply::Done)
     }
 
@@ -82,14 +83,14 @@ impl<C: Cells> Session<C> {
         requires { G.is_faithful guard.now }
         ensures { (means : Means) (params : List Value) → Performed means params (⟦<G as Watching>⟧.host guard.now) (honest C.is_honest) (clean C.is_clean) (standing C.holding) self.old r.Commit result self.new }
     {
-        let Some(changes) = self.pending.take() else {
+        let Some(pending) = self.pending.take() else {
             return Err(Refusal::TransactionState);
         };
-        match self.commit_changes(alloc, guard, &changes) {
+        match self.commit_changes(alloc, guard, pending.changes()) {
             Ok(reply) => Ok(reply),
             Err(refusal) => {
                 if is_memory(&refusal) {
-                    self.pending = Some(changes);
+                    self.pending = Some(pending);
                 }
                 Err(refusal)
             }

@@ -1,5 +1,7 @@
 //! INSERT, UPDATE and DELETE: the changes that they make are taken as those of another replica are.
 
+ghost use Rattle.cr_world.specs.Causes.{IsWant};
+
 use crate::performing::{check_replicated, check_table};
 use crate::session::Session;
 use crate::speaking::Watching;
@@ -10,7 +12,8 @@ use cr_expr::given::Hosted;
 use cr_guard::guarding::Guarding;
 use cr_host::functions::Functions;
 use cr_lattice::change::Change;
-use cr_lattice::table::Row;
+use cr_lattice::table::{Row, Table};
+use cr_pending::pending::PendingError;
 use cr_received::receiving::changes_of_received;
 use cr_replica::snapshot::Snapshot;
 use cr_term::query::{Delete, Held, Insert, Update};
@@ -18,10 +21,21 @@ use cr_value::value::Value;
 use cr_wanted::insert::inserted_rows;
 use cr_world::command::Reply;
 use cr_world::refusal::Refusal;
-use std::alloc::{AllocError, Global};
+use std::alloc::Global;
+
+// Why changes are not added to those of the open transaction. They are well formed, and of its tables, unless the store is not as it
+// was a moment ago.
+fn of_pending(error: PendingError) -> Refusal
+    ensures { IsWant result }
+{
+    match error {
+        PendingError::Memory => Refusal::Memory,
+        PendingError::OtherTables | PendingError::Bad(_) => Refusal::Store(StoreFault::Refused),
+    }
+}
 
 impl<C: Cells> Session<C> {
-    ghost use Rattle.std.specs.Prelude.{◌≡◌, true, false, List, None};
+    ghost use Rattle.std.specs.Prelude.{◌≡◌, true, false, List};
     ghost use Rattle.cr_value.specs.declared.value.Value.{Value};
     ghost use Rattle.cr_cells.specs.Holding.{IsSound};
     ghost use Rattle.cr_scalar.specs.Host.{Host as Means};
@@ -58,67 +72,31 @@ impl<C: Cells> Session<C> {
         }
     }
 
-    // Commits the changes of a write, or keeps them with those of the open transaction, all or none.
+    // Commits the changes of a write, or keeps them with those of the open transaction, all or none. They are well formed for
+    // these tables, and the open transaction has none of other tables: else the store is not as it was a moment ago.
     fn add_changes<G: Guarding>(
         &mut self,
         alloc: Global,
         guard: &G,
+        tables: &[Table],
         changes: Vec<Change>,
     ) -> Result<Reply, Refusal>
         requires { G.is_faithful guard.now }
         ensures { Adds (⟦<G as Watching>⟧.host guard.now) (honest C.is_honest) (clean C.is_clean) (standing C.holding) self.old changes.items result self.new }
     {
-        let mut changes = changes;
         let Some(mut pending) = self.pending.take() else {
             return self.commit_changes(alloc, guard, &changes);
         };
-        let appended = pending.append(&mut changes);
+        let added = pending.add(alloc, tables, changes);
         self.pending = Some(pending);
-        match appended {
+        match added {
             Ok(()) => Ok(Reply::Done),
-            Err(AllocError) => Err(Refusal::Memory),
+            Err(error) => Err(of_pending(error)),
         }
     }
 
-    // Brings rows to a replicated table, inside a transaction: what stands against them is told by all rows that show there.
-    fn bring_among_all<G: Guarding>(
-        &mut self,
-        alloc: Global,
-        guard: &G,
-        names: Snapshot,
-        insert: &Insert,
-        rows: Vec<Row>,
-    ) -> Result<Reply, Refusal>
-        requires guard { G.is_faithful guard.now }
-        requires named { C.is_clean self.old.0 → IsNamed (standing C.holding self.old) names }
-        requires whole { IsWhole names }
-        requires suits { HasRelation (catalog_of names) insert.now.relation }
-        requires table { is_table insert.now.relation.held ≡ true }
-        requires replicated { not_replicated insert.now.relation ≡ Free }
-        requires used { insert.now.is_ignored ≡ false }
-        requires width { AreWide insert.now.relation.definition.columns rows.items }
-        ensures { (means : Means) (params : List Value) → IsBoth means params (insert_brings insert.now) rows.items
-            → Performed means params (⟦<G as Watching>⟧.host guard.now) (honest C.is_honest) (clean C.is_clean) (standing C.holding) self.old (r.Insert insert.now) result self.new }
-    {
-        let definition = &insert.relation.definition;
-        let snapshot = match self.see(alloc, names) {
-            Ok(snapshot) => snapshot,
-            Err(error) => return Err(Refusal::from(error)),
-        };
-        match changes_of_rows(
-            alloc,
-            &snapshot.site,
-            snapshot.kept.as_slice(),
-            definition,
-            rows,
-        ) {
-            Ok(changes) => self.add_changes(alloc, guard, changes),
-            Err(refusal) => Err(refusal),
-        }
-    }
-
-    // Brings rows to a replicated table, outside of transactions: what stands against them is told by the keys that they have.
-    fn bring_by_keys<G: Guarding>(
+    // Brings rows to a replicated table: what stands against them is told by what is kept of the keys that they have.
+    fn bring<G: Guarding>(
         &mut self,
         alloc: Global,
         guard: &G,
@@ -135,50 +113,25 @@ impl<C: Cells> Session<C> {
         requires replicated { not_replicated insert.now.relation ≡ Free }
         requires used { insert.now.is_ignored ≡ false }
         requires width { AreWide insert.now.relation.definition.columns rows.items }
-        requires outside { self.old.1 ≡ None }
         ensures { (means : Means) (params : List Value) → IsBoth means params (insert_brings insert.now) rows.items
             → Performed means params (⟦<G as Watching>⟧.host guard.now) (honest C.is_honest) (clean C.is_clean) (standing C.holding) self.old (r.Insert insert.now) result self.new }
     {
+        let tables = names.tables.as_slice();
+        if !self.is_of(tables) {
+            return Err(Refusal::Store(StoreFault::Refused));
+        }
         let definition = &insert.relation.definition;
         if let Err(refusal) = check_rows(definition, &rows) {
             return Err(refusal);
         }
         let keys = keys_of(alloc, definition, &rows)?;
-        let kept = match self.kept_of_keys(alloc, definition.name.as_str(), &keys) {
+        let kept = match self.see_keys(alloc, definition.name.as_str(), &keys) {
             Ok(kept) => kept,
             Err(error) => return Err(Refusal::from(error)),
         };
         match changes_of_rows(alloc, &names.site, &kept, definition, rows) {
-            Ok(changes) => self.add_changes(alloc, guard, changes),
+            Ok(changes) => self.add_changes(alloc, guard, tables, changes),
             Err(refusal) => Err(refusal),
-        }
-    }
-
-    // Brings rows to a replicated table.
-    fn bring<G: Guarding>(
-        &mut self,
-        alloc: Global,
-        guard: &G,
-        names: Snapshot,
-        insert: &Insert,
-        rows: Vec<Row>,
-    ) -> Result<Reply, Refusal>
-        requires guard { G.is_faithful guard.now }
-        requires sound { C.is_clean self.old.0 → IsSound (C.holding self.old.0) }
-        requires named { C.is_clean self.old.0 → IsNamed (standing C.holding self.old) names }
-        requires whole { IsWhole names }
-        requires suits { HasRelation (catalog_of names) insert.now.relation }
-        requires table { is_table insert.now.relation.held ≡ true }
-        requires replicated { not_replicated insert.now.relation ≡ Free }
-        requires used { insert.now.is_ignored ≡ false }
-        requires width { AreWide insert.now.relation.definition.columns rows.items }
-        ensures { (means : Means) (params : List Value) → IsBoth means params (insert_brings insert.now) rows.items
-            → Performed means params (⟦<G as Watching>⟧.host guard.now) (honest C.is_honest) (clean C.is_clean) (standing C.holding) self.old (r.Insert insert.now) result self.new }
-    {
-        if self.in_transaction() {
-            self.bring_among_all(alloc, guard, names, insert, rows)
-        } else {
-            self.bring_by_keys(alloc, guard, &names, insert, rows)
         }
     }
 
@@ -207,7 +160,7 @@ impl<C: Cells> Session<C> {
         }
         let columns = insert.relation.definition.columns.as_slice();
         match inserted_rows(alloc, columns, insert, functions, params) {
-            Ok(rows) => self.bring(alloc, guard, names, insert, rows),
+            Ok(rows) => self.bring(alloc, guard, &names, insert, rows),
             Err(fault) => Err(Refusal::from(fault)),
         }
     }
@@ -232,8 +185,9 @@ impl<C: Cells> Session<C> {
         if insert.is_ignored {
             return Ok(Reply::Done);
         }
-        match changes_of_received(alloc, functions, names.tables.as_slice(), insert, params) {
-            Ok(changes) => self.add_changes(alloc, guard, changes),
+        let tables = names.tables.as_slice();
+        match changes_of_received(alloc, functions, tables, insert, params) {
+            Ok(changes) => self.add_changes(alloc, guard, tables, changes),
             Err(refusal) => Err(refusal),
         }
     }
@@ -288,7 +242,7 @@ impl<C: Cells> Session<C> {
             Err(error) => return Err(Refusal::from(error)),
         };
         match changes_of_update(alloc, functions, &snapshot, update, params) {
-            Ok(changes) => self.add_changes(alloc, guard, changes),
+            Ok(changes) => self.add_changes(alloc, guard, snapshot.tables.as_slice(), changes),
             Err(refusal) => Err(refusal),
         }
     }
@@ -319,7 +273,7 @@ impl<C: Cells> Session<C> {
             Err(error) => return Err(Refusal::from(error)),
         };
         match changes_of_delete(alloc, functions, &snapshot, delete, params) {
-            Ok(changes) => self.add_changes(alloc, guard, changes),
+            Ok(changes) => self.add_changes(alloc, guard, snapshot.tables.as_slice(), changes),
             Err(refusal) => Err(refusal),
         }
     }

@@ -3,5 +3,5 @@ pub mod PrintLemmas
 pub mod LineLemmas
 pub mod TableLemmas
 pub mod TableReady
-pub mod RanLemmas
+pub mod RanLaws
 pub mod ServeLemmas

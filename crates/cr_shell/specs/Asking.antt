@@ -9,7 +9,7 @@ use Rattle.cr_language.specs.Texts.{tokens_of}
 use Rattle.cr_world.specs.declared.command.Command.{Command}
 use Rattle.cr_world.specs.declared.command.Command.TheVariants.{Sql}
 use Rattle.cr_shell.specs.declared.asking.Asked.{Asked}
-use Rattle.cr_shell.specs.declared.asking.Asked.TheVariants.{Nothing, Quit, NoCommand, TooLong, Asks}
+use Rattle.cr_shell.specs.declared.asking.Asked.TheVariants.{Nothing, Help, Quit, NoCommand, TooLong, Asks}
 use Rattle.cr_world.specs.Answers.{IsReady}
 use Rattle.cr_shell.specs.Lines.{command_of}
 
@@ -51,7 +51,7 @@ asked_by None = NoCommand
 asked_by (Some c) = Asks c
 
 unfoldable pub asks_command : List ℕ → Asked
-asks_command text = if bytes_eq text (codes ".quit") then Quit else asked_by (command_of text)
+asks_command text = if bytes_eq text (codes ".quit") then Quit else if bytes_eq text (codes ".help") then Help else asked_by (command_of text)
 
 -- ---- what is asked, and what is gathered then
 
@@ -81,6 +81,7 @@ asked_at_end gathered = if has_token gathered then (Asks (Sql gathered), []) els
 -- the names of a definition that is asked are in ASCII lower case
 abbrev pub AsksReady : Asked → Type 0
 AsksReady Nothing = Unit {0}
+AsksReady Help = Unit {0}
 AsksReady Quit = Unit {0}
 AsksReady NoCommand = Unit {0}
 AsksReady TooLong = Unit {0}

@@ -1,4 +1,5 @@
 pub mod Refusing
+pub mod Helping
 pub mod Printing
 pub mod Words
 pub mod TableLine

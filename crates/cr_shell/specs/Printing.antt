@@ -1,4 +1,4 @@
--- What a fleet's replies are printed as. Source: this project's own; rows and changes as SQL literals joined by bars, changes
+-- What answers are printed as. Source: this project's own; rows and changes as SQL literals joined by bars, changes
 -- in the columns of cr-sqlite's `crsql_changes`.
 use Rattle.std.specs.Prelude.{◌≡◌, ◌≢◌, Bool, true, false, ℕ, List, [], ◌∷◌, ◌++◌, Option}
 use Rattle.std.specs.List.{flat_map}
@@ -12,6 +12,9 @@ use Rattle.cr_world.specs.declared.command.FleetReply.TheVariants.{Script, Rows,
 use Rattle.cr_world.specs.declared.command.Reply.{Reply}
 use Rattle.cr_world.specs.declared.command.Reply.TheVariants as statement
 use Rattle.cr_world.specs.declared.refusal.Refusal.{Refusal}
+use Rattle.cr_shell.specs.declared.printing.Answer.{Answer}
+use Rattle.cr_shell.specs.declared.printing.Answer.TheVariants.{Reply as Replied, Help}
+use Rattle.cr_shell.specs.Helping.{help_text}
 use Rattle.cr_shell.specs.Refusing.{refusal_line, refusal_told}
 
 -- known bytes grow by a front of these, and not by all of them
@@ -66,6 +69,11 @@ printed (Changes changes) = flat_map change_line changes
 printed Done = []
 printed (Refused r) = refusal_line r
 
--- the replies one after another
-abbrev pub output_of : List FleetReply → List ℕ
-output_of replies = flat_map printed replies
+-- an answer: a reply, or what the commands are
+abbrev pub answer_printed : Answer → List ℕ
+answer_printed (Replied r) = printed r
+answer_printed Help = help_text
+
+-- the answers one after another
+abbrev pub output_of : List Answer → List ℕ
+output_of answers = flat_map answer_printed answers

@@ -1,32 +1,24 @@
--- What becomes of a fleet and its policy over commands. Source: this project's own.
+-- What becomes of what is served, and of its policy, over commands. Source: this project's own.
 use Rattle.std.specs.Prelude.{ℕ, Bool, List}
 use Rattle.cr_guard.specs.Policy.{Rules}
 use Rattle.cr_world.specs.declared.command.Command.{Command}
 use Rattle.cr_world.specs.declared.command.FleetReply.{FleetReply}
 use Rattle.cr_world.specs.Language.{Language}
-use Rattle.cr_world.specs.State.{State}
-use Rattle.cr_world.specs.World.{World, Closures}
-use Rattle.cr_world.specs.Answers.{AreAnswered}
-use Rattle.cr_world.specs.Run.{Run, world_after}
-use Rattle.cr_world.specs.Headline.{RowsConverge}
-use Rattle.cr_fleet.specs.Fleets.{FleetOf, AreClean, IsUnharmed, Shows}
+use Rattle.cr_world.specs.World.{Closures}
 
--- a fleet, and the policy that it is under
+-- what is served, and the policy that it is under
 abbrev pub Ruled : Type 0 → Type 0
-Ruled C = FleetOf C × Rules
+Ruled T = T × Rules
 
 -- the same, and what is gathered of SQL
 abbrev pub Standing : Type 0 → Type 0
-Standing C = FleetOf C × Rules × List ℕ
+Standing T = T × Rules × List ℕ
 
--- The commands ran as a run of the fleet with these replies, whatever its replicas ever held, and it converges. This holds
--- where each store is clean after it, as it is where each was clean before and no reply tells of want.
-pub record Ran {S E C : Type 0} (l : Language S E) (k : Closures) (is_clean : C → Type 0) (stands : C → State) (s0 s1 : Standing C) (cs : List Command) (rs : List FleetReply) : Type 0 where
-  pub was_clean : AreClean is_clean s1.0 → AreClean is_clean s0.0
-  pub stays_clean : AreClean is_clean s0.0 → AreAnswered rs → AreClean is_clean s1.0
-  pub ran : IsUnharmed is_clean s0.0 rs s1.0 → (w : World) → Shows stands w s0.1 s0.0 → Run l k w cs rs × Shows stands (world_after l k w cs rs) s1.1 s1.0
-  pub converges : IsUnharmed is_clean s0.0 rs s1.0 → (w : World) → Shows stands w s0.1 s0.0 → RowsConverge l k w cs rs
+abbrev pub ruled : {T : Type 0} → Standing T → Ruled T
+ruled s = (s.0, s.1)
 
--- the same in each language that the host's functions make, since it is open which of these are the names of functions
-abbrev pub RanAs : {S E C : Type 0} → ((List ℕ → Bool) → Type 0) → ((List ℕ → Bool) → Language S E) → Closures → (C → Type 0) → (C → State) → Standing C → Standing C → List Command → List FleetReply → Type 0
-RanAs are_names language k is_clean stands s0 s1 cs rs = (has : List ℕ → Bool) → are_names has → Ran (language has) k is_clean stands s0 s1 cs rs
+-- Commands ran with these replies in each language that the host's functions make, since it is open which of these are the
+-- names of functions.
+abbrev pub RanAs : {S E T : Type 0} → (Language S E → Closures → Ruled T → Ruled T → List Command → List FleetReply → Type 0) → ((List ℕ → Bool) → Type 0) → ((List ℕ → Bool) → Language S E) → Closures
+    → Ruled T → Ruled T → List Command → List FleetReply → Type 0
+RanAs ran are_names language k s0 s1 cs rs = (has : List ℕ → Bool) → are_names has → ran (language has) k s0 s1 cs rs

@@ -7,10 +7,7 @@ use Rattle.cr_world.specs.declared.command.FleetReply.{FleetReply}
 use Rattle.cr_world.specs.declared.command.FleetReply.TheVariants.{Done, Refused}
 use Rattle.cr_world.specs.declared.refusal.Refusal.TheVariants as refusal
 use Rattle.cr_world.specs.declared.refusal.Limit.TheVariants as limit
-use Rattle.cr_world.specs.Language.{Language}
-use Rattle.cr_world.specs.State.{State}
-use Rattle.cr_world.specs.World.{Closures}
-use Rattle.cr_shell.specs.Running.{Standing, Ruled, RanAs}
+use Rattle.cr_shell.specs.Running.{Standing, Ruled, ruled}
 use Rattle.cr_shell.specs.declared.serving.Line.{Line}
 use Rattle.cr_shell.specs.declared.serving.Next.{Next}
 use Rattle.cr_shell.specs.declared.serving.Next.TheVariants as next
@@ -18,9 +15,11 @@ use Rattle.cr_shell.specs.declared.serving.End.{End}
 use Rattle.cr_shell.specs.declared.serving.End.TheVariants as end
 use Rattle.cr_shell.specs.declared.serving.ServeFault.{ServeFault}
 use Rattle.cr_shell.specs.declared.serving.ServeFault.TheVariants as fault
+use Rattle.cr_shell.specs.declared.printing.Answer.{Answer}
+use Rattle.cr_shell.specs.declared.printing.Answer.TheVariants as answer
 use Rattle.cr_shell.specs.Printing.{Prints, output_of}
 use Rattle.cr_shell.specs.declared.asking.Asked.{Asked}
-use Rattle.cr_shell.specs.declared.asking.Asked.TheVariants.{Nothing, Quit, NoCommand, TooLong, Asks}
+use Rattle.cr_shell.specs.declared.asking.Asked.TheVariants.{Nothing, Help, Quit, NoCommand, TooLong, Asks}
 use Rattle.cr_shell.specs.Asking.{asked, asked_at_end}
 
 -- ---- lines
@@ -45,31 +44,33 @@ asks gathered AtEnd = asked_at_end gathered
 
 -- ---- turns
 
--- what was heard, the command that was run for it, if there was one, the reply, and what is gathered then
+-- what was heard, the command that was run for it, if there was one, the answer, and what is gathered then
 pub record Turn : Type 0 where
   pub entry : Entry
   pub command : Option Command
-  pub reply : FleetReply
+  pub answer : Answer
   pub gathered : List ℕ
 
--- the reply where no command is run
-abbrev pub own_reply : Asked → Option FleetReply
-own_reply Nothing = Some Done
-own_reply NoCommand = Some (Refused refusal.Command)
-own_reply TooLong = Some (Refused (refusal.Limit limit.Script))
-own_reply Quit = None
-own_reply (Asks c) = None
+-- the answer where no command is run
+abbrev pub own_answer : Asked → Option Answer
+own_answer Nothing = Some (answer.Reply Done)
+own_answer Help = Some answer.Help
+own_answer NoCommand = Some (answer.Reply (Refused refusal.Command))
+own_answer TooLong = Some (answer.Reply (Refused (refusal.Limit limit.Script)))
+own_answer Quit = None
+own_answer (Asks c) = None
 
--- The command is the one that is asked for. None is run where memory does not suffice to know what is asked: that is told,
--- and what is gathered is dropped.
-abbrev pub IsFor : Asked × List ℕ → Option Command → FleetReply → List ℕ → Type 0
-IsFor a None reply gathered = ((reply ≡ Refused refusal.Memory) × (gathered ≡ [])) ⊎ ((own_reply a.0 ≡ Some reply) × (gathered ≡ a.1))
-IsFor a (Some c) reply gathered = (a.0 ≡ Asks c) × (gathered ≡ a.1)
+-- The command is the one that is asked for, and has a reply. None is run where memory does not suffice to know what is asked:
+-- that is told, and what is gathered is dropped.
+abbrev pub IsFor : Asked × List ℕ → Option Command → Answer → List ℕ → Type 0
+IsFor a None x gathered = ((x ≡ answer.Reply (Refused refusal.Memory)) × (gathered ≡ [])) ⊎ ((own_answer a.0 ≡ Some x) × (gathered ≡ a.1))
+IsFor a (Some c) (answer.Reply r) gathered = (a.0 ≡ Asks c) × (gathered ≡ a.1)
+IsFor a (Some c) answer.Help gathered = ⊥
 
 -- one turn after another, where this is gathered before them and this after them
 abbrev pub AreTurns : List ℕ → List Turn → List ℕ → Type 0
 AreTurns before [] after = after ≡ before
-AreTurns before (t ∷ ts) after = IsFor (asks before t.entry) t.command t.reply t.gathered × AreTurns t.gathered ts after
+AreTurns before (t ∷ ts) after = IsFor (asks before t.entry) t.command t.answer t.gathered × AreTurns t.gathered ts after
 
 abbrev pub with_command : Option Command → List Command → List Command
 with_command None cs = cs
@@ -80,14 +81,15 @@ abbrev pub commands : List Turn → List Command
 commands [] = []
 commands (t ∷ ts) = with_command t.command (commands ts)
 
-abbrev pub with_reply : Option Command → FleetReply → List FleetReply → List FleetReply
-with_reply None r rs = rs
-with_reply (Some c) r rs = r ∷ rs
+abbrev pub with_reply : Option Command → Answer → List FleetReply → List FleetReply
+with_reply None x rs = rs
+with_reply (Some c) (answer.Reply r) rs = r ∷ rs
+with_reply (Some c) answer.Help rs = rs
 
 -- and their replies
 abbrev pub replies : List Turn → List FleetReply
 replies [] = []
-replies (t ∷ ts) = with_reply t.command t.reply (replies ts)
+replies (t ∷ ts) = with_reply t.command t.answer (replies ts)
 
 -- a line as far as it was read; it is lost where there was no memory for one of its bytes
 abbrev pub IsKept : Line → List ℕ → Type 0
@@ -140,77 +142,77 @@ Stops (Ok e) failed_last = Unit {0}
 Stops (Err fault.Read) failed_last = Unit {0}
 Stops (Err fault.Write) failed_last = failed_last
 
--- ---- what is heard, over a writer, a fleet, and what the host gives it
+-- ---- what is heard, by what runs the commands, over a writer
 
 -- what is heard ends the run
-abbrev pub Quits : {C : Type 0} → Standing C → Standing C → Entry → Type 0
+abbrev pub Quits : {T : Type 0} → Standing T → Standing T → Entry → Type 0
 Quits s0 s1 entry = ((asks s0.2 entry).0 ≡ Quit) × (s1.0 ≡ s0.0) × (s1.1 ≡ s0.1)
 
-module _ {S E C : Type 0} (are_names : (List ℕ → Bool) → Type 0) (language : (List ℕ → Bool) → Language S E) (k : Closures) (is_clean : C → Type 0) (stands : C → State) where
+module _ {T : Type 0} (runs : Ruled T → Ruled T → List Command → List FleetReply → Type 0) where
   -- it was answered, or ends the run
-  abbrev pub Replies : Standing C → Entry → Option FleetReply → Standing C → Type 0
+  abbrev pub Replies : Standing T → Entry → Option Answer → Standing T → Type 0
   Replies s0 entry None s1 = Quits s0 s1 entry
-  Replies s0 entry (Some reply) s1 = (command : Option Command) × IsFor (asks s0.2 entry) command reply s1.2 × RanAs are_names language k is_clean stands s0 s1 (with_command command []) (with_reply command reply [])
+  Replies s0 entry (Some x) s1 = (command : Option Command) × IsFor (asks s0.2 entry) command x s1.2 × runs (ruled s0) (ruled s1) (with_command command []) (with_reply command x [])
 
-module _ {S E W C : Type 0} (contents : W → Option (List ℕ)) (are_names : (List ℕ → Bool) → Type 0) (language : (List ℕ → Bool) → Language S E) (k : Closures) (is_clean : C → Type 0) (stands : C → State) where
+module _ {T W : Type 0} (contents : W → Option (List ℕ)) (runs : Ruled T → Ruled T → List Command → List FleetReply → Type 0) where
   -- Lines were heard, and maybe the end: each has its turn, the commands ran with these replies, and what is written is what
-  -- they are printed as.
-  pub record Heard (w0 w1 : W × Bool) (s0 s1 : Standing C) (entries : List Entry) : Type 0 where
+  -- the answers are printed as.
+  pub record Heard (w0 w1 : W × Bool) (s0 s1 : Standing T) (entries : List Entry) : Type 0 where
     pub turns : List Turn
     pub entries_are : map (λ t. t.entry) turns ≡ entries
     pub are_for : AreTurns s0.2 turns s1.2
-    pub ran : RanAs are_names language k is_clean stands s0 s1 (commands turns) (replies turns)
-    pub written : Prints contents w0 w1 (output_of (map (λ t. t.reply) turns))
+    pub ran : runs (ruled s0) (ruled s1) (commands turns) (replies turns)
+    pub written : Prints contents w0 w1 (output_of (map (λ t. t.answer) turns))
 
   -- it was heard, or ends the run
-  abbrev pub Hears : W × Bool → W × Bool → Standing C → Standing C → Entry → Bool → Type 0
+  abbrev pub Hears : W × Bool → W × Bool → Standing T → Standing T → Entry → Bool → Type 0
   Hears w0 w1 s0 s1 entry true = Heard w0 w1 s0 s1 (entry ∷ [])
   Hears w0 w1 s0 s1 entry false = Quits s0 s1 entry × (w1 ≡ w0)
 
   -- A line was heard, at which the writer may have failed, or ends the run.
-  abbrev pub HearsLine : W × Bool → W × Bool → Standing C → Standing C → List ℕ → Next → Type 0
+  abbrev pub HearsLine : W × Bool → W × Bool → Standing T → Standing T → List ℕ → Next → Type 0
   HearsLine w0 w1 s0 s1 line next.Goes = Heard w0 w1 s0 s1 (AtLine line ∷ []) × (w1.1 ≡ false)
   HearsLine w0 w1 s0 s1 line next.Fails = Heard w0 w1 s0 s1 (AtLine line ∷ []) × (w1.1 ≡ true)
   HearsLine w0 w1 s0 s1 line next.Quits = Quits s0 s1 (AtLine line) × (w1 ≡ w0)
 
   -- the same of the unfinished line at the end of the input, unless it is empty
-  abbrev pub HearsUnfinished : W × Bool → W × Bool → Standing C → Standing C → List ℕ → Next → Type 0
+  abbrev pub HearsUnfinished : W × Bool → W × Bool → Standing T → Standing T → List ℕ → Next → Type 0
   HearsUnfinished w0 w1 s0 s1 line next.Goes = Heard w0 w1 s0 s1 (map AtLine (last_line line)) × (w1.1 ≡ false)
   HearsUnfinished w0 w1 s0 s1 line next.Fails = (line ≢ []) × HearsLine w0 w1 s0 s1 line next.Fails
   HearsUnfinished w0 w1 s0 s1 line next.Quits = (line ≢ []) × HearsLine w0 w1 s0 s1 line next.Quits
 
   -- A byte was taken: it belongs to the line; or, a line feed, it ends the line.
-  abbrev pub Takes : W × Bool → W × Bool → Standing C → Standing C → Line → Line → ℕ → Next → Type 0
+  abbrev pub Takes : W × Bool → W × Bool → Standing T → Standing T → Line → Line → ℕ → Next → Type 0
   Takes w0 w1 s0 s1 old new byte result =
       ((result ≡ next.Goes) × (byte ≢ 10) × (w1 ≡ w0) × (s1 ≡ s0) × IsPushed old new byte)
       ⊎ ((byte ≡ 10) × IsNewLine new × ((b : List ℕ) → IsKept old b → HearsLine w0 w1 s0 s1 b result))
 
   -- the last that was heard is what the writer failed at
-  pub record FailedLast (w0 w1 : W × Bool) (s0 s1 : Standing C) (entries : List Entry) : Type 0 where
+  pub record FailedLast (w0 w1 : W × Bool) (s0 s1 : Standing T) (entries : List Entry) : Type 0 where
     pub before : List Entry
     pub last : Entry
     pub entries_are : entries ≡ before ++ last ∷ []
     pub writer : W × Bool
-    pub standing : Standing C
+    pub standing : Standing T
     pub heard_before : Heard w0 writer s0 standing before
     pub had_not_failed : writer.1 ≡ false
     pub heard_last : Heard writer w1 standing s1 (last ∷ [])
 
   -- What was heard at the end, and that the writer failed there: at the unfinished line, or at what was gathered.
-  abbrev pub FailsAtEnd : W × Bool → W × Bool → Standing C → Standing C → List ℕ → Type 0
+  abbrev pub FailsAtEnd : W × Bool → W × Bool → Standing T → Standing T → List ℕ → Type 0
   FailsAtEnd w0 w1 s0 s1 line =
       ((line ≢ []) × Heard w0 w1 s0 s1 (AtLine line ∷ []))
-      ⊎ ((writer : W × Bool) × (standing : Standing C) × Heard w0 writer s0 standing (map AtLine (last_line line)) × (writer.1 ≡ false) × Heard writer w1 standing s1 (AtEnd ∷ []))
+      ⊎ ((writer : W × Bool) × (standing : Standing T) × Heard w0 writer s0 standing (map AtLine (last_line line)) × (writer.1 ≡ false) × Heard writer w1 standing s1 (AtEnd ∷ []))
 
   -- How a run ends with the unfinished line, which is heard unless it is empty; then the end is heard.
-  abbrev pub Ends : W × Bool → W × Bool → Standing C → Standing C → List ℕ → Result End ServeFault → Type 0
+  abbrev pub Ends : W × Bool → W × Bool → Standing T → Standing T → List ℕ → Result End ServeFault → Type 0
   Ends w0 w1 s0 s1 line (Ok end.Quit) = (line ≢ []) × Quits s0 s1 (AtLine line) × (w1 ≡ w0)
   Ends w0 w1 s0 s1 line (Ok end.Input) = Heard w0 w1 s0 s1 (map AtLine (last_line line) ++ AtEnd ∷ []) × (w1.1 ≡ false)
   Ends w0 w1 s0 s1 line (Err fault.Read) = ⊥
   Ends w0 w1 s0 s1 line (Err fault.Write) = FailsAtEnd w0 w1 s0 s1 line × (w1.1 ≡ true)
 
   -- nothing is gathered before
-  pub record Serves {R : Type 0} (remaining : R → Option (List ℕ)) (result : Result End ServeFault) (r0 r1 : R × Bool) (w0 w1 : W × Bool) (f0 f1 : Ruled C) : Type 0 where
+  pub record Serves {R : Type 0} (remaining : R → Option (List ℕ)) (result : Result End ServeFault) (r0 r1 : R × Bool) (w0 w1 : W × Bool) (f0 f1 : Ruled T) : Type 0 where
     pub input : List ℕ
     pub lines : List (List ℕ)
     pub entries : List Entry

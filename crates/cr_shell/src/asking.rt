@@ -21,6 +21,8 @@ use std::mem;
 pub enum Asked {
     /// Nothing yet: SQL that no `;` has ended, or none.
     Nothing,
+    /// What the commands are.
+    Help,
     /// The end of the run.
     Quit,
     /// It is no command, or isn't UTF-8.
@@ -84,6 +86,9 @@ fn ask_command(alloc: Global, text: &str) -> Result<Asked, AllocError>
     if text == ".quit" {
         return Ok(Asked::Quit);
     }
+    if text == ".help" {
+        return Ok(Asked::Help);
+    }
     match command_of(alloc, text)? {
         Some(command) => Ok(Asked::Asks(command)),
         None => Ok(Asked::NoCommand),
@@ -131,7 +136,11 @@ impl Gathered {
         Text::new(mem::replace(&mut self.text, String::new(alloc)))
     }
 
-    fn has_token(&self, alloc: Global) -> Result<bool, AllocError>
+    /// Whether what is gathered has a token.
+    ///
+    /// # Errors
+    /// Where there is no memory for its tokens.
+    pub fn has_token(&self, alloc: Global) -> Result<bool, AllocError>
         ensures { IfOk result (λ b. b ≡ has_token self.now) }
     {
         let found = tokens_of(alloc, self.text.as_str())?;

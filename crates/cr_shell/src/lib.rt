@@ -2,6 +2,7 @@
 #![tactic(auto)]
 
 pub mod asking;
+mod helping;
 pub mod line;
 mod literals;
 pub mod printing;

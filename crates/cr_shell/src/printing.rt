@@ -4,8 +4,9 @@ ghost use Rattle.std.specs.Prelude.{◌∷◌, [], List};
 ghost use Rattle.std.specs.List.{flat_map};
 ghost use Rattle.cr_value.specs.declared.value.Value.TheVariants.{Int, Text, Blob};
 ghost use Rattle.cr_value.specs.Literal.{blob_literal, text_literal, literal};
-ghost use Rattle.cr_shell.specs.Printing.{Prints, behind_bars, row_line, change_line, reply_lines, script_lines, printed};
+ghost use Rattle.cr_shell.specs.Printing.{Prints, behind_bars, row_line, change_line, reply_lines, script_lines, printed, answer_printed};
 
+use crate::helping::print_help;
 use crate::literals::{print_blob, print_text, print_value};
 use crate::refusing::print_refusal;
 use crate::watched::Watched;
@@ -15,6 +16,15 @@ use cr_lattice::table::Row;
 use cr_value::value::Value;
 use cr_world::command::{FleetReply, Reply, Script};
 use std::io::Write;
+
+/// What is answered to a line, or to the end of the input.
+#[derive(Debug, Drop)]
+pub enum Answer {
+    /// What was replied to a command, or why there is none.
+    Reply(FleetReply),
+    /// What the commands are.
+    Help,
+}
 
 fn print_behind_bar<W: Write>(writer: &mut Watched<W>, value: &Value)
     ensures { Prints W.contents writer.old writer.new (124 ∷ literal value.now) }
@@ -147,5 +157,15 @@ pub fn print_reply<W: Write>(writer: &mut Watched<W>, reply: &FleetReply)
         FleetReply::Changes(changes) => print_changes(writer, changes.as_slice()),
         FleetReply::Done => {}
         FleetReply::Refused(refusal) => print_refusal(writer, refusal),
+    }
+}
+
+/// Prints an answer: a reply as `print_reply` does, or a line for each command.
+pub fn print_answer<W: Write>(writer: &mut Watched<W>, answer: &Answer)
+    ensures { Prints W.contents writer.old writer.new (answer_printed answer.now) }
+{
+    match answer {
+        Answer::Reply(reply) => print_reply(writer, reply),
+        Answer::Help => print_help(writer),
     }
 }

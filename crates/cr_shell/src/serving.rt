@@ -1,17 +1,16 @@
 //! Lines from a reader, replies to a writer.
 
 ghost use Rattle.std.specs.Prelude.{◌≡◌, ℕ, List, [], true, false, IfOk};
-ghost use Rattle.cr_session.specs.Sessions.{clean, standing};
 ghost use Rattle.cr_shell.specs.Asking.{asked, AsksReady};
+ghost use Rattle.cr_shell.specs.Running.{RanAs};
 ghost use Rattle.cr_shell.specs.Serving.{Entry, asks, IsKept, IsNewLine, IsPushed, IsEmpty, Replies, Hears, HearsLine, HearsUnfinished, Takes, Ends, Serves};
 
 use crate::asking::{Asked, Gathered};
-use crate::printing::print_reply;
+use crate::printing::{Answer, print_answer};
 use crate::watched::{Failed, Watched};
-use cr_cells::store::NewCells;
-use cr_fleet::fleet::Fleet;
 use cr_guard::guarding::Guarding;
 use cr_host::functions::Functions;
+use cr_served::served::Served;
 use cr_session::speaking::{Speaking, Watching};
 use cr_world::command::FleetReply;
 use cr_world::refusal::{Limit, Refusal};
@@ -121,41 +120,47 @@ impl Input {
     }
 }
 
-// The reply to what is asked, `None` where it ends the run; where memory did not suffice, what is gathered is dropped.
-fn answer<C: NewCells, F: Functions, G: Guarding>(
+// The answer to what is asked, `None` where it ends the run; where memory did not suffice, what is gathered is dropped.
+fn answer<T: Served, F: Functions, G: Guarding>(
     alloc: Global,
-    fleet: &mut Fleet<C>,
+    served: &mut T,
     functions: &F,
     guard: &mut G,
     gathered: &mut Gathered,
     request: Result<Asked, AllocError>,
-) -> Option<FleetReply>
+) -> Option<Answer>
     requires functions { F.is_faithful functions.now }
     requires guard { G.is_faithful guard.old }
     requires ready { IfOk request AsksReady }
     ensures replies { (entry : Entry) (before : List ℕ) → IfOk request (λ it. (it, gathered.old) ≡ asks before entry)
-        → Replies (⟦<F as Speaking>⟧.are_names functions.now) (⟦<F as Speaking>⟧.language functions.now) (⟦<G as Watching>⟧.closures guard.old) (clean C.is_clean) (standing C.holding) (fleet.old, G.rules guard.old, before) entry result (fleet.new, G.rules guard.new, gathered.new) }
+        → Replies (RanAs T.ran (⟦<F as Speaking>⟧.are_names functions.now) (⟦<F as Speaking>⟧.language functions.now) (⟦<G as Watching>⟧.closures guard.old)) (served.old, G.rules guard.old, before) entry result (served.new, G.rules guard.new, gathered.new) }
     ensures closures { ⟦<G as Watching>⟧.closures guard.new ≡ ⟦<G as Watching>⟧.closures guard.old }
     ensures faithful { G.is_faithful guard.new }
 {
     match request {
-        Ok(Asked::Nothing) => Some(FleetReply::Done),
+        Ok(Asked::Nothing) => Some(Answer::Reply(FleetReply::Done)),
+        Ok(Asked::Help) => Some(Answer::Help),
         Ok(Asked::Quit) => None,
-        Ok(Asked::NoCommand) => Some(FleetReply::Refused(Refusal::Command)),
-        Ok(Asked::TooLong) => Some(FleetReply::Refused(Refusal::Limit(Limit::Script))),
-        Ok(Asked::Asks(command)) => Some(fleet.step(alloc, functions, guard, &command)),
+        Ok(Asked::NoCommand) => Some(Answer::Reply(FleetReply::Refused(Refusal::Command))),
+        Ok(Asked::TooLong) => {
+            Some(Answer::Reply(FleetReply::Refused(Refusal::Limit(Limit::Script))))
+        }
+        Ok(Asked::Asks(command)) => {
+            let reply = served.carry_out(alloc, functions, guard, &command);
+            Some(Answer::Reply(reply))
+        }
         Err(AllocError) => {
             gathered.clear();
-            Some(FleetReply::Refused(Refusal::Memory))
+            Some(Answer::Reply(FleetReply::Refused(Refusal::Memory)))
         }
     }
 }
 
 // Answers what is asked; false where it ends the run.
-fn hear<W: Write, C: NewCells, F: Functions, G: Guarding>(
+fn hear<W: Write, T: Served, F: Functions, G: Guarding>(
     alloc: Global,
     writer: &mut Watched<W>,
-    fleet: &mut Fleet<C>,
+    served: &mut T,
     functions: &F,
     guard: &mut G,
     gathered: &mut Gathered,
@@ -165,13 +170,13 @@ fn hear<W: Write, C: NewCells, F: Functions, G: Guarding>(
     requires guard { G.is_faithful guard.old }
     requires ready { IfOk request AsksReady }
     ensures hears { (entry : Entry) (before : List ℕ) → IfOk request (λ it. (it, gathered.old) ≡ asks before entry)
-        → Hears W.contents (⟦<F as Speaking>⟧.are_names functions.now) (⟦<F as Speaking>⟧.language functions.now) (⟦<G as Watching>⟧.closures guard.old) (clean C.is_clean) (standing C.holding) writer.old writer.new (fleet.old, G.rules guard.old, before) (fleet.new, G.rules guard.new, gathered.new) entry result }
+        → Hears W.contents (RanAs T.ran (⟦<F as Speaking>⟧.are_names functions.now) (⟦<F as Speaking>⟧.language functions.now) (⟦<G as Watching>⟧.closures guard.old)) writer.old writer.new (served.old, G.rules guard.old, before) (served.new, G.rules guard.new, gathered.new) entry result }
     ensures closures { ⟦<G as Watching>⟧.closures guard.new ≡ ⟦<G as Watching>⟧.closures guard.old }
     ensures faithful { G.is_faithful guard.new }
 {
-    match answer(alloc, fleet, functions, guard, gathered, request) {
-        Some(reply) => {
-            print_reply(writer, &reply);
+    match answer(alloc, served, functions, guard, gathered, request) {
+        Some(answered) => {
+            print_answer(writer, &answered);
             true
         }
         None => false,
@@ -179,10 +184,10 @@ fn hear<W: Write, C: NewCells, F: Functions, G: Guarding>(
 }
 
 // Answers the line.
-fn hear_line<W: Write, C: NewCells, F: Functions, G: Guarding>(
+fn hear_line<W: Write, T: Served, F: Functions, G: Guarding>(
     alloc: Global,
     writer: &mut Watched<W>,
-    fleet: &mut Fleet<C>,
+    served: &mut T,
     functions: &F,
     guard: &mut G,
     input: &mut Input,
@@ -190,7 +195,7 @@ fn hear_line<W: Write, C: NewCells, F: Functions, G: Guarding>(
     requires functions { F.is_faithful functions.now }
     requires guard { G.is_faithful guard.old }
     ensures hears { (bytes : List ℕ) → IsKept input.old.line bytes
-        → HearsLine W.contents (⟦<F as Speaking>⟧.are_names functions.now) (⟦<F as Speaking>⟧.language functions.now) (⟦<G as Watching>⟧.closures guard.old) (clean C.is_clean) (standing C.holding) writer.old writer.new (fleet.old, G.rules guard.old, input.old.gathered) (fleet.new, G.rules guard.new, input.new.gathered) bytes result }
+        → HearsLine W.contents (RanAs T.ran (⟦<F as Speaking>⟧.are_names functions.now) (⟦<F as Speaking>⟧.language functions.now) (⟦<G as Watching>⟧.closures guard.old)) writer.old writer.new (served.old, G.rules guard.old, input.old.gathered) (served.new, G.rules guard.new, input.new.gathered) bytes result }
     ensures line { IsNewLine input.new.line }
     ensures closures { ⟦<G as Watching>⟧.closures guard.new ≡ ⟦<G as Watching>⟧.closures guard.old }
     ensures faithful { G.is_faithful guard.new }
@@ -199,7 +204,7 @@ fn hear_line<W: Write, C: NewCells, F: Functions, G: Guarding>(
     if !hear(
         alloc,
         writer,
-        fleet,
+        served,
         functions,
         guard,
         &mut input.gathered,
@@ -214,10 +219,10 @@ fn hear_line<W: Write, C: NewCells, F: Functions, G: Guarding>(
 }
 
 // Takes a byte, and at a line feed the line that it ends.
-fn take_byte<W: Write, C: NewCells, F: Functions, G: Guarding>(
+fn take_byte<W: Write, T: Served, F: Functions, G: Guarding>(
     alloc: Global,
     writer: &mut Watched<W>,
-    fleet: &mut Fleet<C>,
+    served: &mut T,
     functions: &F,
     guard: &mut G,
     input: &mut Input,
@@ -225,7 +230,7 @@ fn take_byte<W: Write, C: NewCells, F: Functions, G: Guarding>(
 ) -> Next
     requires functions { F.is_faithful functions.now }
     requires guard { G.is_faithful guard.old }
-    ensures takes { Takes W.contents (⟦<F as Speaking>⟧.are_names functions.now) (⟦<F as Speaking>⟧.language functions.now) (⟦<G as Watching>⟧.closures guard.old) (clean C.is_clean) (standing C.holding) writer.old writer.new (fleet.old, G.rules guard.old, input.old.gathered) (fleet.new, G.rules guard.new, input.new.gathered) input.old.line input.new.line byte result }
+    ensures takes { Takes W.contents (RanAs T.ran (⟦<F as Speaking>⟧.are_names functions.now) (⟦<F as Speaking>⟧.language functions.now) (⟦<G as Watching>⟧.closures guard.old)) writer.old writer.new (served.old, G.rules guard.old, input.old.gathered) (served.new, G.rules guard.new, input.new.gathered) input.old.line input.new.line byte result }
     ensures closures { ⟦<G as Watching>⟧.closures guard.new ≡ ⟦<G as Watching>⟧.closures guard.old }
     ensures faithful { G.is_faithful guard.new }
 {
@@ -233,14 +238,14 @@ fn take_byte<W: Write, C: NewCells, F: Functions, G: Guarding>(
         input.line.push(byte);
         return Next::Goes;
     }
-    hear_line(alloc, writer, fleet, functions, guard, input)
+    hear_line(alloc, writer, served, functions, guard, input)
 }
 
 // Answers what stands behind the last line feed, if anything does.
-fn hear_unfinished<W: Write, C: NewCells, F: Functions, G: Guarding>(
+fn hear_unfinished<W: Write, T: Served, F: Functions, G: Guarding>(
     alloc: Global,
     writer: &mut Watched<W>,
-    fleet: &mut Fleet<C>,
+    served: &mut T,
     functions: &F,
     guard: &mut G,
     input: &mut Input,
@@ -249,21 +254,21 @@ fn hear_unfinished<W: Write, C: NewCells, F: Functions, G: Guarding>(
     requires guard { G.is_faithful guard.old }
     requires writer { writer.old.1 ≡ false }
     ensures hears { (bytes : List ℕ) → IsKept input.old.line bytes
-        → HearsUnfinished W.contents (⟦<F as Speaking>⟧.are_names functions.now) (⟦<F as Speaking>⟧.language functions.now) (⟦<G as Watching>⟧.closures guard.old) (clean C.is_clean) (standing C.holding) writer.old writer.new (fleet.old, G.rules guard.old, input.old.gathered) (fleet.new, G.rules guard.new, input.new.gathered) bytes result }
+        → HearsUnfinished W.contents (RanAs T.ran (⟦<F as Speaking>⟧.are_names functions.now) (⟦<F as Speaking>⟧.language functions.now) (⟦<G as Watching>⟧.closures guard.old)) writer.old writer.new (served.old, G.rules guard.old, input.old.gathered) (served.new, G.rules guard.new, input.new.gathered) bytes result }
     ensures closures { ⟦<G as Watching>⟧.closures guard.new ≡ ⟦<G as Watching>⟧.closures guard.old }
     ensures faithful { G.is_faithful guard.new }
 {
     if input.line.is_empty() {
         return Next::Goes;
     }
-    hear_line(alloc, writer, fleet, functions, guard, input)
+    hear_line(alloc, writer, served, functions, guard, input)
 }
 
 // Answers what stands behind the last line feed, and the end of the input.
-fn hear_last<W: Write, C: NewCells, F: Functions, G: Guarding>(
+fn hear_last<W: Write, T: Served, F: Functions, G: Guarding>(
     alloc: Global,
     writer: &mut Watched<W>,
-    fleet: &mut Fleet<C>,
+    served: &mut T,
     functions: &F,
     guard: &mut G,
     input: &mut Input,
@@ -272,11 +277,11 @@ fn hear_last<W: Write, C: NewCells, F: Functions, G: Guarding>(
     requires guard { G.is_faithful guard.old }
     requires writer { writer.old.1 ≡ false }
     ensures ends { (bytes : List ℕ) → IsKept input.old.line bytes
-        → Ends W.contents (⟦<F as Speaking>⟧.are_names functions.now) (⟦<F as Speaking>⟧.language functions.now) (⟦<G as Watching>⟧.closures guard.old) (clean C.is_clean) (standing C.holding) writer.old writer.new (fleet.old, G.rules guard.old, input.old.gathered) (fleet.new, G.rules guard.new, input.new.gathered) bytes result }
+        → Ends W.contents (RanAs T.ran (⟦<F as Speaking>⟧.are_names functions.now) (⟦<F as Speaking>⟧.language functions.now) (⟦<G as Watching>⟧.closures guard.old)) writer.old writer.new (served.old, G.rules guard.old, input.old.gathered) (served.new, G.rules guard.new, input.new.gathered) bytes result }
     ensures closures { ⟦<G as Watching>⟧.closures guard.new ≡ ⟦<G as Watching>⟧.closures guard.old }
     ensures faithful { G.is_faithful guard.new }
 {
-    match hear_unfinished(alloc, writer, fleet, functions, guard, input) {
+    match hear_unfinished(alloc, writer, served, functions, guard, input) {
         Next::Goes => {}
         Next::Quits => return Ok(End::Quit),
         Next::Fails => return Err(ServeFault::Write),
@@ -285,7 +290,7 @@ fn hear_last<W: Write, C: NewCells, F: Functions, G: Guarding>(
     hear(
         alloc,
         writer,
-        fleet,
+        served,
         functions,
         guard,
         &mut input.gathered,
@@ -297,7 +302,8 @@ fn hear_last<W: Write, C: NewCells, F: Functions, G: Guarding>(
     Ok(End::Input)
 }
 
-/// Runs the commands and the SQL of the lines that it reads, up to `.quit` or the end, and prints the replies. A line that
+/// Runs the commands and the SQL of the lines that it reads, up to `.quit` or the end, and prints the replies: over a fleet of
+/// replicas, or over a session, which is one replica alone and refuses the commands that want others with `NoReplica`. A line that
 /// begins with `.` is a command; the others are SQL, which is run once a line's `;` is its last token, or the input ends. The
 /// host gives functions and collations, and an authorizer, a policy and a commit hook.
 ///
@@ -305,11 +311,11 @@ fn hear_last<W: Write, C: NewCells, F: Functions, G: Guarding>(
 /// `Read` where the reader failed or the input reached 16,000,000 bytes; an unfinished line isn't run then, nor SQL that no
 /// `;` has ended. `Write` where the writer failed: then a front of the replies was written, not all of them, and nothing was
 /// heard after the line, or the end of the input, that they failed at.
-pub fn serve<R: Read, W: Write, C: NewCells, F: Functions, G: Guarding>(
+pub fn serve<R: Read, W: Write, T: Served, F: Functions, G: Guarding>(
     alloc: Global,
     reader: &mut Watched<R>,
     writer: &mut Watched<W>,
-    fleet: &mut Fleet<C>,
+    served: &mut T,
     functions: &F,
     guard: &mut G,
 ) -> Result<End, ServeFault>
@@ -317,7 +323,7 @@ pub fn serve<R: Read, W: Write, C: NewCells, F: Functions, G: Guarding>(
     requires writer { writer.old.1 ≡ false }
     requires functions { F.is_faithful functions.now }
     requires guard { G.is_faithful guard.old }
-    ensures serves { Serves W.contents (⟦<F as Speaking>⟧.are_names functions.now) (⟦<F as Speaking>⟧.language functions.now) (⟦<G as Watching>⟧.closures guard.old) (clean C.is_clean) (standing C.holding) R.remaining result reader.old reader.new writer.old writer.new (fleet.old, G.rules guard.old) (fleet.new, G.rules guard.new) }
+    ensures serves { Serves W.contents (RanAs T.ran (⟦<F as Speaking>⟧.are_names functions.now) (⟦<F as Speaking>⟧.language functions.now) (⟦<G as Watching>⟧.closures guard.old)) R.remaining result reader.old reader.new writer.old writer.new (served.old, G.rules guard.old) (served.new, G.rules guard.new) }
     ensures closures { ⟦<G as Watching>⟧.closures guard.new ≡ ⟦<G as Watching>⟧.closures guard.old }
     ensures faithful { G.is_faithful guard.new }
 {
@@ -325,10 +331,10 @@ pub fn serve<R: Read, W: Write, C: NewCells, F: Functions, G: Guarding>(
     for _ in 0..INPUT_LIMIT {
         let byte = match reader.read_byte() {
             Ok(Some(byte)) => byte,
-            Ok(None) => return hear_last(alloc, writer, fleet, functions, guard, &mut input),
+            Ok(None) => return hear_last(alloc, writer, served, functions, guard, &mut input),
             Err(Failed) => return Err(ServeFault::Read),
         };
-        match take_byte(alloc, writer, fleet, functions, guard, &mut input, byte) {
+        match take_byte(alloc, writer, served, functions, guard, &mut input, byte) {
             Next::Goes => {}
             Next::Quits => return Ok(End::Quit),
             Next::Fails => return Err(ServeFault::Write),

@@ -99,6 +99,14 @@ fn has_nothing(schema: &Schema) -> bool
         && schema.views.as_slice().is_empty()
 }
 
+/// Whether the database of a connection has a table of the name of one of a store's: then a store may be there, and none can
+/// be made.
+pub fn has_tables<S: Alter>(conn: &Connection<S>) -> bool
+    ensures { result ≡ has_store (state S.Store conn.now).now.schema }
+{
+    has_ours(conn.schema())
+}
+
 impl<S: Alter> Store<S> {
     ghost use Rattle.cr_store.specs.Kept.{IsClean, holding_of};
 

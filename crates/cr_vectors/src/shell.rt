@@ -10,7 +10,8 @@ use std::alloc::{AllocError, Global};
 use std::io::{self, Read, Write};
 use std::test::Fail;
 
-/// A value that comes before its row's own change, the row, the value again; then a second replica that pulls.
+/// A value that comes before its row's own change, the row, the value again; then a second replica that pulls, updates, and
+/// shows its changes.
 const TAKEN_AND_PULLED: &str = "\
 .open A 0a0a0a0a0a0a0a0a0a0a0a0a0a0a0a0a
 .table p *id:INT name:TEXT='none' n:INT=7
@@ -22,9 +23,19 @@ const TAKEN_AND_PULLED: &str = "\
 .table p *id:INT name:TEXT='none' n:INT=7
 .pull A
 .rows p
+UPDATE p SET name = 'y', n = n + 1 WHERE id = 1;
+SELECT cid, val, col_version FROM crsql_changes; SELECT count(*), max(n) FROM p;
 ";
 
-const ROWS: &str = "1|'x'|7\n1|'x'|7\n1|'x'|7\n";
+const ROWS: &str = "\
+1|'x'|7
+1|'x'|7
+1|'x'|7
+'-1'|NULL|3
+'n'|8|1
+'name'|'y'|2
+1|8
+";
 
 fn run<R: Read + Drop, W: Write + Drop>(
     alloc: Global,

@@ -1,6 +1,7 @@
 //! Whole inputs of the shell with known output. A line `shell NAME` begins a case: the lines up to one that is `end` are
 //! served over a new fleet in memory, and what that prints is printed, and how it ended. Of a line `shell-cut NAME` the
-//! last line of the input has no line feed. Lines that begin with `#` and empty lines are printed as they are.
+//! last line of the input has no line feed. A line `alone NAME` has its input served over one replica that stands alone, of
+//! the site X'0A..0A'. Lines that begin with `#` and empty lines are printed as they are.
 #![tactic(auto)]
 
 mod serving;
@@ -21,11 +22,15 @@ fn block<'a>(rest: &mut &'a str) -> &'a str {
 
 fn print_case<W: Write>(alloc: Global, line: &str, block: &str, out: &mut W) -> io::Result<()> {
     let mut input = String::from_str(alloc, block)?;
-    if !block.is_empty() && line.starts_with("shell ") {
+    if !block.is_empty() && !line.starts_with("shell-cut ") {
         input.push_str("\n")?;
     }
     writeln!(out, "{line}")?;
-    serving::print_served(alloc, input.as_bytes(), out)
+    if line.starts_with("alone ") {
+        serving::print_alone(alloc, input.as_bytes(), out)
+    } else {
+        serving::print_fleet(alloc, input.as_bytes(), out)
+    }
 }
 
 // Prints what begins with a line: a case, or a line that is printed as it is. The text is what follows the line; it

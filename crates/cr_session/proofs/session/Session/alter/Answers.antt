@@ -19,7 +19,7 @@ add_column-requires g c =
 
 pub returns : goal.returns
 returns g c = λ means params host.
-    let pending : Option (List Change) = option_map (λ v. v.items) c.self.inside.pending in
+    let pending : Option (List Change) = option_map (λ p. p.1) c.self.inside.pending in
     let none : is_some pending ≡ false = ap (λ (s : SessionOf g.row.C.Denot). is_some s.1) c.self.view_is ∙ sym c.in_transaction.ensures ∙ c.if-in_transaction.false in
     elim c.match-add_column.branch [
       | in-Ok w ↦ rw w.result-is (rw (← c.self.view_is) (outside means params host g.C.Cells.is_honest g.C.Cells.is_clean g.C.Cells.holding c.self.inside.replica c.add_column.new.self (r.Alter c.args.alter.now) _ pending none

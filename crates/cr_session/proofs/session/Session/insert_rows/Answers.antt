@@ -11,7 +11,7 @@ bring-requires-clause-width g c =
 pub returns-in-Ok : goal.returns-in-Ok
 returns-in-Ok g c = c.bring.ensures _ c.args.params.now (rw c.as_slice-columns.ensures at c.in-Ok.ensures)
 
-pub returns-in-Err : goal.returns-in-Err
-returns-in-Err g c =
+pub returns : goal.returns
+returns g c =
     insert_faults _ c.args.params.now _ g.C.Cells.is_honest g.C.Cells.is_clean g.C.Cells.holding c.args.self.now c.args.names c.requires.named c.args.insert.now c.requires.suits c.requires.table c.in_ok-check_replicated.ensures c.if-insert.false
     c.in-Err.fault c.from.result c.from.ensures (rw c.as_slice-columns.ensures at c.in-Err.ensures)

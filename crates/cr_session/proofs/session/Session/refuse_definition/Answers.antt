@@ -8,7 +8,7 @@ use Rattle.cr_session.proofs.session.Session.refuse_definition.Goals as goal
 
 pub returns-in-Ok-accept : goal.returns-in-Ok-accept
 returns-in-Ok-accept g c = λ has host.
-    let pending : Option (List Change) = option_map (λ v. v.items) c.self.inside.pending in
+    let pending : Option (List Change) = option_map (λ p. p.1) c.self.inside.pending in
     let some : is_some pending ≡ true = ap (λ (s : SessionOf g.row.C.Denot). is_some s.1) c.self.view_is ∙ c.requires in
     let known = collations_are (g.F.Functions.function_of c.args.functions.now) (g.F.Functions.scalar c.args.functions.now) (g.F.Functions.step c.args.functions.now) (g.F.Functions.finish c.args.functions.now)
     (g.F.Functions.order_of c.args.functions.now) (g.F.Functions.orders_total c.args.functions.now) has in
@@ -19,7 +19,7 @@ returns-in-Ok-accept g c = λ has host.
 
 pub returns : goal.returns
 returns g c = λ has host.
-    let pending : Option (List Change) = option_map (λ v. v.items) c.self.inside.pending in
+    let pending : Option (List Change) = option_map (λ p. p.1) c.self.inside.pending in
     let some : is_some pending ≡ true = ap (λ (s : SessionOf g.row.C.Denot). is_some s.1) c.self.view_is ∙ c.requires in
     let known = collations_are (g.F.Functions.function_of c.args.functions.now) (g.F.Functions.scalar c.args.functions.now) (g.F.Functions.step c.args.functions.now) (g.F.Functions.finish c.args.functions.now)
     (g.F.Functions.order_of c.args.functions.now) (g.F.Functions.orders_total c.args.functions.now) has in
@@ -30,7 +30,7 @@ returns g c = λ has host.
 
 pub returns-then-is_early : goal.returns-then-is_early
 returns-then-is_early g c = λ has host.
-    let pending : Option (List Change) = option_map (λ v. v.items) c.self.inside.pending in
+    let pending : Option (List Change) = option_map (λ p. p.1) c.self.inside.pending in
     let some : is_some pending ≡ true = ap (λ (s : SessionOf g.row.C.Denot). is_some s.1) c.self.view_is ∙ c.requires in
     let known = collations_are (g.F.Functions.function_of c.args.functions.now) (g.F.Functions.scalar c.args.functions.now) (g.F.Functions.step c.args.functions.now) (g.F.Functions.finish c.args.functions.now)
     (g.F.Functions.order_of c.args.functions.now) (g.F.Functions.orders_total c.args.functions.now) has in

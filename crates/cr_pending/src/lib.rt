@@ -1,0 +1,7 @@
+//! The changes of an open transaction, and the tables that they are of.
+#![tactic(auto)]
+
+pub mod pending;
+mod same;
+mod touched;
+mod under;

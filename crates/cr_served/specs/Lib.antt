@@ -1,0 +1,4 @@
+pub mod Running
+pub mod RunningLaws
+pub mod Alone
+pub mod AloneLaws

@@ -1,0 +1,48 @@
+//! Commands to one replica that has no others beside it.
+
+ghost use Rattle.std.specs.Prelude.{◌≡◌, ◌∷◌, [], ℕ, Bool, List};
+ghost use Rattle.cr_session.specs.Sessions.{clean, honest, standing};
+ghost use Rattle.cr_world.specs.Answers.{IsReady};
+ghost use Rattle.cr_served.specs.Alone.{RanAlone};
+
+use cr_cells::store::Cells;
+use cr_guard::guarding::Guarding;
+use cr_host::functions::Functions;
+use cr_session::session::Session;
+use cr_session::speaking::{Speaking, Watching};
+use cr_world::command::{Command, FleetReply};
+use cr_world::refusal::Refusal;
+use std::alloc::{AllocError, Global};
+
+// Carries out a command; one that opens, chooses or pulls from another replica is refused with `NoReplica`.
+pub(crate) fn step_alone<C: Cells, F: Functions, G: Guarding>(
+    alloc: Global,
+    session: &mut Session<C>,
+    functions: &F,
+    guard: &mut G,
+    command: &Command,
+) -> FleetReply
+    requires functions { F.is_faithful functions.now }
+    requires guard { G.is_faithful guard.old }
+    requires ready { IsReady command.now }
+    ensures ran { (has : List ℕ → Bool) → ⟦<F as Speaking>⟧.are_names functions.now has
+        → RanAlone (⟦<F as Speaking>⟧.language functions.now has) (⟦<G as Watching>⟧.closures guard.old) (honest C.is_honest) (clean C.is_clean) (standing C.holding) (session.old, G.rules guard.old) (session.new, G.rules guard.new) (command.now ∷ []) (result ∷ []) }
+    ensures closures { ⟦<G as Watching>⟧.closures guard.new ≡ ⟦<G as Watching>⟧.closures guard.old }
+    ensures faithful { G.is_faithful guard.new }
+{
+    match command {
+        Command::Open(_, _) => FleetReply::Refused(Refusal::NoReplica),
+        Command::Use(_) => FleetReply::Refused(Refusal::NoReplica),
+        Command::Pull(_) => FleetReply::Refused(Refusal::NoReplica),
+        Command::PullSince(_) => FleetReply::Refused(Refusal::NoReplica),
+        Command::Policy(rule) => match guard.policy(alloc, rule) {
+            Ok(()) => FleetReply::Done,
+            Err(AllocError) => FleetReply::Refused(Refusal::Memory),
+        },
+        Command::Define(_) => session.step(alloc, functions, guard, command),
+        Command::Take(_) => session.step(alloc, functions, guard, command),
+        Command::Rows(_) => session.step(alloc, functions, guard, command),
+        Command::Changes(_) => session.step(alloc, functions, guard, command),
+        Command::Sql(_) => session.step(alloc, functions, guard, command),
+    }
+}

@@ -1,0 +1,5 @@
+//! What carries out commands: a fleet of replicas, or one replica alone.
+#![tactic(auto)]
+
+mod alone;
+pub mod served;
