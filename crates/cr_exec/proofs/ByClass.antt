@@ -9,6 +9,7 @@ use Rattle.cr_scalar.specs.Host.{Host}
 use Rattle.cr_term.specs.declared.expr.Expr.{Expr}
 use Rattle.cr_term.specs.declared.query.GroupTerm.{GroupTerm}
 use Rattle.cr_bags.specs.Bags.{gather, each, single, sort, firsts}
+use Rattle.cr_bags.proofs.SortLaws.{sort_same}
 use Rattle.cr_scalar.specs.declared.fault.EvalFault.{EvalFault}
 use Rattle.cr_query.specs.Queries.{Shown}
 use Rattle.cr_query.specs.Query.{Row, Group, Meaning, row_cmp, by_exprs, group_at, groups_of, keyed}
@@ -18,11 +19,11 @@ use Rattle.cr_meaning.specs.Meaning.{meaning}
 use Rattle.cr_exec.specs.Answers.{Stage, Faults, IsBoth, Answers}
 use Rattle.cr_exec.specs.declared.group.Keyed.{Keyed}
 use Rattle.cr_exec.specs.Comparisons.{ValueOrder, by_orders, group_order}
-use Rattle.cr_exec.specs.Groups.{group_expr, judged_by, keyed_by, key_of, pair_of, group_of}
+use Rattle.cr_exec.specs.Groups.{group_expr, judged_by, keyed_by, key_of, pair_of, group_of, IsByClass}
 use Rattle.cr_exec.specs.Scopes.{there}
 use Rattle.cr_exec.specs.Shows.{ties_by}
 use Rattle.cr_exec.proofs.Stages.{faults_on, both_on, faults_after, both_after}
-use Rattle.cr_exec.proofs.Orders.{groups_compare}
+use Rattle.cr_exec.proofs.Orders.{groups_compare, row_total, row_exact}
 
 module _ (host : Host) (params : List Value) where
   pub keyed_both : (exprs : List (Bor Expr)) (d c : Row) (k : Row) → d ≡ c → IsBoth host params (λ m. each (λ e. m.value e d) (map there exprs)) k → IsBoth host params (λ m. keyed_by m exprs c) (k, c)
@@ -72,11 +73,14 @@ module _ (host : Host) (params : List Value) where
           faults_on host params (λ m. each (keyed_by m exprs) cs) (grouped_by gs having results keys cs) e
           (λ most n. ap (λ o. option_and_then (gather (judges (meaning most host params) having results keys)) (option_map (groups_of (meaning most host params) (map group_term gs)) o)) (keyed_same most ∙ n)) h
 
-      module _ (Rs : List ValueOrder) (orders : Rs ≡ map (group_order host.order) gs) (keyed : List Keyed) (classes : List Row) (classed : classes ≡ firsts (ties_by Rs) (sort row_cmp (map key_of keyed))) where
+      module _ (Rs : List ValueOrder) (orders : Rs ≡ map (group_order host.order) gs) (keyed grouped : List Keyed) (by : IsByClass Rs keyed grouped) (classes : List Row) (classed : classes ≡ firsts (ties_by Rs) (sort row_cmp (map key_of grouped))) where
         order_is : (most : Option ℕ) → by_exprs (meaning most host params) (map group_term gs) ≡ by_orders Rs
         order_is most = groups_compare most host params gs ∙ ap by_orders (sym orders)
 
-        under_is : (most : Option ℕ) → each (keyed_by (meaning most host params) exprs) cs ≡ Some (map pair_of keyed) → gather (λ k. judges (meaning most host params) having results keys (group_of Rs (map pair_of keyed) k)) classes ≡ grouped_by gs having results keys cs (meaning most host params)
+        classes_are : firsts (ties_by Rs) (sort row_cmp (map key_of keyed)) ≡ classes
+        classes_are = ap (firsts (ties_by Rs)) (sym (sort_same row_cmp row_total row_exact by.keys)) ∙ sym classed
+
+        under_is : (most : Option ℕ) → each (keyed_by (meaning most host params) exprs) cs ≡ Some (map pair_of keyed) → gather (λ k. judges (meaning most host params) having results keys (group_of Rs (map pair_of grouped) k)) classes ≡ grouped_by gs having results keys cs (meaning most host params)
         under_is most h =
             let m = meaning most host params in
             let pairs = map pair_of keyed in
@@ -84,9 +88,9 @@ module _ (host : Host) (params : List Value) where
             ap (λ o. option_and_then (gather (judges m having results keys)) (option_map (groups_of m (map group_term gs)) o)) (keyed_same most ∙ h)
             ∙ gather-map (group_at m (map group_term gs) pairs) (judges m having results keys) (firsts (λ a b. is_eq (by_exprs m (map group_term gs) a b)) (sort row_cmp (map (λ p. p.0) pairs)))
             ∙ (λ i. gather (λ k. judges m having results keys (record { shown = k; members = map (λ p. p.1) (filter (λ p. is_eq (order_is most i k p.0)) pairs) })) (firsts (λ a b. is_eq (order_is most i a b)) (sort row_cmp (keys_through keyed i))))
-            ∙ ap (gather (λ k. judges m having results keys (group_of Rs pairs k))) (sym classed))
+            ∙ (λ i. gather (λ k. judges m having results keys (record { shown = k; members = sym (by.members k) i })) (classes_are i)))
 
         pub under_answers : {X : Type 0} (view : X → List Shown) → IsBoth host params (λ m. each (keyed_by m exprs) cs) (map pair_of keyed) → (r : Result X EvalFault)
-            → Answers host params r view (λ m. gather (λ k. judges m having results keys (group_of Rs (map pair_of keyed) k)) classes) → Answers host params r view (grouped_by gs having results keys cs)
+            → Answers host params r view (λ m. gather (λ k. judges m having results keys (group_of Rs (map pair_of grouped) k)) classes) → Answers host params r view (grouped_by gs having results keys cs)
         under_answers view b r h =
-            answers_after (λ m. each (keyed_by m exprs) cs) (map pair_of keyed) (λ m. gather (λ k. judges m having results keys (group_of Rs (map pair_of keyed) k)) classes) (grouped_by gs having results keys cs) view under_is b r h
+            answers_after (λ m. each (keyed_by m exprs) cs) (map pair_of keyed) (λ m. gather (λ k. judges m having results keys (group_of Rs (map pair_of grouped) k)) classes) (grouped_by gs having results keys cs) view under_is b r h

@@ -4,6 +4,8 @@ pub mod Evaluated
 pub mod Tested
 pub mod Tails
 pub mod Sorted
+pub mod Runs
 pub mod Orders
+pub mod Keys
 pub mod ByClass
 pub mod Selected

@@ -12,7 +12,7 @@ use Rattle.cr_term.specs.declared.query.ResultColumn.{ResultColumn}
 use Rattle.cr_term.specs.declared.query.GroupTerm.{GroupTerm}
 use Rattle.cr_scalar.specs.Host.{Host}
 use Rattle.cr_scalar.specs.Compare.{value_cmp_by}
-use Rattle.cr_bags.specs.Bags.{sort, firsts}
+use Rattle.cr_bags.specs.Bags.{SameBag, sort, firsts}
 use Rattle.cr_query.specs.Queries.{Shown as Asked}
 use Rattle.cr_query.specs.Query.{Row, Meaning, head_or_null, rest_of, directed, by_terms, by_exprs, row_cmp, spelled_cmp, shown_row, shown_keys, distinct, limited, finished}
 use Rattle.cr_meaning.specs.View.{Ordered, query, order_term, result_term, group_term}
@@ -20,7 +20,8 @@ use Rattle.cr_meaning.specs.Meaning.{meaning}
 use Rattle.cr_exec.specs.declared.show.Shown.{Shown}
 use Rattle.cr_exec.specs.Comparisons.{ValueOrder, by_orders, term_order, result_order, group_order}
 use Rattle.cr_exec.specs.Shows.{shown_of, row_of, shown_ties, keyed_cmp}
-use Rattle.cr_exec.proofs.Sorted.{sort-map, firsts-map}
+use Rattle.cr_exec.proofs.Sorted.{sort-map}
+use Rattle.cr_exec.proofs.Runs.{firsts_sorted}
 
 -- ---- the orders that a query names
 
@@ -48,15 +49,21 @@ row_exact = slice_cmp-IsAntisymmetric value_exact
 then_equal : (o p : Ordering) → ordering_then o p ≡ Equal → (o ≡ Equal) × (p ≡ Equal)
 then_equal o p e = elim o as (λ o. ordering_then o p ≡ Equal → (o ≡ Equal) × (p ≡ Equal)) [ Less ↦ λ e. absurd cc | Equal ↦ λ e. (refl, e) | Greater ↦ λ e. absurd cc ] e
 
-pub spelled_total : IsTotalOrder (on shown_of spelled_cmp)
-spelled_total = on_total shown_of (then_total (on_total shown_row row_total) (on_total shown_keys row_total))
+asked_total : IsTotalOrder spelled_cmp
+asked_total = then_total (on_total shown_row row_total) (on_total shown_keys row_total)
 
-pub spelled_exact : (a b : Shown) → spelled_cmp (shown_of a) (shown_of b) ≡ Equal → shown_of a ≡ shown_of b
-spelled_exact a b e =
+asked_exact : IsAntisymmetric spelled_cmp
+asked_exact a b e =
     let h = then_equal _ _ e in
     let p = row_exact a.row b.row h.0 in
     let q = row_exact a.keys b.keys h.1 in
     λ i. record { row = p i; keys = q i }
+
+pub spelled_total : IsTotalOrder (on shown_of spelled_cmp)
+spelled_total = on_total shown_of asked_total
+
+pub spelled_exact : (a b : Shown) → spelled_cmp (shown_of a) (shown_of b) ≡ Equal → shown_of a ≡ shown_of b
+spelled_exact a b = asked_exact (shown_of a) (shown_of b)
 
 pub keyed_total : (Rs : List ValueOrder) → IsTotalOrder (by_orders Rs) → IsTotalOrder (on shown_of (keyed_cmp Rs))
 keyed_total Rs o = on_total shown_of (then_total (on_total shown_keys o) (on_total shown_row row_total))
@@ -70,13 +77,12 @@ pub of_ok : {X E : Type 0} (P Q : X → Type 0) (r : Result X E) → ((x : X) �
 of_ok P Q (Ok x) h p = h x p
 of_ok P Q (Err e) h p = p
 
--- from the loop's result to that of the definition
-pub distinct_is : (most : Option ℕ) (host : Host) (params : List Value) (cs : List ResultColumn) (Rs : List ValueOrder) (shown sorted kept : List Shown)
-    → Rs ≡ map (result_order host.order) cs → map shown_of sorted ≡ sort spelled_cmp (map shown_of shown) → kept ≡ firsts (λ a b. shown_ties Rs (shown_of a) (shown_of b)) sorted
-    → map shown_of kept ≡ distinct (meaning most host params) (map result_term cs) (map shown_of shown)
-distinct_is most host params cs Rs shown sorted kept same spelled is =
-    ap (map shown_of) is ∙ firsts-map (shown_ties Rs) shown_of sorted
-    ∙ ap (firsts (shown_ties Rs)) spelled
+-- from the firsts, sorted again, to the definition
+pub distinct_is : (most : Option ℕ) (host : Host) (params : List Value) (cs : List ResultColumn) (Rs : List ValueOrder) (shown sorted kept again : List Shown)
+    → Rs ≡ map (result_order host.order) cs → map shown_of sorted ≡ sort spelled_cmp (map shown_of shown) → SameBag kept (firsts (λ a b. shown_ties Rs (shown_of a) (shown_of b)) sorted)
+    → map shown_of again ≡ sort spelled_cmp (map shown_of kept) → map shown_of again ≡ distinct (meaning most host params) (map result_term cs) (map shown_of shown)
+distinct_is most host params cs Rs shown sorted kept again same spelled found is =
+    firsts_sorted spelled_cmp asked_total asked_exact (shown_ties Rs) shown_of shown sorted kept again spelled found is
     ∙ ap (λ (R : Row → Row → Ordering). firsts (λ (a b : Asked). is_eq (R a.row b.row)) (sort spelled_cmp (map shown_of shown))) (ap by_orders same ∙ sym (results_compare most host params cs))
 
 -- ---- ORDER BY

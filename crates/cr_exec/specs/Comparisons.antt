@@ -1,7 +1,6 @@
 -- Rows compared value by value, each place by an order of its own. Source: this project's own.
-use Rattle.std.specs.Prelude.{ℕ, Bool, false, not, List, [], ◌∷◌}
+use Rattle.std.specs.Prelude.{ℕ, false, List, [], ◌∷◌}
 use Rattle.std.specs.declared.cmp.Ordering.{Ordering}
-use Rattle.std.specs.List.{list_any}
 use Rattle.std.specs.Ordering.{then_cmp, on}
 use Rattle.cr_value.specs.declared.value.Value.{Value}
 use Rattle.cr_host.specs.Registry.{found_order}
@@ -34,7 +33,3 @@ result_order orders c = directed false (value_cmp_by (orders c.collation))
 
 abbrev pub group_order : Orders → GroupTerm → ValueOrder
 group_order orders g = directed false (value_cmp_by (orders g.collation))
-
--- no member of what is kept ties with it
-abbrev pub is_new : {X : Type 0} → (X → X → Bool) → List X → X → Bool
-is_new ties kept y = not (list_any (λ k. ties k y) kept)

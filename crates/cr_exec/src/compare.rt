@@ -10,6 +10,7 @@ ghost use Rattle.cr_exec.specs.Comparisons.{by_orders, held_order, term_order, r
 use crate::value::value_at;
 use cr_host::function::FoundCollation;
 use cr_host::functions::Functions;
+use cr_lattice::table::Row;
 use cr_scalar::compare::{collation_named, compare_values};
 use cr_term::query::{GroupTerm, OrderTerm, ResultColumn};
 use cr_value::text::Text;
@@ -69,6 +70,19 @@ pub fn compare_rows<F: Functions>(
         }
     }
     Ordering::Equal
+}
+
+// The order of two rows by their classes.
+pub(crate) fn compare_classes<F: Functions>(
+    functions: &F,
+    senses: &[Sense],
+    a: &Row,
+    b: &Row,
+) -> Ordering
+    requires { F.is_faithful functions.now }
+    ensures { result ≡ by_orders (map (held_order (F.order_at functions.now)) senses.now) a.now b.now }
+{
+    compare_rows(functions, senses, a.as_slice(), b.as_slice())
 }
 
 // A collation by its name, upwards or downwards.

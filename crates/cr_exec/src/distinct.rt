@@ -1,16 +1,15 @@
 //! Of each class of rows the least.
 
 ghost use Rattle.std.specs.Prelude.{◌≡◌, map, ℕ, Option, List, IfOk};
-ghost use Rattle.cr_bags.specs.Bags.{sort, firsts};
+ghost use Rattle.cr_bags.specs.Bags.{SameBag, sort, firsts};
 ghost use Rattle.cr_value.specs.declared.value.Value.{Value as Content};
 ghost use Rattle.cr_query.specs.Query.{row_cmp, spelled_cmp, distinct};
 ghost use Rattle.cr_meaning.specs.View.{result_term};
 ghost use Rattle.cr_meaning.specs.Meaning.{meaning};
 ghost use Rattle.cr_exec.specs.Comparisons.{held_order};
 ghost use Rattle.cr_exec.specs.Shows.{shown_of, shown_ties, ties_by};
-ghost use Rattle.cr_exec.specs.Comparisons.{is_new};
 
-use crate::compare::{Sense, compare_rows, senses_of_results};
+use crate::compare::{Sense, compare_classes, senses_of_results};
 use crate::show::Shown;
 use cr_expr::given::Hosted;
 use cr_host::functions::Functions;
@@ -34,36 +33,19 @@ fn spelled(mut shown: Vec<Shown>) -> Result<Vec<Shown>, AllocError>
     Ok(shown)
 }
 
-// Whether no row that is kept is of the same class.
-fn is_new<F: Functions>(functions: &F, senses: &[Sense], kept: &[Shown], one: &Shown) -> bool
-    requires { F.is_faithful functions.now }
-    ensures { result ≡ is_new (λ a b. shown_ties (map (held_order (F.order_at functions.now)) senses.now) (shown_of a) (shown_of b)) kept.now one.now }
-{
-    for row in kept {
-        if compare_rows(functions, senses, row.row.as_slice(), one.row.as_slice()).is_eq() {
-            return false;
-        }
-    }
-    true
-}
-
-// The first of each class.
+// The first of each class, class by class.
 fn firsts<F: Functions>(
-    alloc: Global,
     functions: &F,
     senses: &[Sense],
-    shown: Vec<Shown>,
+    mut shown: Vec<Shown>,
 ) -> Result<Vec<Shown>, AllocError>
     requires { F.is_faithful functions.now }
-    ensures { IfOk result (λ v. v.items ≡ firsts (λ a b. shown_ties (map (held_order (F.order_at functions.now)) senses.now) (shown_of a) (shown_of b)) shown.items) }
+    ensures { IfOk result (λ v. SameBag v.items (firsts (λ a b. shown_ties (map (held_order (F.order_at functions.now)) senses.now) (shown_of a) (shown_of b)) shown.items)) }
 {
-    let mut kept: Vec<Shown> = Vec::new(alloc);
-    for one in shown {
-        if is_new(functions, senses, kept.as_slice(), &one) {
-            kept.push(one)?;
-        }
-    }
-    Ok(kept)
+    // The sort is stable: a class keeps its order.
+    shown.sort_by(|a, b| compare_classes(functions, senses, &a.row, &b.row))?;
+    shown.dedup_by(|one, kept| compare_classes(functions, senses, &one.row, &kept.row).is_eq());
+    Ok(shown)
 }
 
 /// Of each class of rows, under the collations of the results, the least by spelling.
@@ -78,5 +60,6 @@ pub fn distinct<F: Functions>(
 {
     let senses = senses_of_results(alloc, functions, results)?;
     let shown = spelled(shown)?;
-    firsts(alloc, functions, senses.as_slice(), shown)
+    let shown = firsts(functions, senses.as_slice(), shown)?;
+    spelled(shown)
 }

@@ -1,16 +1,16 @@
 //! What the groups of a query show.
 
-ghost use Rattle.std.specs.Prelude.{◌≡◌, ◌++◌, map, option_map, not, IfOk};
-ghost use Rattle.cr_bags.specs.Bags.{each, gather, sort, firsts};
+ghost use Rattle.std.specs.Prelude.{◌≡◌, ◌++◌, map, filter, option_map, not, IfOk};
+ghost use Rattle.cr_bags.specs.Bags.{SameBag, each, gather, sort, firsts};
 ghost use Rattle.cr_query.specs.Query.{row_cmp, has};
 ghost use Rattle.cr_meaning.specs.View.{plain};
 ghost use Rattle.cr_exec.specs.Answers.{Answers, Adds};
-ghost use Rattle.cr_exec.specs.Comparisons.{held_order, is_new};
-ghost use Rattle.cr_exec.specs.Groups.{judged_by, keyed_by, key_of, pair_of, members_of, group_of};
+ghost use Rattle.cr_exec.specs.Comparisons.{held_order};
+ghost use Rattle.cr_exec.specs.Groups.{judged_by, keyed_by, key_of, pair_of, row_there, members_of, group_of, StandsByClass, IsByClass};
 ghost use Rattle.cr_exec.specs.Scopes.{in_scope, there};
 ghost use Rattle.cr_exec.specs.Shows.{shown_of, ties_by};
 
-use crate::compare::{Sense, compare_rows};
+use crate::compare::{Sense, compare_classes};
 use crate::push::push;
 use crate::show::{Shown, show};
 use crate::value::{Scope, is_so_in, values_in};
@@ -102,55 +102,49 @@ pub fn with_keys<'a, F: Functions>(
     Ok(out)
 }
 
-// Copies of the keys.
-fn keys_of(alloc: Global, keyed: &[Keyed<'_>]) -> Result<Vec<Row>, AllocError>
-    ensures { IfOk result (λ v. v.items ≡ map key_of keyed.now) }
+// The keys.
+fn keys_of<'k>(alloc: Global, keyed: &'k [Keyed<'_>]) -> Result<Vec<&'k Row>, AllocError>
+    ensures { IfOk result (λ v. map row_there v.items ≡ map key_of keyed.now) }
 {
     let mut keys = Vec::new(alloc);
     for one in keyed {
-        keys.push(one.key.copy(alloc)?)?;
+        keys.push(&one.key)?;
     }
     Ok(keys)
 }
 
 // Rows in ascending order.
-fn in_order(mut rows: Vec<Row>) -> Result<Vec<Row>, AllocError>
-    ensures { IfOk result (λ sorted. sorted.items ≡ sort row_cmp rows.items) }
+fn in_order(mut rows: Vec<&Row>) -> Result<Vec<&Row>, AllocError>
+    ensures { IfOk result (λ v. map row_there v.items ≡ sort row_cmp (map row_there rows.entry.items)) }
 {
-    rows.sort()?;
+    rows.sort_by(|a, b| a.as_slice().cmp(b.as_slice()))?;
     Ok(rows)
 }
 
-// Whether no row that is kept is of the same class.
-fn is_new<F: Functions>(functions: &F, senses: &[Sense], kept: &[Row], one: &Row) -> bool
-    requires { F.is_faithful functions.now }
-    ensures { result ≡ is_new (ties_by (map (held_order (F.order_at functions.now)) senses.now)) kept.now one.now }
-{
-    for row in kept {
-        if compare_rows(functions, senses, row.as_slice(), one.as_slice()).is_eq() {
-            return false;
-        }
-    }
-    true
-}
-
-// The first of each class.
-fn firsts<F: Functions>(
-    alloc: Global,
+// The first of each class, class by class.
+fn firsts<'r, F: Functions>(
     functions: &F,
     senses: &[Sense],
-    rows: Vec<Row>,
-) -> Result<Vec<Row>, AllocError>
+    mut rows: Vec<&'r Row>,
+) -> Result<Vec<&'r Row>, AllocError>
     requires { F.is_faithful functions.now }
-    ensures { IfOk result (λ v. v.items ≡ firsts (ties_by (map (held_order (F.order_at functions.now)) senses.now)) rows.items) }
+    ensures { IfOk result (λ v. SameBag v.items (firsts (λ a b. ties_by (map (held_order (F.order_at functions.now)) senses.now) (row_there a) (row_there b)) rows.entry.items)) }
 {
-    let mut kept: Vec<Row> = Vec::new(alloc);
-    for one in rows {
-        if is_new(functions, senses, kept.as_slice(), &one) {
-            kept.push(one)?;
-        }
+    // The sort is stable: a class keeps its order.
+    rows.sort_by(|a, b| compare_classes(functions, senses, a, b))?;
+    rows.dedup_by(|one, kept| compare_classes(functions, senses, one, kept).is_eq());
+    Ok(rows)
+}
+
+// Copies of rows.
+fn copies(alloc: Global, rows: &[&Row]) -> Result<Vec<Row>, AllocError>
+    ensures { IfOk result (λ v. v.items ≡ map row_there rows.now) }
+{
+    let mut out = Vec::new(alloc);
+    for row in rows {
+        out.push(row.copy(alloc)?)?;
     }
-    Ok(kept)
+    Ok(out)
 }
 
 /// The least key of each class, in ascending order.
@@ -165,25 +159,58 @@ pub fn classes<F: Functions>(
 {
     let keys = keys_of(alloc, keyed)?;
     let keys = in_order(keys)?;
-    firsts(alloc, functions, senses, keys)
+    let least = firsts(functions, senses, keys)?;
+    let least = in_order(least)?;
+    copies(alloc, least.as_slice())
+}
+
+// Keyed combinations class by class; those of one class stay in their order.
+pub(crate) fn by_class<'a, F: Functions>(
+    mut keyed: Vec<Keyed<'a>>,
+    senses: &[Sense],
+    functions: &F,
+) -> Result<Vec<Keyed<'a>>, AllocError>
+    requires { F.is_faithful functions.now }
+    ensures { IfOk result (λ v. IsByClass (map (held_order (F.order_at functions.now)) senses.now) keyed.entry.items v.items) }
+{
+    keyed.sort_by(|a, b| compare_classes(functions, senses, &a.key, &b.key))?;
+    Ok(keyed)
+}
+
+// Those of one class, where they stand class by class.
+fn class_of<'k, 'a, F: Functions>(
+    keyed: &'k [Keyed<'a>],
+    class: &Row,
+    senses: &[Sense],
+    functions: &F,
+) -> &'k [Keyed<'a>]
+    requires faithful { F.is_faithful functions.now }
+    requires in_order { StandsByClass (map (held_order (F.order_at functions.now)) senses.now) keyed.now }
+    ensures { result.now ≡ filter (λ k. ties_by (map (held_order (F.order_at functions.now)) senses.now) class.now k.key) keyed.now }
+{
+    let is_below = |one: &Keyed<'_>| compare_classes(functions, senses, &one.key, class).is_lt();
+    let is_member = |one: &Keyed<'_>| compare_classes(functions, senses, &one.key, class).is_eq();
+    let start = keyed.partition_point(is_below);
+    let rest = &keyed[start..];
+    let count = rest.partition_point(is_member);
+    &rest[..count]
 }
 
 // Copies of the combinations of a class.
 pub(crate) fn members<F: Functions>(
     alloc: Global,
     keyed: &[Keyed<'_>],
-    class: &[Value],
+    class: &Row,
     senses: &[Sense],
     functions: &F,
 ) -> Result<Vec<Row>, AllocError>
-    requires { F.is_faithful functions.now }
+    requires faithful { F.is_faithful functions.now }
+    requires in_order { StandsByClass (map (held_order (F.order_at functions.now)) senses.now) keyed.now }
     ensures { IfOk result (λ v. v.items ≡ members_of (map (held_order (F.order_at functions.now)) senses.now) (map pair_of keyed.now) class.now) }
 {
     let mut out = Vec::new(alloc);
-    for one in keyed {
-        if compare_rows(functions, senses, class, one.key.as_slice()).is_eq() {
-            out.push(one.combination.copy(alloc)?)?;
-        }
+    for one in class_of(keyed, class, senses, functions) {
+        out.push(one.combination.copy(alloc)?)?;
     }
     Ok(out)
 }

@@ -7,12 +7,12 @@ ghost use Rattle.cr_query.specs.Query.{groups, groups_of, keyed};
 ghost use Rattle.cr_meaning.specs.View.{group_term};
 ghost use Rattle.cr_exec.specs.Answers.{Answers, Adds};
 ghost use Rattle.cr_exec.specs.Comparisons.{held_order};
-ghost use Rattle.cr_exec.specs.Groups.{judged_by, group_expr, pair_of, group_of};
+ghost use Rattle.cr_exec.specs.Groups.{judged_by, group_expr, pair_of, group_of, StandsByClass};
 ghost use Rattle.cr_exec.specs.Scopes.{there};
 ghost use Rattle.cr_exec.specs.Shows.{shown_of};
 
 use crate::compare::{Sense, senses_of_groups};
-use crate::group::{Keyed, classes, judge, members, with_keys};
+use crate::group::{Keyed, by_class, classes, judge, members, with_keys};
 use crate::show::Shown;
 use crate::value::Scope;
 use cr_expr::given::Hosted;
@@ -33,15 +33,16 @@ fn show_class<F: Functions>(
     keys: &[&Expr],
     keyed: &[Keyed<'_>],
     senses: &[Sense],
-    class: &[Value],
+    class: &Row,
     functions: &F,
     params: &[Value],
 ) -> Result<(), EvalFault>
-    requires { F.is_faithful functions.now }
+    requires faithful { F.is_faithful functions.now }
+    requires in_order { StandsByClass (map (held_order (F.order_at functions.now)) senses.now) keyed.now }
     ensures { Adds (⟦<F as Hosted>⟧.means functions.now) params.now (λ m. judged_by m (λ e. m.over e (group_of (map (held_order (F.order_at functions.now)) senses.now) (map pair_of keyed.now) class.now)) having.now results.now keys.now) (map shown_of out.old.items) (map shown_of out.new.items) result }
 {
     let members = members(alloc, keyed, class, senses, functions)?;
-    let scope = Scope::Group(class, members.as_slice());
+    let scope = Scope::Group(class.as_slice(), members.as_slice());
     judge(alloc, out, having, results, keys, scope, functions, params)
 }
 
@@ -57,12 +58,12 @@ fn show_classes<F: Functions>(
     functions: &F,
     params: &[Value],
 ) -> Result<Vec<Shown>, EvalFault>
-    requires { F.is_faithful functions.now }
+    requires faithful { F.is_faithful functions.now }
+    requires in_order { StandsByClass (map (held_order (F.order_at functions.now)) senses.now) keyed.now }
     ensures { Answers (⟦<F as Hosted>⟧.means functions.now) params.now result (λ v. map shown_of v.items) (λ m. gather (λ k. judged_by m (λ e. m.over e (group_of (map (held_order (F.order_at functions.now)) senses.now) (map pair_of keyed.now) k)) having.now results.now keys.now) classes.now) }
 {
     let mut out = Vec::new(alloc);
     for class in classes {
-        let class = class.as_slice();
         show_class(
             alloc, &mut out, having, results, keys, keyed, senses, class, functions, params,
         )?;
@@ -97,9 +98,10 @@ fn show_under<F: Functions>(
 {
     let exprs = exprs_of(alloc, terms)?;
     let senses = senses_of_groups(alloc, functions, terms)?;
-    let keyed = with_keys(alloc, exprs.as_slice(), combinations, functions, params)?;
-    let keyed = keyed.as_slice();
     let senses = senses.as_slice();
+    let keyed = with_keys(alloc, exprs.as_slice(), combinations, functions, params)?;
+    let keyed = by_class(keyed, senses, functions)?;
+    let keyed = keyed.as_slice();
     let classes = classes(alloc, keyed, senses, functions)?;
     let classes = classes.as_slice();
     show_classes(
