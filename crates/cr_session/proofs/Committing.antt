@@ -1,5 +1,5 @@
 -- Writes of a session, from what a snapshot shows to where the session then stands.
-use Rattle.std.proofs.Common.{◌≡◌, ℕ, Bool, true, false, ◌&&◌, cond, List, [], ◌∷◌, Option, Some, None, Result, Err, refl, sym, ap, subst, ◌∙◌, find}
+use Rattle.std.proofs.Common.{◌≡◌, Bool, true, false, ◌&&◌, cond, List, [], ◌∷◌, Option, Some, None, Result, Err, refl, sym, ap, subst, ◌∙◌, find}
 use Rattle.std.specs.Prelude.{if◌then◌else◌}
 use Rattle.std.specs.Option.{is_none}
 use Rattle.std.specs.List.{list_all}
@@ -32,11 +32,9 @@ use Rattle.cr_meaning.specs.View.{Ordered, insert, update, delete}
 use Rattle.cr_meaning.specs.Meaning.{exact, sized}
 use Rattle.cr_meaning.proofs.Limits.{refines}
 use Rattle.cr_taken.proofs.Refined.{insert_refines, update_refines, delete_refines}
-use Rattle.cr_exec.specs.Answers.{Stage}
 use Rattle.cr_replica.specs.declared.snapshot.Snapshot.{Snapshot}
 use Rattle.cr_replica.specs.Snapshots.{IsWhole, is_in_profile}
-use Rattle.cr_snapshot.specs.Seen.{IsNamed, IsSeen, catalog_of}
-use Rattle.cr_snapshot.proofs.Standing.{named}
+use Rattle.cr_snapshot.specs.Seen.{IsNamed, catalog_of}
 use Rattle.cr_language.specs.Sql.{view}
 use Rattle.cr_world.specs.declared.command.Reply.{Reply}
 use Rattle.cr_world.specs.declared.refusal.Refusal.{Refusal}
@@ -47,6 +45,7 @@ use Rattle.cr_world.specs.State.{State, now}
 use Rattle.cr_world.specs.Statement.{Host}
 use Rattle.cr_fit.specs.Suited.{HasHeld, HasRelation}
 use Rattle.cr_changed.specs.Changed.{Leads, IsRefused, insert_wants, update_wants, delete_wants}
+use Rattle.cr_session.specs.Lookup.{ShowsDelete, ShowsUpdate}
 use Rattle.cr_session.specs.Performing.{Adds, AreAdded, Performed, Performs, is_table, not_replicated, unreplicated}
 use Rattle.cr_session.specs.Sessions.{SessionOf, clean, honest, standing}
 use Rattle.cr_session.proofs.Making.{target_is, untouched}
@@ -101,17 +100,6 @@ has_key_there snap d whole e =
 
 pub replicated_seen : (st : State) (snap : Snapshot) (d : TableDef) → IsNamed st snap → find (is_named d.name) snap.tables ≡ Some (record { definition = d; is_replicated = true }) → Replicated st d
 replicated_seen st snap d is e = subst (λ (ts : List Table). find (is_named d.name) ts ≡ Some (record { definition = d; is_replicated = true })) is.tables e
-
-module _ (means : Means) (params : List Value) (st : State) (snap : Snapshot) (is : IsSeen st snap) (def : TableDef) (g : List Row → Stage (List Row)) where
-  leads_there : (changes : List Change) → Leads means params def snap.site snap.kept (g (rows snap.kept def)) changes → Leads means params def st.holding.site (now st) (g (rows (now st) def)) changes
-  leads_there changes l =
-      subst (λ (site : List ℕ). Leads means params def site (now st) (g (rows (now st) def)) changes) is.site
-      (subst (λ (kept : List Change). Leads means params def snap.site kept (g (rows kept def)) changes) is.kept l)
-
-  refused_there : (f : Refusal) → IsRefused means params def snap.site snap.kept (g (rows snap.kept def)) f → IsRefused means params def st.holding.site (now st) (g (rows (now st) def)) f
-  refused_there f l =
-      subst (λ (site : List ℕ). IsRefused means params def site (now st) (g (rows (now st) def)) f) is.site
-      (subst (λ (kept : List Change). IsRefused means params def snap.site kept (g (rows kept def)) f) is.kept l)
 
 -- a limit on values takes rows away and changes none
 module _ (means : Means) (params : List Value) (shown : List Row) where
@@ -175,7 +163,7 @@ module _ {C : Type 0} (means : Means) (params : List Value) (host : Host) (is_ho
 
 -- ---- UPDATE and DELETE of a session
 
-module _ {C : Type 0} (means : Means) (params : List Value) (host : Host) (is_honest is_clean : C → Type 0) (holding : C → Holding) (old : SessionOf C) (snap : Snapshot) (seen : is_clean old.0 → IsSeen (standing holding old) snap) where
+module _ {C : Type 0} (means : Means) (params : List Value) (host : Host) (is_honest is_clean : C → Type 0) (holding : C → Holding) (old : SessionOf C) (snap : Snapshot) where
   abbrev here : State
   here = standing holding old
 
@@ -197,48 +185,48 @@ module _ {C : Type 0} (means : Means) (params : List Value) (host : Host) (is_ho
 
   -- ---- UPDATE
 
-  module _ (u : Update) (has : HasRelation (catalog_of snap) u.relation) where
+  module _ (u : Update) (shows : is_clean old.0 → ShowsUpdate means params u here snap) (has : HasRelation (catalog_of snap) u.relation) where
     module _ (e : is_table u.relation.held ≡ true) where
       abbrev changed : TableDef
       changed = u.relation.definition
 
       module _ (yet : not_replicated u.relation ≡ Free) where
         changed_there : is_clean old.0 → Replicated here changed
-        changed_there clean = replicated_seen here snap changed (named here snap (seen clean)) (replicated_there snap u.relation has e yet)
+        changed_there clean = replicated_seen here snap changed (shows clean).named (replicated_there snap u.relation has e yet)
 
         pub update_refused_rows : (f : Refusal) → IsRefused means params changed snap.site snap.kept (update_wants snap u) f → Does (r.Update u) (Err f) old
         update_refused_rows f l = untouched means params host (honest is_honest) (clean is_clean) (standing holding) old (r.Update u) (Err f) (λ clean.
             subst (λ (x : Resolved Ordered). Performs means params host here x (Err f) here) (sym (update_view u e))
             (refuses_write means params host here changed _ _ (update_write host (holding old.0) old.1 changed (update u)) (changed_there clean) f (update_gains means params (rows (now here) changed) changed.columns (update u))
-            (refused_there means params here snap (seen clean) changed (λ shown m. wanted_by_update m changed.columns (update u) shown) f l)))
+            ((shows clean).refused f l)))
 
         pub updates : (new : SessionOf C) (changes : List Change) (result : Result Reply Refusal) → Leads means params changed snap.site snap.kept (update_wants snap u) changes
             → Added changes result new → Does (r.Update u) result new
         updates new changes result l c = added_as new (r.Update u) changes result c (λ clean a.
             subst (λ (x : Resolved Ordered). Performs means params host here x result (standing holding new)) (sym (update_view u e))
             (performs_write means params host here changed _ _ (update_write host (holding old.0) old.1 changed (update u)) (changed_there clean) changes result (standing holding new)
-            (leads_there means params here snap (seen clean) changed (λ shown m. wanted_by_update m changed.columns (update u) shown) changes l) a))
+            ((shows clean).leads changes l) a))
 
   -- ---- DELETE
 
-  module _ (d : Delete) (has : HasRelation (catalog_of snap) d.relation) where
+  module _ (d : Delete) (shows : is_clean old.0 → ShowsDelete means params d here snap) (has : HasRelation (catalog_of snap) d.relation) where
     module _ (e : is_table d.relation.held ≡ true) where
       abbrev thinned : TableDef
       thinned = d.relation.definition
 
       module _ (yet : not_replicated d.relation ≡ Free) where
         thinned_there : is_clean old.0 → Replicated here thinned
-        thinned_there clean = replicated_seen here snap thinned (named here snap (seen clean)) (replicated_there snap d.relation has e yet)
+        thinned_there clean = replicated_seen here snap thinned (shows clean).named (replicated_there snap d.relation has e yet)
 
         pub delete_refused_rows : (f : Refusal) → IsRefused means params thinned snap.site snap.kept (delete_wants snap d) f → Does (r.Delete d) (Err f) old
         delete_refused_rows f l = untouched means params host (honest is_honest) (clean is_clean) (standing holding) old (r.Delete d) (Err f) (λ clean.
             subst (λ (x : Resolved Ordered). Performs means params host here x (Err f) here) (sym (delete_view d e))
             (refuses_write means params host here thinned _ _ (delete_write host (holding old.0) old.1 thinned (delete d)) (thinned_there clean) f (delete_gains means params (rows (now here) thinned) (delete d))
-            (refused_there means params here snap (seen clean) thinned (λ shown m. wanted_by_delete m (delete d) shown) f l)))
+            ((shows clean).refused f l)))
 
         pub deletes : (new : SessionOf C) (changes : List Change) (result : Result Reply Refusal) → Leads means params thinned snap.site snap.kept (delete_wants snap d) changes
             → Added changes result new → Does (r.Delete d) result new
         deletes new changes result l c = added_as new (r.Delete d) changes result c (λ clean a.
             subst (λ (x : Resolved Ordered). Performs means params host here x result (standing holding new)) (sym (delete_view d e))
             (performs_write means params host here thinned _ _ (delete_write host (holding old.0) old.1 thinned (delete d)) (thinned_there clean) changes result (standing holding new)
-            (leads_there means params here snap (seen clean) thinned (λ shown m. wanted_by_delete m (delete d) shown) changes l) a))
+            ((shows clean).leads changes l) a))

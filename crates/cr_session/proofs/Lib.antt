@@ -9,6 +9,7 @@ pub mod Making
 pub mod Looking
 pub mod Changing
 pub mod Bringing
+pub mod ByKey
 pub mod Committing
 pub mod Inserting
 pub mod Receiving

@@ -7,9 +7,10 @@ use Rattle.cr_term.specs.declared.query.Joined.{Joined}
 use Rattle.cr_term.specs.declared.query.Query.{Query}
 use Rattle.cr_term.specs.declared.query.Resolved.TheVariants as r
 use Rattle.cr_scalar.specs.Host.{Host as Means}
+use Rattle.cr_scalar.specs.Meaning.{byte_limit}
 use Rattle.cr_scalar.specs.declared.fault.EvalFault.{EvalFault}
 use Rattle.cr_scalar.specs.declared.fault.EvalFault.TheVariants as fault
-use Rattle.cr_query.specs.Query.{Row, answer}
+use Rattle.cr_query.specs.Query.{Row}
 use Rattle.cr_query.proofs.Refining.{Gains, answer_refines}
 use Rattle.cr_meaning.specs.View.{query}
 use Rattle.cr_meaning.specs.Meaning.{exact, sized}
@@ -29,6 +30,7 @@ use Rattle.cr_world.specs.State.{State, tables_named}
 use Rattle.cr_world.specs.Statement.{Host, evaluation_cause}
 use Rattle.cr_language.specs.Sql.{view}
 use Rattle.cr_answer.specs.Selecting.{Gives, answer_seen}
+use Rattle.cr_session.specs.Lookup.{ShowsQuery}
 use Rattle.cr_session.specs.Performing.{Performs, against, with_limit, without_limit}
 
 pub or_free : (c : Cause) → or_else c Free ≡ c
@@ -75,16 +77,16 @@ abbrev pub shown : Result (List Row) Refusal → Result Reply Refusal
 shown (Ok rows) = Ok (Rows rows)
 shown (Err f) = Err f
 
-tables_are : (st : State) (snap : Snapshot) → IsSeen st snap → (js : List Joined) → tables_named st (map name_of js) ≡ map (λ j. rows_seen snap (name_of j)) js
+pub tables_are : (st : State) (snap : Snapshot) → IsSeen st snap → (js : List Joined) → tables_named st (map name_of js) ≡ map (λ j. rows_seen snap (name_of j)) js
 tables_are st snap is [] = refl
 tables_are st snap is (j ∷ js) = λ i. rows_are st snap (name_of j) is i ∷ tables_are st snap is js i
 
-module _ (means : Means) (params : List Value) (host : Host) (st : State) (snap : Snapshot) (is : IsSeen st snap) (x : Query) where
+module _ (means : Means) (params : List Value) (host : Host) (st : State) (snap : Snapshot) (x : Query) (shows : ShowsQuery means params x st snap) where
   exact_seen : without_limit means params host st (view (r.Select x)) ≡ answer_seen snap x (exact means params)
-  exact_seen = λ i. answer (exact means params) (query x) (tables_are st snap is x.joined i)
+  exact_seen = shows None
 
   sized_seen : with_limit means params host st (view (r.Select x)) ≡ answer_seen snap x (sized means params)
-  sized_seen = λ i. answer (sized means params) (query x) (tables_are st snap is x.joined i)
+  sized_seen = shows byte_limit
 
   seen_gains : Gains (answer_seen snap x (sized means params)) (answer_seen snap x (exact means params))
   seen_gains = answer_refines (sized means params) (exact means params) (refines means params) (query x) (map (λ j. rows_seen snap (name_of j)) x.joined)

@@ -2,6 +2,7 @@
 #![tactic(auto)]
 
 mod executing;
+mod lookup;
 mod performing;
 mod script;
 pub mod session;

@@ -1,7 +1,6 @@
 //! Statements that may be carried out, form by form.
 
 ghost use Rattle.std.specs.Prelude.{◌≡◌, IfOk};
-ghost use Rattle.cr_snapshot.specs.Seen.{IsSeen};
 ghost use Rattle.cr_term.specs.declared.query.Resolved.TheVariants as r;
 ghost use Rattle.cr_language.specs.Sql.{target, view};
 ghost use Rattle.cr_world.specs.Resolved as world;
@@ -10,6 +9,7 @@ ghost use Rattle.cr_world.specs.Statement.{Host, marked_reply, no_default, not_a
 ghost use Rattle.cr_lattice.specs.Profile.{lacks_default};
 ghost use Rattle.cr_world.specs.Causes.{where_true};
 ghost use Rattle.cr_world.specs.declared.refusal.Refusal.TheVariants.{NoDefault};
+ghost use Rattle.cr_session.specs.Lookup.{ShowsQuery};
 ghost use Rattle.cr_session.specs.Performing.{Passes, Performs, not_replicated};
 
 use crate::session::Session;
@@ -95,7 +95,7 @@ fn answered<F: Functions>(
     params: &[Value],
 ) -> Result<Reply, Refusal>
     requires { F.is_faithful functions.now }
-    ensures { (host : Host) (st : State) → IsSeen st snapshot.now → Performs (⟦<F as Hosted>⟧.means functions.now) params.now host st (view (r.Select query.now)) result st }
+    ensures { (host : Host) (st : State) → ShowsQuery (⟦<F as Hosted>⟧.means functions.now) params.now query.now st snapshot.now → Performs (⟦<F as Hosted>⟧.means functions.now) params.now host st (view (r.Select query.now)) result st }
 {
     match answer_query(alloc, functions, snapshot, query, params) {
         Ok(rows) => Ok(Reply::Rows(rows)),
@@ -128,10 +128,11 @@ impl<C: Cells> Session<C> {
         params: &[Value],
     ) -> Result<Reply, Refusal>
         requires functions { F.is_faithful functions.now }
+        requires sound { C.is_clean self.old.0 → IsSound (C.holding self.old.0) }
         requires named { C.is_clean self.old.0 → IsNamed (standing C.holding self.old) names }
         ensures { (host : Host) → Performed (⟦<F as Hosted>⟧.means functions.now) params.now host (honest C.is_honest) (clean C.is_clean) (standing C.holding) self.old (r.Select query.now) result self.new }
     {
-        match self.see(alloc, names) {
+        match self.look_for_query(alloc, functions, names, query, params) {
             Ok(snapshot) => answered(alloc, functions, &snapshot, query, params),
             Err(error) => Err(Refusal::from(error)),
         }

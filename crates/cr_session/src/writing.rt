@@ -228,6 +228,7 @@ impl<C: Cells> Session<C> {
     ) -> Result<Reply, Refusal>
         requires functions { F.is_faithful functions.now }
         requires guard { G.is_faithful guard.now }
+        requires sound { C.is_clean self.old.0 → IsSound (C.holding self.old.0) }
         requires named { C.is_clean self.old.0 → IsNamed (standing C.holding self.old) names }
         requires whole { IsWhole names }
         requires suits { HasRelation (catalog_of names) update.now.relation }
@@ -237,7 +238,7 @@ impl<C: Cells> Session<C> {
             return Err(refusal);
         }
         check_replicated(alloc, &update.relation)?;
-        let snapshot = match self.see(alloc, names) {
+        let snapshot = match self.look_for_update(alloc, functions, names, update, params) {
             Ok(snapshot) => snapshot,
             Err(error) => return Err(Refusal::from(error)),
         };
@@ -259,6 +260,7 @@ impl<C: Cells> Session<C> {
     ) -> Result<Reply, Refusal>
         requires functions { F.is_faithful functions.now }
         requires guard { G.is_faithful guard.now }
+        requires sound { C.is_clean self.old.0 → IsSound (C.holding self.old.0) }
         requires named { C.is_clean self.old.0 → IsNamed (standing C.holding self.old) names }
         requires whole { IsWhole names }
         requires suits { HasRelation (catalog_of names) delete.now.relation }
@@ -268,7 +270,7 @@ impl<C: Cells> Session<C> {
             return Err(refusal);
         }
         check_replicated(alloc, &delete.relation)?;
-        let snapshot = match self.see(alloc, names) {
+        let snapshot = match self.look_for_delete(alloc, functions, names, delete, params) {
             Ok(snapshot) => snapshot,
             Err(error) => return Err(Refusal::from(error)),
         };

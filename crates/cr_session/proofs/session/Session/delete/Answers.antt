@@ -1,11 +1,16 @@
 use Rattle.std.proofs.Common.{refl, subst, sym}
 use Rattle.cr_term.specs.declared.query.Resolved.TheVariants as r
 use Rattle.cr_fit.specs.Suited.{HasRelation}
+use Rattle.cr_session.specs.Lookup.{ShowsDelete}
 use Rattle.cr_session.proofs.Committing.{has_key_there, replicated_there, delete_refused_rows, deletes}
 use Rattle.cr_session.proofs.Looking.{after_look, unseen}
 use Rattle.cr_session.proofs.Making.{passed_is_table}
-use Rattle.cr_session.proofs.Seeing.{catalog_of_names, seen_then}
+use Rattle.cr_session.proofs.ByKey.{shows_then}
+use Rattle.cr_session.proofs.Seeing.{catalog_of_names}
 use Rattle.cr_session.proofs.session.Session.delete.Goals as goal
+
+pub look_for_delete-requires-clause-table : goal.look_for_delete-requires-clause-table
+look_for_delete-requires-clause-table g c = passed_is_table c.args.delete.now.relation c.in_default.ensures
 
 pub changes_of_delete-requires-clause-key : goal.changes_of_delete-requires-clause-key
 changes_of_delete-requires-clause-key g c =
@@ -13,19 +18,19 @@ changes_of_delete-requires-clause-key g c =
 
 pub returns-in-Ok-changes_of_delete : goal.returns-in-Ok-changes_of_delete
 returns-in-Ok-changes_of_delete g c =
-    after_look _ c.args.params.now _ g.C.Cells.is_honest g.C.Cells.is_clean g.C.Cells.holding c.args.self.now c.see.new.self (r.Delete c.args.delete.now) c.see.ensures.was_honest c.see.ensures.was_clean (λ clean. (c.in-Ok.ensures.sees clean).same) c.add_changes.result c.add_changes.new.self c.in-Ok.ensures.stays_clean
-    (deletes _ c.args.params.now _ g.C.Cells.is_honest g.C.Cells.is_clean g.C.Cells.holding c.see.new.self c.in-Ok.snapshot (λ clean. seen_then _ _ _ (c.in-Ok.ensures.sees clean)) c.args.delete.now
+    after_look _ c.args.params.now _ g.C.Cells.is_honest g.C.Cells.is_clean g.C.Cells.holding c.args.self.now c.look_for_delete.new.self (r.Delete c.args.delete.now) c.look_for_delete.ensures.was_honest c.look_for_delete.ensures.was_clean (λ clean. (c.in-Ok.ensures.looks clean).same) c.add_changes.result c.add_changes.new.self c.in-Ok.ensures.stays_clean
+    (deletes _ c.args.params.now _ g.C.Cells.is_honest g.C.Cells.is_clean g.C.Cells.holding c.look_for_delete.new.self c.in-Ok.snapshot c.args.delete.now (λ clean. shows_then (ShowsDelete _ c.args.params.now c.args.delete.now) _ _ _ (c.in-Ok.ensures.looks clean))
     (subst (λ k. HasRelation k c.args.delete.now.relation) (sym (catalog_of_names c.args.names c.in-Ok.snapshot c.in-Ok.ensures.names)) c.requires.suits) (passed_is_table c.args.delete.now.relation c.in_default.ensures) c.in_ok-check_replicated.ensures
     c.add_changes.new.self c.in-Ok-changes_of_delete.changes.items c.add_changes.result c.in-Ok-changes_of_delete.ensures c.add_changes.ensures)
 
 pub returns : goal.returns
 returns g c =
-    after_look _ c.args.params.now _ g.C.Cells.is_honest g.C.Cells.is_clean g.C.Cells.holding c.args.self.now c.see.new.self (r.Delete c.args.delete.now) c.see.ensures.was_honest c.see.ensures.was_clean (λ clean. (c.in-Ok.ensures.sees clean).same) _ c.see.new.self c.in-Ok.ensures.stays_clean
-    (delete_refused_rows _ c.args.params.now _ g.C.Cells.is_honest g.C.Cells.is_clean g.C.Cells.holding c.see.new.self c.in-Ok.snapshot (λ clean. seen_then _ _ _ (c.in-Ok.ensures.sees clean)) c.args.delete.now
+    after_look _ c.args.params.now _ g.C.Cells.is_honest g.C.Cells.is_clean g.C.Cells.holding c.args.self.now c.look_for_delete.new.self (r.Delete c.args.delete.now) c.look_for_delete.ensures.was_honest c.look_for_delete.ensures.was_clean (λ clean. (c.in-Ok.ensures.looks clean).same) _ c.look_for_delete.new.self c.in-Ok.ensures.stays_clean
+    (delete_refused_rows _ c.args.params.now _ g.C.Cells.is_honest g.C.Cells.is_clean g.C.Cells.holding c.look_for_delete.new.self c.in-Ok.snapshot c.args.delete.now (λ clean. shows_then (ShowsDelete _ c.args.params.now c.args.delete.now) _ _ _ (c.in-Ok.ensures.looks clean))
     (subst (λ k. HasRelation k c.args.delete.now.relation) (sym (catalog_of_names c.args.names c.in-Ok.snapshot c.in-Ok.ensures.names)) c.requires.suits) (passed_is_table c.args.delete.now.relation c.in_default.ensures) c.in_ok-check_replicated.ensures
     c.in-Err-changes_of_delete.refusal c.in-Err-changes_of_delete.ensures)
 
-pub returns-in-Err-see : goal.returns-in-Err-see
-returns-in-Err-see g c =
-    unseen _ c.args.params.now _ g.C.Cells.is_honest g.C.Cells.is_clean g.C.Cells.holding c.args.self.now c.see.new.self (r.Delete c.args.delete.now) c.see.ensures.was_honest c.see.ensures.was_clean (λ clean. (c.in-Err-see.ensures.sees clean).same)
-    c.in-Err-see.error c.from.result c.from.ensures refl c.in-Err-see.ensures.stays_clean (λ clean. (c.in-Err-see.ensures.sees clean).sees)
+pub returns-in-Err-look_for_delete : goal.returns-in-Err-look_for_delete
+returns-in-Err-look_for_delete g c =
+    unseen _ c.args.params.now _ g.C.Cells.is_honest g.C.Cells.is_clean g.C.Cells.holding c.args.self.now c.look_for_delete.new.self (r.Delete c.args.delete.now) c.look_for_delete.ensures.was_honest c.look_for_delete.ensures.was_clean (λ clean. (c.in-Err-look_for_delete.ensures.looks clean).same)
+    c.in-Err-look_for_delete.error c.from.result c.from.ensures refl c.in-Err-look_for_delete.ensures.stays_clean (λ clean. (c.in-Err-look_for_delete.ensures.looks clean).looks)

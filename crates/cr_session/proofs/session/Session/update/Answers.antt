@@ -1,11 +1,16 @@
 use Rattle.std.proofs.Common.{refl, subst, sym}
 use Rattle.cr_term.specs.declared.query.Resolved.TheVariants as r
 use Rattle.cr_fit.specs.Suited.{HasRelation}
+use Rattle.cr_session.specs.Lookup.{ShowsUpdate}
 use Rattle.cr_session.proofs.Committing.{has_key_there, replicated_there, update_refused_rows, updates}
 use Rattle.cr_session.proofs.Looking.{after_look, unseen}
 use Rattle.cr_session.proofs.Making.{passed_is_table}
-use Rattle.cr_session.proofs.Seeing.{catalog_of_names, seen_then}
+use Rattle.cr_session.proofs.ByKey.{shows_then}
+use Rattle.cr_session.proofs.Seeing.{catalog_of_names}
 use Rattle.cr_session.proofs.session.Session.update.Goals as goal
+
+pub look_for_update-requires-clause-table : goal.look_for_update-requires-clause-table
+look_for_update-requires-clause-table g c = passed_is_table c.args.update.now.relation c.in_default.ensures
 
 pub changes_of_update-requires-clause-key : goal.changes_of_update-requires-clause-key
 changes_of_update-requires-clause-key g c =
@@ -13,19 +18,19 @@ changes_of_update-requires-clause-key g c =
 
 pub returns-in-Ok-changes_of_update : goal.returns-in-Ok-changes_of_update
 returns-in-Ok-changes_of_update g c =
-    after_look _ c.args.params.now _ g.C.Cells.is_honest g.C.Cells.is_clean g.C.Cells.holding c.args.self.now c.see.new.self (r.Update c.args.update.now) c.see.ensures.was_honest c.see.ensures.was_clean (λ clean. (c.in-Ok.ensures.sees clean).same) c.add_changes.result c.add_changes.new.self c.in-Ok.ensures.stays_clean
-    (updates _ c.args.params.now _ g.C.Cells.is_honest g.C.Cells.is_clean g.C.Cells.holding c.see.new.self c.in-Ok.snapshot (λ clean. seen_then _ _ _ (c.in-Ok.ensures.sees clean)) c.args.update.now
+    after_look _ c.args.params.now _ g.C.Cells.is_honest g.C.Cells.is_clean g.C.Cells.holding c.args.self.now c.look_for_update.new.self (r.Update c.args.update.now) c.look_for_update.ensures.was_honest c.look_for_update.ensures.was_clean (λ clean. (c.in-Ok.ensures.looks clean).same) c.add_changes.result c.add_changes.new.self c.in-Ok.ensures.stays_clean
+    (updates _ c.args.params.now _ g.C.Cells.is_honest g.C.Cells.is_clean g.C.Cells.holding c.look_for_update.new.self c.in-Ok.snapshot c.args.update.now (λ clean. shows_then (ShowsUpdate _ c.args.params.now c.args.update.now) _ _ _ (c.in-Ok.ensures.looks clean))
     (subst (λ k. HasRelation k c.args.update.now.relation) (sym (catalog_of_names c.args.names c.in-Ok.snapshot c.in-Ok.ensures.names)) c.requires.suits) (passed_is_table c.args.update.now.relation c.in_default.ensures) c.in_ok-check_replicated.ensures
     c.add_changes.new.self c.in-Ok-changes_of_update.changes.items c.add_changes.result c.in-Ok-changes_of_update.ensures c.add_changes.ensures)
 
 pub returns : goal.returns
 returns g c =
-    after_look _ c.args.params.now _ g.C.Cells.is_honest g.C.Cells.is_clean g.C.Cells.holding c.args.self.now c.see.new.self (r.Update c.args.update.now) c.see.ensures.was_honest c.see.ensures.was_clean (λ clean. (c.in-Ok.ensures.sees clean).same) _ c.see.new.self c.in-Ok.ensures.stays_clean
-    (update_refused_rows _ c.args.params.now _ g.C.Cells.is_honest g.C.Cells.is_clean g.C.Cells.holding c.see.new.self c.in-Ok.snapshot (λ clean. seen_then _ _ _ (c.in-Ok.ensures.sees clean)) c.args.update.now
+    after_look _ c.args.params.now _ g.C.Cells.is_honest g.C.Cells.is_clean g.C.Cells.holding c.args.self.now c.look_for_update.new.self (r.Update c.args.update.now) c.look_for_update.ensures.was_honest c.look_for_update.ensures.was_clean (λ clean. (c.in-Ok.ensures.looks clean).same) _ c.look_for_update.new.self c.in-Ok.ensures.stays_clean
+    (update_refused_rows _ c.args.params.now _ g.C.Cells.is_honest g.C.Cells.is_clean g.C.Cells.holding c.look_for_update.new.self c.in-Ok.snapshot c.args.update.now (λ clean. shows_then (ShowsUpdate _ c.args.params.now c.args.update.now) _ _ _ (c.in-Ok.ensures.looks clean))
     (subst (λ k. HasRelation k c.args.update.now.relation) (sym (catalog_of_names c.args.names c.in-Ok.snapshot c.in-Ok.ensures.names)) c.requires.suits) (passed_is_table c.args.update.now.relation c.in_default.ensures) c.in_ok-check_replicated.ensures
     c.in-Err-changes_of_update.refusal c.in-Err-changes_of_update.ensures)
 
-pub returns-in-Err-see : goal.returns-in-Err-see
-returns-in-Err-see g c =
-    unseen _ c.args.params.now _ g.C.Cells.is_honest g.C.Cells.is_clean g.C.Cells.holding c.args.self.now c.see.new.self (r.Update c.args.update.now) c.see.ensures.was_honest c.see.ensures.was_clean (λ clean. (c.in-Err-see.ensures.sees clean).same)
-    c.in-Err-see.error c.from.result c.from.ensures refl c.in-Err-see.ensures.stays_clean (λ clean. (c.in-Err-see.ensures.sees clean).sees)
+pub returns-in-Err-look_for_update : goal.returns-in-Err-look_for_update
+returns-in-Err-look_for_update g c =
+    unseen _ c.args.params.now _ g.C.Cells.is_honest g.C.Cells.is_clean g.C.Cells.holding c.args.self.now c.look_for_update.new.self (r.Update c.args.update.now) c.look_for_update.ensures.was_honest c.look_for_update.ensures.was_clean (λ clean. (c.in-Err-look_for_update.ensures.looks clean).same)
+    c.in-Err-look_for_update.error c.from.result c.from.ensures refl c.in-Err-look_for_update.ensures.stays_clean (λ clean. (c.in-Err-look_for_update.ensures.looks clean).looks)

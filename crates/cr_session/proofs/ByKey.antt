@@ -1,0 +1,244 @@
+-- What is seen of one key suffices for a statement whose WHERE tells that key.
+use Rattle.std.proofs.Common.{◌≡◌, inl, inr, ℕ, Bool, true, false, ◌||◌, List, [], ◌∷◌, Option, Some, Result, Ok, Err, refl, sym, ap, subst, ◌∙◌, ◌≤◌, ◌<◌, arith, cond, find, get_or, length, map}
+use Rattle.std.specs.Prelude.{if◌then◌else◌}
+use Rattle.cr_value.specs.declared.value.Value.{Value}
+use Rattle.cr_lattice.specs.declared.change.Change.{Change}
+use Rattle.cr_lattice.specs.declared.table.Table.{Table}
+use Rattle.cr_lattice.specs.declared.table.TableDef.{TableDef}
+use Rattle.cr_lattice.specs.Check.{same_bytes}
+use Rattle.cr_lattice.specs.Profile.{has_key}
+use Rattle.cr_lattice.specs.Rows.{rows}
+use Rattle.cr_lattice.proofs.Tested.{both_ways}
+use Rattle.cr_cells.proofs.NewLemmas.{same_is, same_itself}
+use Rattle.cr_cells.specs.declared.store.CellsError.{CellsError}
+use Rattle.cr_cells.specs.Holding.{Holding, IsSound}
+use Rattle.cr_cells.specs.Tables.{IsStored, has_defaults, is_named}
+use Rattle.cr_delta.proofs.Among.{member_has}
+use Rattle.cr_term.specs.declared.expr.Expr.{Expr}
+use Rattle.cr_term.specs.declared.query.Delete.{Delete}
+use Rattle.cr_term.specs.declared.query.Joined.{Joined}
+use Rattle.cr_term.specs.declared.query.Query.{Query}
+use Rattle.cr_term.specs.declared.query.Update.{Update}
+use Rattle.cr_scalar.specs.Host.{Host as Means}
+use Rattle.cr_query.specs.Query.{Row, answer}
+use Rattle.cr_meaning.specs.View.{query}
+use Rattle.cr_meaning.specs.Meaning.{meaning}
+use Rattle.cr_replica.specs.declared.snapshot.Snapshot.{Snapshot}
+use Rattle.cr_snapshot.specs.Seen.{IsSeen, name_of, rows_seen}
+use Rattle.cr_snapshot.proofs.Standing.{named}
+use Rattle.cr_taken.specs.Taken.{AreKept, Replicates, replicated}
+use Rattle.cr_taken.proofs.Members.{found_member}
+use Rattle.cr_taken.proofs.Tables.{in_profile, kept_well_formed}
+use Rattle.cr_touched.specs.Parts.{is_key_of, part}
+use Rattle.cr_touched.specs.Shown.{AreKeptOf}
+use Rattle.cr_world.specs.declared.refusal.Refusal.{Refusal}
+use Rattle.cr_world.specs.State.{State, changes_name, now, other_rows, row_of, rows_named, rows_or, tables_named}
+use Rattle.cr_changed.specs.Changed.{Changes, IsRefused, Leads}
+use Rattle.cr_sought.specs.Sought.{assigns_key, sought_key}
+use Rattle.cr_sought.specs.Laws.{of_key}
+use Rattle.cr_sought.specs.Writes.{delete_over, update_over}
+use Rattle.cr_sought.proofs.Answers.{answers_by_key}
+use Rattle.cr_sought.proofs.Writes.{deletes_by_key, updates_by_key}
+use Rattle.cr_session.specs.Lookup.{IsLook, IsSeenAt, IsSought, Looks, ShowsDelete, ShowsQuery, ShowsUpdate}
+use Rattle.cr_session.specs.Sessions.{Sees, state_of}
+use Rattle.cr_session.proofs.Seeing.{now_kept}
+use Rattle.cr_session.proofs.Selecting.{tables_are}
+
+-- ---- one key
+
+same_turned : (a b : List ℕ) → same_bytes a b ≡ same_bytes b a
+same_turned a b = both_ways _ _ (λ e. same_itself_by b a (sym (same_is a b e))) (λ e. same_itself_by a b (sym (same_is b a e))) where
+  same_itself_by : (x y : List ℕ) → x ≡ y → same_bytes x y ≡ true
+  same_itself_by x y e = subst (λ (z : List ℕ). same_bytes x z ≡ true) e (same_itself x)
+
+or_false : (a : Bool) → (a || false) ≡ a
+or_false true = refl
+or_false false = refl
+
+one_key : (pk : List ℕ) → is_key_of (pk ∷ []) ≡ same_bytes pk
+one_key pk = λ i x. (or_false (same_bytes x pk) ∙ same_turned x pk) i
+
+found_here : (p : Table → Bool) (s t : Table) (b : Bool) (later : Option Table) → p s ≡ b → cond b (Some s) later ≡ Some t → (later ≡ Some t → p t ≡ true) → p t ≡ true
+found_here p s t true later is e more = let same : s ≡ t = cc in ap p (sym same) ∙ is
+found_here p s t false later is e more = more e
+
+found_passes : (p : Table → Bool) (t : Table) (ts : List Table) → find p ts ≡ Some t → p t ≡ true
+found_passes p t [] e = absurd (let z : ⊥ = cc in z)
+found_passes p t (s ∷ ts) e = found_here p s t (p s) (find p ts) refl e (found_passes p t ts)
+
+-- the rows of what is no table of its own
+abbrev other_rows_seen : Snapshot → List ℕ → List Row
+other_rows_seen s name = if same_bytes changes_name name then map row_of s.cells else []
+
+-- ---- the table of the name, and what shows of the key
+
+module _ (means : Means) (params : List Value) (h : Holding) (sound : IsSound h) (pending : Option (List Change)) (name : List ℕ) (terms : List Expr) (pk : List ℕ)
+    (is : IsSought means params pending h.tables name terms pk) (snap : Snapshot) (at : IsSeenAt (state_of h pending) name pk snap) where
+  abbrev st : State
+  st = state_of h pending
+
+  abbrev def : TableDef
+  def = is.def
+
+  name_is : def.name ≡ name
+  name_is = same_is def.name name (found_passes (is_named name) (replicated def) h.tables is.there)
+
+  there : Replicates h.tables def
+  there = subst (λ (x : List ℕ). find (is_named x) h.tables ≡ Some (replicated def)) (sym name_is) is.there
+
+  are : AreKept h.tables (now st)
+  are = now_kept h pending sound is.fit
+
+  keyed : has_key def ≡ true
+  keyed = (in_profile h.tables (now st) def are there).key
+
+  defaults : has_defaults def ≡ true
+  defaults = (member_has IsStored h.tables (replicated def) are.stored (found_member (is_named def.name) h.tables (replicated def) there)).defaults
+
+  kept_of_it : AreKeptOf def (now st)
+  kept_of_it = record { unbeaten = are.unbeaten; well_formed = kept_well_formed h.tables (now st) def are there }
+
+  kept_is : snap.kept ≡ of_key def pk (now st)
+  kept_is = at.kept ∙ (λ i. part (sym name_is i) (one_key pk i) (now st))
+
+  -- ---- a query
+
+  rows_there : rows_named st name ≡ rows (now st) def
+  rows_there = ap (λ (o : Option Table). rows_or (now st) o (other_rows st name)) is.there
+
+  rows_here : rows_seen snap name ≡ rows (of_key def pk (now st)) def
+  rows_here =
+      (λ i. rows_or (kept_is i) (find (is_named name) (at.named.tables i)) (other_rows_seen snap name))
+      ∙ ap (λ (o : Option Table). rows_or (of_key def pk (now st)) o (other_rows_seen snap name)) is.there
+
+  pub query_by_key : (q : Query) (j : Joined) → q.joined ≡ j ∷ [] → j.is_left ≡ false → name_of j ≡ name → q.filter ≡ terms → ShowsQuery means params q st snap
+  query_by_key q j one inner named same = λ most.
+      let m = meaning most means params in
+      (λ i. answer m (query q) (tables_named st (map name_of (one i))))
+      ∙ (λ i. answer m (query q) (rows_named st (named i) ∷ []))
+      ∙ (λ i. answer m (query q) (rows_there i ∷ []))
+      ∙ answers_by_key means params most def (now st) q j pk is.bytes keyed kept_of_it one inner (ap (sought_key def params) same ∙ is.told)
+      ∙ (λ i. answer m (query q) (sym rows_here i ∷ []))
+      ∙ (λ i. answer m (query q) (rows_seen snap (sym named i) ∷ []))
+      ∙ (λ i. answer m (query q) (map (λ j. rows_seen snap (name_of j)) (sym one i)))
+
+  -- ---- writes
+
+  module _ (d : TableDef) (same_name : d.name ≡ name) (held : Replicates h.tables d) where
+    same_def : def ≡ d
+    same_def = let e : find (is_named name) h.tables ≡ Some (replicated d) = subst (λ (x : List ℕ). find (is_named x) h.tables ≡ Some (replicated d)) same_name held in
+        let both : Some (replicated def) ≡ Some (replicated d) = sym is.there ∙ e in
+        let same : replicated def ≡ replicated d = cc in
+        ap (λ (t : Table). t.definition) same
+
+  module _ (u : Update) (same_name : u.relation.definition.name ≡ name) (held : Replicates h.tables u.relation.definition) (same : u.filter ≡ terms) (stays : assigns_key u ≡ false) where
+    made : (result : Result (List Change) Refusal) → Changes means params def snap.site snap.kept (update_over snap.kept u) result (λ changes. changes) → Changes means params def st.holding.site (now st) (update_over (now st) u) result (λ changes. changes)
+    made result c =
+        updates_by_key means params def st.holding.site (now st) u pk result (λ changes. changes) is.bytes keyed defaults kept_of_it (sym (same_def u.relation.definition same_name held)) stays (ap (sought_key def params) same ∙ is.told)
+        (subst (λ (kept : List Change). Changes means params def st.holding.site kept (update_over kept u) result (λ changes. changes)) kept_is
+        (subst (λ (site : List ℕ). Changes means params def site snap.kept (update_over snap.kept u) result (λ changes. changes)) at.named.site c))
+
+    pub update_by_key : ShowsUpdate means params u st snap
+    update_by_key = record {
+      named = at.named;
+      leads = λ changes l. subst (λ (t : TableDef). Leads means params t st.holding.site (now st) (update_over (now st) u) changes) (same_def u.relation.definition same_name held)
+          (made (Ok changes) (subst (λ (t : TableDef). Leads means params t snap.site snap.kept (update_over snap.kept u) changes) (sym (same_def u.relation.definition same_name held)) l));
+      refused = λ f l. subst (λ (t : TableDef). IsRefused means params t st.holding.site (now st) (update_over (now st) u) f) (same_def u.relation.definition same_name held)
+          (made (Err f) (subst (λ (t : TableDef). IsRefused means params t snap.site snap.kept (update_over snap.kept u) f) (sym (same_def u.relation.definition same_name held)) l));
+    }
+
+  module _ (d : Delete) (same_name : d.relation.definition.name ≡ name) (held : Replicates h.tables d.relation.definition) (same : d.filter ≡ terms) where
+    left : (result : Result (List Change) Refusal) → Changes means params def snap.site snap.kept (delete_over snap.kept d) result (λ changes. changes) → Changes means params def st.holding.site (now st) (delete_over (now st) d) result (λ changes. changes)
+    left result c =
+        deletes_by_key means params def st.holding.site (now st) d pk result (λ changes. changes) is.bytes keyed defaults kept_of_it (sym (same_def d.relation.definition same_name held)) (ap (sought_key def params) same ∙ is.told)
+        (subst (λ (kept : List Change). Changes means params def st.holding.site kept (delete_over kept d) result (λ changes. changes)) kept_is
+        (subst (λ (site : List ℕ). Changes means params def site snap.kept (delete_over snap.kept d) result (λ changes. changes)) at.named.site c))
+
+    pub delete_by_key : ShowsDelete means params d st snap
+    delete_by_key = record {
+      named = at.named;
+      leads = λ changes l. subst (λ (t : TableDef). Leads means params t st.holding.site (now st) (delete_over (now st) d) changes) (same_def d.relation.definition same_name held)
+          (left (Ok changes) (subst (λ (t : TableDef). Leads means params t snap.site snap.kept (delete_over snap.kept d) changes) (sym (same_def d.relation.definition same_name held)) l));
+      refused = λ f l. subst (λ (t : TableDef). IsRefused means params t st.holding.site (now st) (delete_over (now st) d) f) (same_def d.relation.definition same_name held)
+          (left (Err f) (subst (λ (t : TableDef). IsRefused means params t snap.site snap.kept (delete_over snap.kept d) f) (sym (same_def d.relation.definition same_name held)) l));
+    }
+
+-- ---- all that shows there
+
+module _ (means : Means) (params : List Value) (st : State) (snap : Snapshot) (is : IsSeen st snap) where
+  pub query_seen : (q : Query) → ShowsQuery means params q st snap
+  query_seen q = λ most. λ i. answer (meaning most means params) (query q) (tables_are st snap is q.joined i)
+
+  pub update_seen : (u : Update) → ShowsUpdate means params u st snap
+  update_seen u = record {
+    named = named st snap is;
+    leads = λ changes l. subst (λ (site : List ℕ). Leads means params u.relation.definition site (now st) (update_over (now st) u) changes) is.site
+        (subst (λ (kept : List Change). Leads means params u.relation.definition snap.site kept (update_over kept u) changes) is.kept l);
+    refused = λ f l. subst (λ (site : List ℕ). IsRefused means params u.relation.definition site (now st) (update_over (now st) u) f) is.site
+        (subst (λ (kept : List Change). IsRefused means params u.relation.definition snap.site kept (update_over kept u) f) is.kept l);
+  }
+
+  pub delete_seen : (d : Delete) → ShowsDelete means params d st snap
+  delete_seen d = record {
+    named = named st snap is;
+    leads = λ changes l. subst (λ (site : List ℕ). Leads means params d.relation.definition site (now st) (delete_over (now st) d) changes) is.site
+        (subst (λ (kept : List Change). Leads means params d.relation.definition snap.site kept (delete_over kept d) changes) is.kept l);
+    refused = λ f l. subst (λ (site : List ℕ). IsRefused means params d.relation.definition site (now st) (delete_over (now st) d) f) is.site
+        (subst (λ (kept : List Change). IsRefused means params d.relation.definition snap.site kept (delete_over kept d) f) is.kept l);
+  }
+
+-- what was looked for at one place shows at the same place then
+pub shows_then : (Shows : State → Snapshot → Type 0) (old new : State) (snap : Snapshot) → Looks (Shows old) old new (Ok snap) → Shows new snap
+shows_then Shows old new snap l = subst (λ (x : State). Shows x snap) (sym l.same) l.looks
+
+-- the same of tables that are the same
+pub retabled : (means : Means) (params : List Value) (pending : Option (List Change)) (ts us : List Table) (name : List ℕ) (terms : List Expr) (pk : List ℕ) → ts ≡ us
+    → IsSought means params pending ts name terms pk → IsSought means params pending us name terms pk
+retabled means params pending ts us name terms pk e is = subst (λ (x : List Table). IsSought means params pending x name terms pk) e is
+
+-- what is seen of the key that the terms tell
+pub looked_at : (means : Means) (params : List Value) (old new : State) (name : List ℕ) (terms : List Expr) (pk : List ℕ) (result : Result Snapshot CellsError)
+    → IsSought means params old.pending old.holding.tables name terms pk → Looks (IsSeenAt old name pk) old new result → Looks (IsLook means params old name terms) old new result
+looked_at means params old new name terms pk (Ok s) is l = record { same = l.same; looks = inr (pk, is, l.looks) }
+looked_at means params old new name terms pk (Err e) is l = record { same = l.same; looks = l.looks }
+
+-- all that shows there
+pub looked_round : (means : Means) (params : List Value) (old new : State) (name : List ℕ) (terms : List Expr) (result : Result Snapshot CellsError)
+    → Sees old new result → Looks (IsLook means params old name terms) old new result
+looked_round means params old new name terms (Ok s) l = record { same = l.same; looks = inl l.sees }
+looked_round means params old new name terms (Err e) l = record { same = l.same; looks = l.sees }
+
+-- from one of both to what suffices
+pub suffices : (P Q : Snapshot → Type 0) (old new : State) (result : Result Snapshot CellsError) → ((s : Snapshot) → P s → Q s) → Looks P old new result → Looks Q old new result
+suffices P Q old new (Ok s) f l = record { same = l.same; looks = f s l.looks }
+suffices P Q old new (Err e) f l = record { same = l.same; looks = l.looks }
+
+pub sees_enough : (Q : Snapshot → Type 0) (old new : State) (result : Result Snapshot CellsError) → ((s : Snapshot) → IsSeen old s → Q s) → Sees old new result → Looks Q old new result
+sees_enough Q old new (Ok s) f l = record { same = l.same; looks = f s l.sees }
+sees_enough Q old new (Err e) f l = record { same = l.same; looks = l.sees }
+
+-- a list of one
+pub one_of : {X : Type 0} (xs : List X) (x : X) → 1 ≤ length xs → length xs < 2 → x ≡ get_or xs 0 x → xs ≡ x ∷ []
+one_of [] x some few is = absurd (omega (arith, some))
+one_of (y ∷ []) x some few is = λ i. sym is i ∷ []
+one_of (y ∷ z ∷ zs) x some few is = absurd (omega (arith, few))
+
+-- ---- what suffices for a statement, of what is looked for
+
+module _ (means : Means) (params : List Value) (h : Holding) (sound : IsSound h) (pending : Option (List Change)) (s : Snapshot) where
+  abbrev here : State
+  here = state_of h pending
+
+  pub query_looked : (q : Query) (j : Joined) (name : List ℕ) (terms : List Expr) → q.joined ≡ j ∷ [] → j.is_left ≡ false → name ≡ name_of j → terms ≡ q.filter → IsLook means params here name terms s → ShowsQuery means params q here s
+  query_looked q j name terms one inner named same (inl is) = query_seen means params here s is q
+  query_looked q j name terms one inner named same (inr (pk, sought, at)) = query_by_key means params h sound pending name terms pk sought s at q j one inner (sym named) (sym same)
+
+  pub update_looked : (u : Update) (name : List ℕ) (terms : List Expr) → name ≡ u.relation.definition.name → terms ≡ u.filter → assigns_key u ≡ false → Replicates h.tables u.relation.definition
+      → IsLook means params here name terms s → ShowsUpdate means params u here s
+  update_looked u name terms named same stays held (inl is) = update_seen means params here s is u
+  update_looked u name terms named same stays held (inr (pk, sought, at)) = update_by_key means params h sound pending name terms pk sought s at u (sym named) held (sym same) stays
+
+  pub delete_looked : (d : Delete) (name : List ℕ) (terms : List Expr) → name ≡ d.relation.definition.name → terms ≡ d.filter → Replicates h.tables d.relation.definition
+      → IsLook means params here name terms s → ShowsDelete means params d here s
+  delete_looked d name terms named same held (inl is) = delete_seen means params here s is d
+  delete_looked d name terms named same held (inr (pk, sought, at)) = delete_by_key means params h sound pending name terms pk sought s at d (sym named) held (sym same)

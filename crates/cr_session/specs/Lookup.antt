@@ -1,0 +1,73 @@
+-- What a statement of one table sees whose WHERE may tell the key of its row. Source: this project's own.
+use Rattle.std.specs.Prelude.{◌≡◌, ◌⊎◌, ℕ, find, List, [], ◌∷◌, Option, Some, Result, MatchResult}
+use Rattle.std.specs.Option.{ForSome}
+use Rattle.cr_value.specs.declared.value.Value.{Value}
+use Rattle.cr_lattice.specs.declared.change.Change.{Change}
+use Rattle.cr_lattice.specs.declared.table.Table.{Table}
+use Rattle.cr_lattice.specs.declared.table.TableDef.{TableDef}
+use Rattle.cr_cells.specs.declared.store.CellsError.{CellsError}
+use Rattle.cr_cells.specs.Calls.{IsRefusal}
+use Rattle.cr_cells.specs.Tables.{AreWellFormed, is_named}
+use Rattle.cr_term.specs.declared.expr.Expr.{Expr}
+use Rattle.cr_term.specs.declared.query.Delete.{Delete}
+use Rattle.cr_term.specs.declared.query.Query.{Query}
+use Rattle.cr_term.specs.declared.query.Resolved.TheVariants as r
+use Rattle.cr_term.specs.declared.query.Update.{Update}
+use Rattle.cr_scalar.specs.Host.{Host as Means}
+use Rattle.cr_query.specs.Query.{Row}
+use Rattle.cr_meaning.specs.Meaning.{meaning}
+use Rattle.cr_exec.specs.Answers.{Stage}
+use Rattle.cr_replica.specs.declared.snapshot.Snapshot.{Snapshot}
+use Rattle.cr_snapshot.specs.Seen.{IsNamed, IsSeen}
+use Rattle.cr_taken.specs.Taken.{replicated}
+use Rattle.cr_touched.specs.Parts.{is_key_of, part}
+use Rattle.cr_language.specs.Sql.{view}
+use Rattle.cr_world.specs.declared.refusal.Refusal.{Refusal}
+use Rattle.cr_world.specs.State.{State, now}
+use Rattle.cr_world.specs.Statement.{evaluated}
+use Rattle.cr_answer.specs.Selecting.{answer_seen}
+use Rattle.cr_changed.specs.Changed.{IsRefused, Leads, delete_wants, update_wants}
+use Rattle.cr_sought.specs.Sought.{OrdersBytes, sought_key}
+use Rattle.cr_sought.specs.Writes.{delete_over, update_over}
+
+-- The terms tell the key of the only row of the replicated table of a name on which they can be true; and the changes of the
+-- open transaction are well formed for the tables.
+pub record IsSought (means : Means) (params : List Value) (pending : Option (List Change)) (tables : List Table) (name : List ℕ) (terms : List Expr) (pk : List ℕ) : Type 0 where
+  pub bytes : OrdersBytes means
+  pub fit : ForSome pending (AreWellFormed tables)
+  pub def : TableDef
+  pub there : find (is_named name) tables ≡ Some (replicated def)
+  pub told : sought_key def params terms ≡ Some pk
+
+-- The snapshot has the names of a session that stands there, and of one key of a table what shows there.
+pub record IsSeenAt (st : State) (name pk : List ℕ) (s : Snapshot) : Type 0 where
+  pub named : IsNamed st s
+  pub kept : s.kept ≡ part name (is_key_of (pk ∷ [])) (now st)
+
+-- It has all that a session sees that stands there, or that of the key that the terms tell.
+abbrev pub IsLook : Means → List Value → State → List ℕ → List Expr → Snapshot → Type 0
+IsLook means params st name terms s =
+    IsSeen st s ⊎ ((pk : List ℕ) × IsSought means params st.pending st.holding.tables name terms pk × IsSeenAt st name pk s)
+
+-- a reading leaves a session where it stands, and gives a snapshot, or memory or the store does not suffice
+pub record Looks (is : Snapshot → Type 0) (old new : State) (result : Result Snapshot CellsError) : Type 0 where
+  pub same : new ≡ old
+  pub looks : MatchResult result is IsRefusal
+
+-- ---- what suffices for a statement
+
+-- a query answers over the snapshot what it answers over all that shows there
+abbrev pub ShowsQuery : Means → List Value → Query → State → Snapshot → Type 0
+ShowsQuery means params q st s = (most : Option ℕ) → evaluated (meaning most means params) st (view (r.Select q)) ≡ answer_seen s q (meaning most means params)
+
+-- What a write of a table makes over the snapshot, changes or a refusal, it makes over all that shows there.
+pub record ShowsWrite (means : Means) (params : List Value) (def : TableDef) (over whole : Stage (List Row)) (st : State) (s : Snapshot) : Type 0 where
+  pub named : IsNamed st s
+  pub leads : (changes : List Change) → Leads means params def s.site s.kept over changes → Leads means params def st.holding.site (now st) whole changes
+  pub refused : (f : Refusal) → IsRefused means params def s.site s.kept over f → IsRefused means params def st.holding.site (now st) whole f
+
+abbrev pub ShowsUpdate : Means → List Value → Update → State → Snapshot → Type 0
+ShowsUpdate means params u st s = ShowsWrite means params u.relation.definition (update_wants s u) (update_over (now st) u) st s
+
+abbrev pub ShowsDelete : Means → List Value → Delete → State → Snapshot → Type 0
+ShowsDelete means params d st s = ShowsWrite means params d.relation.definition (delete_wants s d) (delete_over (now st) d) st s

@@ -1,0 +1,216 @@
+//! What a statement of one table sees: what is kept of one key, where its WHERE tells the key of the only row that it can be
+//! about, and else all.
+
+use crate::session::Session;
+use cr_cells::store::{Cells, CellsError};
+use cr_cells::tables::table_named;
+use cr_expr::given::Hosted;
+use cr_host::functions::Functions;
+use cr_lattice::table::{Items, Table};
+use cr_replica::snapshot::Snapshot;
+use cr_sought::key::{assigns_key, sought_key};
+use cr_sought::orders::compares_bytes;
+use cr_term::expr::Expr;
+use cr_term::query::{Delete, Query, Update};
+use cr_value::text::Bytes;
+use cr_value::value::Value;
+use std::alloc::{AllocError, Global};
+
+impl<C: Cells> Session<C> {
+    ghost use Rattle.std.specs.Prelude.{◌≡◌, true, IfOk};
+    ghost use Rattle.std.specs.Option.{ForSome};
+    ghost use Rattle.cr_cells.specs.Calls.{is_want, UnlessWant};
+    ghost use Rattle.cr_cells.specs.Holding.{IsSound};
+    ghost use Rattle.cr_fit.specs.Suited.{HasRelation};
+    ghost use Rattle.cr_lattice.specs.Keep.{keep};
+    ghost use Rattle.cr_replica.specs.Snapshots.{IsOfNames};
+    ghost use Rattle.cr_snapshot.specs.Seen.{IsNamed, catalog_of};
+    ghost use Rattle.cr_session.specs.Lookup.{IsLook, IsSeenAt, IsSought, Looks, ShowsDelete, ShowsQuery, ShowsUpdate};
+    ghost use Rattle.cr_session.specs.Performing.{is_table, not_replicated};
+    ghost use Rattle.cr_session.specs.Sessions.{standing};
+    ghost use Rattle.cr_world.specs.Causes.{Free};
+
+    // The key of the only row of the replicated table of a name on which the terms can be true, where they tell it.
+    fn sought<F: Functions>(
+        &self,
+        alloc: Global,
+        functions: &F,
+        tables: &[Table],
+        name: &str,
+        terms: &[Expr],
+        params: &[Value],
+    ) -> Result<Option<Bytes>, AllocError>
+        ensures { IfOk result (λ key. ForSome key (IsSought (⟦<F as Hosted>⟧.means functions.now) params.now self.now.1 tables.now name.now terms.now)) }
+    {
+        let Some(table) = table_named(tables, name) else {
+            return Ok(None);
+        };
+        if !table.is_replicated || !self.is_of(tables) || !compares_bytes(functions) {
+            return Ok(None);
+        }
+        sought_key(alloc, &table.definition, terms, params)
+    }
+
+    // Of one key of a table what shows there, under these names.
+    fn see_key(
+        &mut self,
+        alloc: Global,
+        names: Snapshot,
+        name: &str,
+        key: Bytes,
+    ) -> Result<Snapshot, CellsError>
+        requires sound { C.is_clean self.old.0 → IsSound (C.holding self.old.0) }
+        requires named { C.is_clean self.old.0 → IsNamed (standing C.holding self.old) names }
+        ensures was_honest { C.is_honest self.new.0 → C.is_honest self.old.0 }
+        ensures was_clean { C.is_clean self.new.0 → C.is_clean self.old.0 }
+        ensures stays_clean { C.is_honest self.new.0 → C.is_clean self.old.0 → UnlessWant is_want result (C.is_clean self.new.0) }
+        ensures sees { C.is_clean self.new.0 → Looks (IsSeenAt (standing C.holding self.old) name.now key) (standing C.holding self.old) (standing C.holding self.new) result }
+        ensures names { IfOk result (IsOfNames names) }
+        ensures kept { IfOk result (λ snapshot. keep snapshot.kept ≡ snapshot.kept) }
+    {
+        let kept = match self.see_keys(alloc, name, &[key]) {
+            Ok(kept) => kept,
+            Err(error) => return Err(error),
+        };
+        let mut snapshot = names;
+        snapshot.kept = Items::new(kept);
+        Ok(snapshot)
+    }
+
+    // What a statement of the table of a name sees whose WHERE has these terms.
+    fn look<F: Functions>(
+        &mut self,
+        alloc: Global,
+        functions: &F,
+        names: Snapshot,
+        name: &str,
+        terms: &[Expr],
+        params: &[Value],
+    ) -> Result<Snapshot, CellsError>
+        requires sound { C.is_clean self.old.0 → IsSound (C.holding self.old.0) }
+        requires named { C.is_clean self.old.0 → IsNamed (standing C.holding self.old) names }
+        ensures was_honest { C.is_honest self.new.0 → C.is_honest self.old.0 }
+        ensures was_clean { C.is_clean self.new.0 → C.is_clean self.old.0 }
+        ensures stays_clean { C.is_honest self.new.0 → C.is_clean self.old.0 → UnlessWant is_want result (C.is_clean self.new.0) }
+        ensures looks { C.is_clean self.new.0
+            → Looks (IsLook (⟦<F as Hosted>⟧.means functions.now) params.now (standing C.holding self.old) name.now terms.now) (standing C.holding self.old) (standing C.holding self.new) result }
+        ensures names { IfOk result (IsOfNames names) }
+        ensures kept { IfOk result (λ snapshot. keep snapshot.kept ≡ snapshot.kept) }
+    {
+        match self.sought(
+            alloc,
+            functions,
+            names.tables.as_slice(),
+            name,
+            terms,
+            params,
+        )? {
+            Some(key) => self.see_key(alloc, names, name, key),
+            None => self.see(alloc, names),
+        }
+    }
+
+    /// What a query sees: of one table whose WHERE tells the key of its row, what is kept of that, else all.
+    pub(crate) fn look_for_query<F: Functions>(
+        &mut self,
+        alloc: Global,
+        functions: &F,
+        names: Snapshot,
+        query: &Query,
+        params: &[Value],
+    ) -> Result<Snapshot, CellsError>
+        requires sound { C.is_clean self.old.0 → IsSound (C.holding self.old.0) }
+        requires named { C.is_clean self.old.0 → IsNamed (standing C.holding self.old) names }
+        ensures was_honest { C.is_honest self.new.0 → C.is_honest self.old.0 }
+        ensures was_clean { C.is_clean self.new.0 → C.is_clean self.old.0 }
+        ensures stays_clean { C.is_honest self.new.0 → C.is_clean self.old.0 → UnlessWant is_want result (C.is_clean self.new.0) }
+        ensures looks { C.is_clean self.new.0
+            → Looks (ShowsQuery (⟦<F as Hosted>⟧.means functions.now) params.now query.now (standing C.holding self.old)) (standing C.holding self.old) (standing C.holding self.new) result }
+    {
+        let [joined] = query.joined.as_slice() else {
+            return self.see(alloc, names);
+        };
+        if joined.is_left {
+            return self.see(alloc, names);
+        }
+        let name = joined.relation.definition.name.as_str();
+        self.look(
+            alloc,
+            functions,
+            names,
+            name,
+            query.filter.as_slice(),
+            params,
+        )
+    }
+
+    /// What an UPDATE of a replicated table sees: where its WHERE tells the key of its row and it leaves keys as they are, what
+    /// is kept of that, else all.
+    pub(crate) fn look_for_update<F: Functions>(
+        &mut self,
+        alloc: Global,
+        functions: &F,
+        names: Snapshot,
+        update: &Update,
+        params: &[Value],
+    ) -> Result<Snapshot, CellsError>
+        requires sound { C.is_clean self.old.0 → IsSound (C.holding self.old.0) }
+        requires named { C.is_clean self.old.0 → IsNamed (standing C.holding self.old) names }
+        requires suits { HasRelation (catalog_of names) update.now.relation }
+        requires table { is_table update.now.relation.held ≡ true }
+        requires replicated { not_replicated update.now.relation ≡ Free }
+        ensures was_honest { C.is_honest self.new.0 → C.is_honest self.old.0 }
+        ensures was_clean { C.is_clean self.new.0 → C.is_clean self.old.0 }
+        ensures stays_clean { C.is_honest self.new.0 → C.is_clean self.old.0 → UnlessWant is_want result (C.is_clean self.new.0) }
+        ensures looks { C.is_clean self.new.0
+            → Looks (ShowsUpdate (⟦<F as Hosted>⟧.means functions.now) params.now update.now (standing C.holding self.old)) (standing C.holding self.old) (standing C.holding self.new) result }
+        ensures names { IfOk result (IsOfNames names) }
+        ensures kept { IfOk result (λ snapshot. keep snapshot.kept ≡ snapshot.kept) }
+    {
+        if assigns_key(update) {
+            return self.see(alloc, names);
+        }
+        let name = update.relation.definition.name.as_str();
+        self.look(
+            alloc,
+            functions,
+            names,
+            name,
+            update.filter.as_slice(),
+            params,
+        )
+    }
+
+    /// What a DELETE from a replicated table sees: where its WHERE tells the key of its row, what is kept of that, else all.
+    pub(crate) fn look_for_delete<F: Functions>(
+        &mut self,
+        alloc: Global,
+        functions: &F,
+        names: Snapshot,
+        delete: &Delete,
+        params: &[Value],
+    ) -> Result<Snapshot, CellsError>
+        requires sound { C.is_clean self.old.0 → IsSound (C.holding self.old.0) }
+        requires named { C.is_clean self.old.0 → IsNamed (standing C.holding self.old) names }
+        requires suits { HasRelation (catalog_of names) delete.now.relation }
+        requires table { is_table delete.now.relation.held ≡ true }
+        requires replicated { not_replicated delete.now.relation ≡ Free }
+        ensures was_honest { C.is_honest self.new.0 → C.is_honest self.old.0 }
+        ensures was_clean { C.is_clean self.new.0 → C.is_clean self.old.0 }
+        ensures stays_clean { C.is_honest self.new.0 → C.is_clean self.old.0 → UnlessWant is_want result (C.is_clean self.new.0) }
+        ensures looks { C.is_clean self.new.0
+            → Looks (ShowsDelete (⟦<F as Hosted>⟧.means functions.now) params.now delete.now (standing C.holding self.old)) (standing C.holding self.old) (standing C.holding self.new) result }
+        ensures names { IfOk result (IsOfNames names) }
+        ensures kept { IfOk result (λ snapshot. keep snapshot.kept ≡ snapshot.kept) }
+    {
+        let name = delete.relation.definition.name.as_str();
+        self.look(
+            alloc,
+            functions,
+            names,
+            name,
+            delete.filter.as_slice(),
+            params,
+        )
+    }
+}

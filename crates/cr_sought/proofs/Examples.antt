@@ -1,0 +1,102 @@
+-- Which key terms ask for, on known examples. The tables are `t(id INTEGER PRIMARY KEY, name TEXT)` and
+-- `p(room INTEGER, name TEXT, PRIMARY KEY (room, name))`.
+use Rattle.std.specs.Prelude.{◌≡◌, refl, ℕ, pos, false, List, [], ◌∷◌, codes, Option, Some, None}
+use Rattle.cr_value.specs.declared.value.Value.TheVariants.{Null, Int, Text}
+use Rattle.cr_value.specs.declared.affinity.Affinity.{Affinity}
+use Rattle.cr_value.specs.declared.affinity.Affinity.TheVariants as affinity
+use Rattle.cr_value.specs.Affinity.{int_of_text}
+use Rattle.cr_value.specs.Packing.{packed}
+use Rattle.cr_lattice.specs.declared.table.ColumnDef.{ColumnDef}
+use Rattle.cr_lattice.specs.declared.table.TableDef.{TableDef}
+use Rattle.cr_term.specs.declared.operator.Comparison.TheVariants as c
+use Rattle.cr_term.specs.declared.expr.Expr.{Expr, out-roll-Expr}
+use Rattle.cr_term.specs.declared.expr.Expr.TheFolds.{fold-roll-Expr}
+use Rattle.cr_term.specs.Nodes as e
+use Rattle.cr_term.specs.Operands.{binary, comparison}
+use Rattle.cr_sought.specs.Sought.{pin, sought_key}
+
+ruleset folds = (fold-roll-Expr, out-roll-Expr)
+
+abbrev nocase : List ℕ
+nocase = codes "nocase"
+
+abbrev field : ℕ → Affinity → Expr
+field at a = e.Column (record { source = 0; place = at; at = at; affinity = a; collation = binary })
+
+abbrev column : List ℕ → Affinity → Option ℕ → ColumnDef
+column name a key = record { name = name; affinity = a; collation = binary; not_null = false; key = key; default = Null }
+
+abbrev id : Expr
+id = field 0 affinity.Integer
+
+abbrev name : Expr
+name = field 1 affinity.Text
+
+abbrev text : List ℕ → Expr
+text t = e.Literal (Text t)
+
+abbrev one : Expr
+one = e.Literal (Int (pos 1))
+
+-- ---- one column
+
+-- id = 1
+key_of_a_number : pin [] 0 (comparison c.Equal id one) ≡ Some (Int (pos 1))
+key_of_a_number = simp folds refl
+
+-- '1' = id: the text takes on NUMERIC
+key_of_a_text : pin [] 0 (comparison c.Equal (text (codes "1")) id) ≡ Some (Int (pos 1))
+unfolding int_of_text
+key_of_a_text = simp folds refl
+
+-- name = ?2
+by_parameter : pin (Null ∷ Text (codes "b") ∷ []) 1 (comparison c.Equal name (e.Param 2)) ≡ Some (Text (codes "b"))
+by_parameter = simp folds refl
+
+-- name = 'a' COLLATE NOCASE, name = id, id IS 1 and id < 1 pin nothing, and id = 1 does not pin the name
+no_nocase : pin [] 1 (comparison c.Equal name (e.Collate (text (codes "a")) nocase)) ≡ None
+no_nocase = simp folds refl
+
+no_column : pin [] 1 (comparison c.Equal name id) ≡ None
+no_column = simp folds refl
+
+no_is : pin [] 0 (comparison c.Is id one) ≡ None
+no_is = simp folds refl
+
+no_less : pin [] 0 (comparison c.Less id one) ≡ None
+no_less = simp folds refl
+
+no_other : pin [] 1 (comparison c.Equal id one) ≡ None
+no_other = simp folds refl
+
+-- ---- keys
+
+abbrev t : TableDef
+t = record { name = codes "t"; columns = column (codes "id") affinity.Integer (Some 1) ∷ column (codes "name") affinity.Text None ∷ [] }
+
+abbrev p : TableDef
+p = record {
+  name = codes "p";
+  columns = column (codes "room") affinity.Integer (Some 2) ∷ column (codes "name") affinity.Text (Some 1) ∷ [];
+}
+
+-- id = 1 AND id = 2: by the first
+first_term : sought_key t [] (comparison c.Equal id one ∷ comparison c.Equal id (e.Literal (Int (pos 2))) ∷ [])
+    ≡ Some (packed (Int (pos 1) ∷ []))
+unfolding sought_key
+first_term = simp folds refl
+
+-- room = 1 AND name = 'a', in the order of the key
+two_columns : sought_key p [] (comparison c.Equal id one ∷ comparison c.Equal name (text (codes "a")) ∷ [])
+    ≡ Some (packed (Text (codes "a") ∷ Int (pos 1) ∷ []))
+unfolding sought_key
+two_columns = simp folds refl
+
+-- room = 1 alone, and id = NULL
+one_of_two : sought_key p [] (comparison c.Equal id one ∷ []) ≡ None
+unfolding sought_key
+one_of_two = simp folds refl
+
+no_null : sought_key t [] (comparison c.Equal id (e.Literal Null) ∷ []) ≡ None
+unfolding sought_key
+no_null = simp folds refl

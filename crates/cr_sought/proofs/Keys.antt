@@ -1,0 +1,164 @@
+-- A row whose key is not the one that is sought has another value in a key column than the terms pin it to.
+use Rattle.std.proofs.Common.{◌≡◌, ◌⊎◌, inl, inr, ℕ, ◌+◌, ◌≤◌, suc, Bool, true, false, ◌&&◌, cond, List, [], ◌∷◌, ◌++◌, length, get_or, Option, Some, None, refl, sym, ap, ◌∙◌, add-one, arith, length-append, subst, Ordering, Less, Equal, Greater}
+use Rattle.std.specs.Prelude.{find, nat_le}
+use Rattle.std.specs.List.{zip, position, position_from, filter_map, cons_option}
+use Rattle.std.specs.Option.{option_map, option_map_or, option_and_then}
+use Rattle.std.proofs.lemmas.Cmp.{tied_itself}
+use Rattle.std.proofs.lemmas.Iterator.Adapters.{position_from-zero}
+use Rattle.cr_value.specs.declared.value.Value.{Value}
+use Rattle.cr_value.specs.declared.value.Value.TheVariants.{Null}
+use Rattle.cr_value.specs.Order.{value_cmp}
+use Rattle.cr_value.specs.OrderLaws.{value_total, value_exact}
+use Rattle.cr_value.specs.Packing.{packed, size_limit}
+use Rattle.cr_lattice.specs.declared.table.ColumnDef.{ColumnDef}
+use Rattle.cr_lattice.specs.declared.table.TableDef.{TableDef}
+use Rattle.cr_lattice.specs.Check.{stands_at}
+use Rattle.cr_lattice.proofs.Tested.{split}
+use Rattle.cr_delta.specs.Key.{key_part, key_places, key_values, key_of}
+use Rattle.cr_term.specs.declared.expr.Expr.{Expr}
+use Rattle.cr_bags.specs.Bags.{gather, joins, single}
+use Rattle.cr_query.specs.Query.{Row}
+use Rattle.cr_sought.specs.Sought.{pinned, can_pack, key_from, sought_part, sought_key}
+
+-- ---- the place of a column
+
+later : (p : ColumnDef → Bool) (i : ℕ) (cols : List ColumnDef)
+    → position_from p (i + 1) cols ≡ option_map (λ k. k + 1) (position_from p i cols)
+later p i [] = refl
+later p i (col ∷ cols) =
+    let next = position_from p (i + 1) cols in
+    let far = position_from p (i + 1 + 1) cols in
+    elim (p col) as (λ b. cond b (Some (i + 1)) far ≡ option_map (λ k. k + 1) (cond b (Some i) next)) [
+      | true ↦ refl
+      | false ↦ later p (i + 1) cols
+    ]
+
+one_on : (v : Value) (row : Row) (o : Option ℕ)
+    → option_map (λ at. get_or (v ∷ row) at Null) (option_map (λ k. k + 1) o) ≡ option_map (λ at. get_or row at Null) o
+one_on v row None = refl
+one_on v row (Some k) = let e : k + 1 ≡ suc k = add-one k in rw e refl
+
+-- the value beside the first column that passes
+beside : (p : ColumnDef → Bool) (cols : List ColumnDef) (row : Row) → length row ≡ length cols
+    → option_map (λ x. x.1) (find (λ x. p x.0) (zip cols row)) ≡ option_map (λ at. get_or row at Null) (position_from p 0 cols)
+beside p [] row wide = refl
+beside p (col ∷ cols) [] wide = absurd (omega (arith, wide))
+beside p (col ∷ cols) (v ∷ row) wide =
+    elim (split (p col)) [
+      | inl so ↦ rw so refl
+      | inr not_so ↦
+          rw not_so
+          (beside p cols row (omega (arith, wide))
+          ∙ sym (one_on v row (position_from p 0 cols))
+          ∙ ap (option_map (λ at. get_or (v ∷ row) at Null)) (sym (later p 0 cols)))
+    ]
+
+part_at : (def : TableDef) (row : Row) (place : ℕ) → length row ≡ length def.columns
+    → key_part def row place ≡ option_map (λ at. get_or row at Null) (position (stands_at place) def.columns)
+unfolding key_part
+part_at def row place wide =
+    beside (stands_at place) def.columns row wide
+    ∙ ap (option_map (λ at. get_or row at Null)) (sym (position_from-zero (stands_at place) def.columns))
+
+-- ---- values that are the same or are not
+
+same_or_not : (a b : Value) → (a ≡ b) ⊎ (a ≡ b → ⊥)
+same_or_not a b = by (value_cmp a b) refl where
+  other : (o : Ordering) → value_cmp a b ≡ o → (o ≡ Equal → ⊥) → a ≡ b → ⊥
+  other o e untied same = untied (sym e ∙ ap (λ v. value_cmp v b) same ∙ tied_itself value_total b)
+
+  by : (o : Ordering) → value_cmp a b ≡ o → (a ≡ b) ⊎ (a ≡ b → ⊥)
+  by Less e = inr (other Less e (λ tied. absurd cc))
+  by Equal e = inl (value_exact a b e)
+  by Greater e = inr (other Greater e (λ tied. absurd cc))
+
+-- the terms pin a column to a value that the row does not have there
+pub record Differs (params : List Value) (terms : List Expr) (row : Row) : Type 0 where
+  pub at : ℕ
+  pub wanted : Value
+  pub pins : pinned params terms at ≡ Some wanted
+  pub differs : get_or row at Null ≡ wanted → ⊥
+
+-- ---- the key
+
+some_is : {A : Type 0} (a b : A) → Some a ≡ Some b → a ≡ b
+some_is a b e = cc
+
+module _ (def : TableDef) (params : List Value) (terms : List Expr) where
+  abbrev part : ℕ → Option (List Value)
+  part = sought_part def params terms
+
+  -- what is gathered of one place and the others
+  joined : (o p : Option (List Value)) (vs : List Value) → joins o p ≡ Some vs
+      → (us : List Value) × (ws : List Value) × (o ≡ Some us) × (p ≡ Some ws) × (us ++ ws ≡ vs)
+  joined None p vs e = absurd cc
+  joined (Some us) None vs e = absurd cc
+  joined (Some us) (Some ws) vs e = (us, ws, refl, refl, some_is (us ++ ws) vs e)
+
+  at_most_one : (place : ℕ) (us : List Value) → part place ≡ Some us → length us ≤ 1
+  at_most_one place us e = by (position (stands_at place) def.columns) e where
+    one : (o : Option Value) → option_map single o ≡ Some us → length us ≤ 1
+    one None h = absurd cc
+    one (Some v) h = let l = ap length (some_is (single v) us h) in omega (arith, l)
+
+    by : (o : Option ℕ) → option_map_or (λ at. option_map single (pinned params terms at)) o (Some []) ≡ Some us → length us ≤ 1
+    by None h = let l = ap length (some_is [] us h) in omega (arith, l)
+    by (Some at) h = one (pinned params terms at) h
+
+  -- a key has no more values than there are places
+  pub few : (places : List ℕ) (vs : List Value) → gather part places ≡ Some vs → length vs ≤ length places
+  few [] vs e = let l = ap length (some_is [] vs e) in omega (arith, l)
+  few (p ∷ ps) vs e =
+      let j = joined (part p) (gather part ps) vs e in
+      let one = at_most_one p j.0 j.2 in
+      let rest = few ps j.1 j.3 in
+      let l = ap length j.4 in
+      let sum = length-append j.0 j.1 in
+      omega (arith, one, rest, l, sum)
+
+  module _ (row : Row) (wide : length row ≡ length def.columns) where
+    abbrev Meets : List ℕ → List Value → Type 0
+    Meets places vs = (filter_map (key_part def row) places ≡ vs) ⊎ Differs params terms row
+
+    -- one place more
+    more : (place : ℕ) (ps : List ℕ) (us ws : List Value) → part place ≡ Some us → Meets ps ws → Meets (place ∷ ps) (us ++ ws)
+    more place ps us ws e (inr d) = inr d
+    more place ps us ws e (inl rest) = by (position (stands_at place) def.columns) refl e where
+      is : (o : Option ℕ) → position (stands_at place) def.columns ≡ o
+          → filter_map (key_part def row) (place ∷ ps) ≡ cons_option (option_map (λ at. get_or row at Null) o) ws
+      is o h = (λ i. cons_option ((part_at def row place wide ∙ ap (option_map (λ at. get_or row at Null)) h) i) (rest i))
+
+      one : (at : ℕ) → position (stands_at place) def.columns ≡ Some at → (o : Option Value) → pinned params terms at ≡ o
+          → option_map single o ≡ Some us → Meets (place ∷ ps) (us ++ ws)
+      one at h None pins g = absurd cc
+      one at h (Some v) pins g = elim (same_or_not (get_or row at Null) v) [
+        | inl same ↦ inl (is (Some at) h ∙ ap (λ x. x ∷ ws) same ∙ ap (λ l. l ++ ws) (some_is (single v) us g))
+        | inr differs ↦ inr (record { at = at; wanted = v; pins = pins; differs = differs })
+      ]
+
+      by : (o : Option ℕ) → position (stands_at place) def.columns ≡ o
+          → option_map_or (λ at. option_map single (pinned params terms at)) o (Some []) ≡ Some us → Meets (place ∷ ps) (us ++ ws)
+      by None h g = inl (is None h ∙ ap (λ l. l ++ ws) (some_is [] us g))
+      by (Some at) h g = one at h (pinned params terms at) refl g
+
+    meets : (places : List ℕ) (vs : List Value) → gather part places ≡ Some vs → Meets places vs
+    meets [] vs e = inl (some_is [] vs e)
+    meets (p ∷ ps) vs e =
+        let j = joined (part p) (gather part ps) vs e in
+        subst (Meets (p ∷ ps)) j.4 (more p ps j.0 j.1 j.2 (meets ps j.1 j.3))
+
+    -- a row of the table has the key that is sought, or another value than the terms want
+    pub key_or_differs : (pk : List ℕ) → sought_key def params terms ≡ Some pk → (key_of def row ≡ pk) ⊎ Differs params terms row
+    unfolding sought_key key_of key_values
+    key_or_differs pk e = by (gather part key_places) refl e where
+      is_packed : (b : Bool) (vs : List Value) → cond b (Some (packed vs)) None ≡ Some pk → packed vs ≡ pk
+      is_packed true vs h = some_is (packed vs) pk h
+      is_packed false vs h = absurd cc
+
+      by : (o : Option (List Value)) → gather part key_places ≡ o → option_and_then key_from o ≡ Some pk
+          → (packed (filter_map (key_part def row) key_places) ≡ pk) ⊎ Differs params terms row
+      by None g h = absurd cc
+      by (Some vs) g h = elim (meets key_places vs g) [
+        | inl same ↦ inl (ap packed same ∙ is_packed (can_pack vs && nat_le (length (packed vs)) size_limit) vs h)
+        | inr d ↦ inr d
+      ]

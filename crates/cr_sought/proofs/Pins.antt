@@ -1,0 +1,230 @@
+-- A term that pins a column is quiet, and not true on a row that has another value there.
+use Rattle.std.proofs.Common.{◌≡◌, inl, inr, ℕ, Bool, true, false, ◌&&◌, ◌||◌, if◌then◌else◌, cond, List, [], ◌∷◌, ◌++◌, map, get_or, Option, Some, None, Ok, refl, sym, ap, subst, ◌∙◌, Ordering, Less, Equal, Greater}
+use Rattle.std.specs.Prelude.{◌-◌, ◌==◌}
+use Rattle.std.specs.List.{list_any}
+use Rattle.std.specs.Option.{option_map_or, option_and_then, option_or}
+use Rattle.std.specs.FinSet.{int_cmp-IsAntisymmetric}
+use Rattle.std.proofs.lemmas.Bool.{eqb-true}
+use Rattle.std.proofs.lemmas.List.Folds.{list_any-append}
+use Rattle.cr_value.specs.declared.value.Value.{Value}
+use Rattle.cr_value.specs.declared.value.Value.TheVariants.{Null, Int, Text, Blob}
+use Rattle.cr_value.specs.Affinity.{applied}
+use Rattle.cr_value.specs.Order.{value_cmp}
+use Rattle.cr_value.specs.OrderLaws.{bytes_exact, value_total}
+use Rattle.cr_value.proofs.Fields.{chosen, provided, some_is}
+use Rattle.cr_lattice.specs.Check.{same_bytes}
+use Rattle.cr_lattice.proofs.Tested.{or_left, or_right}
+use Rattle.cr_delta.proofs.Members.{same_is}
+use Rattle.cr_term.specs.declared.expr.Column.{Column as Field}
+use Rattle.cr_term.specs.declared.expr.When.{When}
+use Rattle.cr_term.specs.declared.operator.Comparison.TheVariants as c
+use Rattle.cr_term.specs.declared.operator.Adjusted.{Adjusted}
+use Rattle.cr_term.specs.declared.operator.Adjusted.TheVariants.{Neither, Left, Right}
+use Rattle.cr_term.specs.declared.operator.Meeting.{Meeting}
+use Rattle.cr_term.specs.declared.expr.Expr.{Expr, out-Expr, roll-Expr, map-Expr}
+use Rattle.cr_term.specs.declared.expr.Expr.TheOpen.{Expr-F, When-F, Literal, Param, Column, Compare, Collate}
+use Rattle.cr_term.specs.declared.expr.Expr.TheFolds.{fold-Expr, fold-When, fold-roll-Expr, ind-Expr}
+use Rattle.cr_term.specs.Operands.{binary}
+use Rattle.cr_term.specs.Same.{Layer}
+use Rattle.cr_term.specs.Terms.{plain, plain_layer, plain_arm, quiet_layer, quiet}
+use Rattle.cr_scalar.specs.Compare.{value_cmp_by, adjusted_left, adjusted_right, meets, passes, compared}
+use Rattle.cr_scalar.specs.Host.{Host}
+use Rattle.cr_scalar.specs.Meaning.{Meant, and_then, bounded}
+use Rattle.cr_scalar.specs.Numbers.{truth, truth_value, is_null}
+use Rattle.cr_expr.specs.Setting.{Setting}
+use Rattle.cr_expr.specs.Eval.{Meaning, Arm, node, arm, layer, meaning, arm_of, eval_of}
+use Rattle.cr_expr.specs.Laws.{unlimited}
+use Rattle.cr_expr.proofs.Nodes.{one_node}
+use Rattle.cr_query.specs.Query.{Row, Meaning as Meant_by, is_true, holds}
+use Rattle.cr_query.specs.Plans.{is_false}
+use Rattle.cr_query.proofs.PlanLaws.{rejected}
+use Rattle.cr_meaning.specs.View.{Ordered}
+use Rattle.cr_meaning.specs.View as view
+use Rattle.cr_meaning.specs.Meaning as queries
+use Rattle.cr_meaning.proofs.Limits.{safe}
+use Rattle.cr_sought.specs.Sought.{no_arm, column_layer, column_under, constant_layer, constant, is_column, on_left, on_right, pin_in, pin, pinned, OrdersBytes}
+use Rattle.cr_sought.proofs.Keys.{Differs}
+
+-- ---- what operands are
+
+-- the operand is plain, and has this value
+abbrev Has : Setting → Expr → Value → Type 0
+Has s e v = (plain e ≡ true) × (eval_of (unlimited s) e ≡ Ok v)
+
+abbrev Says : Expr → Type 0
+Says e = (s : Setting)
+    → ((c : Field) → column_under e ≡ Some c → Has s e (get_or s.row c.at Null))
+    × ((v : Value) → constant s.params e ≡ Some v → Has s e v)
+
+abbrev Any : When → Type 0
+Any w = Unit {0}
+
+-- the same of a node
+abbrev NodeHas : Setting → Expr-F Expr When → Value → Type 0
+NodeHas s x v =
+    (plain_layer (map-Expr Expr When Bool (Unit {0}) plain (fold-When Bool (Unit {0}) plain_layer plain_arm) x) ≡ true)
+    × (node (map-Expr Expr When Meaning Arm meaning arm_of x) (unlimited s) ≡ Ok v)
+
+-- a fold of a node's parts, by a layer that takes nothing of arms
+abbrev parts : {A : Type 0} → (Expr-F A (Unit {0}) → A) → Expr-F Expr When → Expr-F A (Unit {0})
+parts {A} f x = map-Expr Expr When A (Unit {0}) (fold-Expr A (Unit {0}) f no_arm) (fold-When A (Unit {0}) f no_arm) x
+
+abbrev NodeSays : Expr-F Expr When → Type 0
+NodeSays x = (s : Setting)
+    → ((c : Field) → column_layer (parts column_layer x) ≡ Some c → NodeHas s x (get_or s.row c.at Null))
+    × ((v : Value) → constant_layer s.params (parts (constant_layer s.params) x) ≡ Some v → NodeHas s x v)
+
+rolls : (x : Expr-F Expr When) → NodeSays x → Says (roll-Expr x)
+rolls x says s = (
+  λ c h. has (get_or s.row c.at Null) ((says s).0 c (sym (fold-roll-Expr (Option Field) (Unit {0}) column_layer no_arm x) ∙ h)),
+  λ v h. has v ((says s).1 v (sym (fold-roll-Expr (Option Value) (Unit {0}) (constant_layer s.params) no_arm x) ∙ h)),
+) where
+  has : (v : Value) → NodeHas s x v → Has s (roll-Expr x) v
+  has v h = (
+    fold-roll-Expr Bool (Unit {0}) plain_layer plain_arm x ∙ h.0,
+    ap (λ (m : Meaning). m (unlimited s)) (fold-roll-Expr Meaning Arm node arm x) ∙ h.1,
+  )
+
+step : (y : Expr-F ((e : Expr) × Says e) ((w : When) × Any w))
+    → NodeSays (map-Expr ((e : Expr) × Says e) ((w : When) × Any w) Expr When (λ e. e.0) (λ w. w.0) y)
+step (Literal v) s = (λ c h. absurd cc, λ w h. (refl, ap Ok (some_is v w h)))
+step (Param n) s = (λ c h. absurd cc, λ w h. (refl, ap Ok (some_is (get_or s.params (n - 1) Null) w h)))
+step (Column k) s = (λ c h. (refl, ap (λ (f : Field). Ok (get_or s.row f.at Null)) (some_is k c h)), λ w h. absurd cc)
+step (Collate x name) s = (λ c h. within ((x.1 s).0 c h), λ w h. within ((x.1 s).1 w h)) where
+  within : {v : Value} → Has s x.0 v → (plain x.0 ≡ true) × (and_then (meaning x.0 (unlimited s)) (bounded None) ≡ Ok v)
+  within h = (h.0, ap (λ m. and_then m (bounded None)) h.1)
+step _ s = (λ c h. absurd cc, λ w h. absurd cc)
+
+says : (e : Expr) → Says e
+says = ind-Expr Says Any (λ x y is. rolls x (subst NodeSays is (step y))) (λ w v is. tt)
+
+column_has : (s : Setting) (e : Expr) (at : ℕ) → is_column at e ≡ true → Has s e (get_or s.row at Null)
+column_has s e at h = by (column_under e) refl h where
+  by : (o : Option Field) → column_under e ≡ o → option_map_or (λ c. c.at == at) o false ≡ true → Has s e (get_or s.row at Null)
+  by None is h = absurd cc
+  by (Some c) is h = subst (λ n. Has s e (get_or s.row n Null)) (eqb-true c.at at h) ((says e s).0 c is)
+
+-- ---- what ties
+
+tied_is : (order : List ℕ → List ℕ → Ordering) → ((s t : List ℕ) → order s t ≡ Equal → s ≡ t) → (a b : Value)
+    → value_cmp_by order a b ≡ Equal → a ≡ b
+tied_is order exact Null Null e = refl
+tied_is order exact (Int m) (Int n) e = ap Int (int_cmp-IsAntisymmetric m n e)
+tied_is order exact (Text s) (Text t) e = ap Text (exact s t e)
+tied_is order exact (Blob s) (Blob t) e = ap Blob (bytes_exact s t e)
+tied_is order exact _ _ e = absurd cc
+
+module _ (host : Host) (bytes : OrdersBytes host) (m : Meeting) (is : same_bytes m.collation binary ≡ true) where
+  exact : (s t : List ℕ) → host.order m.collation s t ≡ Equal → s ≡ t
+  exact s t e = bytes s t (ap (λ name. host.order name s t) (sym (same_is m.collation binary is)) ∙ e)
+
+  passes_is : (o : Ordering) → Some (passes c.Equal o) ≡ Some true → o ≡ Equal
+  passes_is Less e = absurd cc
+  passes_is Equal e = refl
+  passes_is Greater e = absurd cc
+
+  -- where two operands are equal, what the comparison makes of them is the same
+  met : (v w : Value) → compared host.order c.Equal m v w ≡ Some true → adjusted_left m.adjusted v ≡ adjusted_right m.adjusted w
+  met v w e = by (is_null v || is_null w) e where
+    by : (b : Bool) → (if b then None else Some (passes c.Equal (meets host.order m v w))) ≡ Some true
+        → adjusted_left m.adjusted v ≡ adjusted_right m.adjusted w
+    by true h = absurd cc
+    by false h =
+        tied_is (host.order m.collation) exact (adjusted_left m.adjusted v) (adjusted_right m.adjusted w)
+        (passes_is (meets host.order m v w) h)
+
+of_right : (a : Adjusted) (v u w : Value) → on_right a u ≡ Some w → adjusted_left a v ≡ adjusted_right a u → v ≡ w
+of_right Neither v u w e h = h ∙ some_is u w e
+of_right (Left a) v u w e h = absurd cc
+of_right (Right a) v u w e h = h ∙ some_is (applied a u) w e
+
+of_left : (a : Adjusted) (v u w : Value) → on_left a u ≡ Some w → adjusted_left a u ≡ adjusted_right a v → v ≡ w
+of_left Neither v u w e h = sym h ∙ some_is u w e
+of_left (Left a) v u w e h = sym h ∙ some_is (applied a u) w e
+of_left (Right a) v u w e h = absurd cc
+
+-- ---- one term
+
+untrue : (t : Option Bool) → (t ≡ Some true → ⊥) → queries.is_so (truth (truth_value t)) ≡ Some false
+untrue (Some true) never = absurd (never refl)
+untrue (Some false) never = refl
+untrue None never = refl
+
+then_some : {A B : Type 0} (f : A → Option B) (o : Option A) (b : B) → option_and_then f o ≡ Some b
+    → (a : A) × (o ≡ Some a) × (f a ≡ Some b)
+then_some f None b e = absurd cc
+then_some f (Some a) b e = (a, refl, e)
+
+module _ (host : Host) (bytes : OrdersBytes host) (params : List Value) (row : Row) where
+  abbrev here : Setting
+  here = queries.at_row None host params row
+
+  abbrev told : Meant → Option Bool
+  told m = option_and_then (λ v. queries.is_so (truth v)) (queries.value_of (and_then m (bounded None)))
+
+  abbrev Misses : Layer → Type 0
+  Misses y = (quiet_layer y ≡ true) × (told (layer (map-Expr Expr (When-F Expr (Unit {0})) Meaning Arm meaning arm_of y) here) ≡ Some false)
+
+  two_miss : (m : Meeting) (x y : Expr) (v w : Value) → Has here x v → Has here y w → (compared host.order c.Equal m v w ≡ Some true → ⊥)
+      → Misses (Compare c.Equal m x y)
+  two_miss m x y v w hx hy never = (
+    λ i. hx.0 i && hy.0 i,
+    (λ i. told (and_then (hx.1 i) (λ v. and_then (hy.1 i) (λ w. Ok (truth_value (compared host.order c.Equal m v w))))))
+        ∙ untrue (compared host.order c.Equal m v w) never,
+  )
+
+  misses : (y : Layer) (at : ℕ) (w : Value) → pin_in params at y ≡ Some w → (get_or row at Null ≡ w → ⊥) → Misses y
+  misses (Compare c.Equal m x y) at w h differs =
+      let b = provided (same_bytes m.collation binary) _ w h in
+      elim (chosen (is_column at x) _ _ (Some w) b.1) [
+        | inl l ↦ (
+            let k = then_some (on_right m.adjusted) (constant params y) w l.1 in
+            two_miss m x y (get_or row at Null) k.0 (column_has here x at l.0) ((says y here).1 k.0 k.1)
+            (λ so. differs (of_right m.adjusted (get_or row at Null) k.0 w k.2 (met host bytes m b.0 (get_or row at Null) k.0 so))))
+        | inr other ↦ (
+            let r = provided (is_column at y) _ w other.1 in
+            let k = then_some (on_left m.adjusted) (constant params x) w r.1 in
+            two_miss m x y k.0 (get_or row at Null) ((says x here).1 k.0 k.1) (column_has here y at r.0)
+            (λ so. differs (of_left m.adjusted (get_or row at Null) k.0 w k.2 (met host bytes m b.0 k.0 (get_or row at Null) so))))
+      ]
+  misses _ at w h differs = absurd cc
+
+  module _ (most : Option ℕ) where
+    abbrev m : Meant_by Ordered
+    m = queries.meaning most host params
+
+    term_misses : (e : Expr) (at : ℕ) (w : Value) → pin params at e ≡ Some w → (get_or row at Null ≡ w → ⊥)
+        → (quiet e ≡ true) × (is_true m (view.plain e) row ≡ Some false)
+    term_misses e at w h differs =
+        let k = misses (out-Expr e) at w h differs in
+        let so : Meant → Option Bool = λ m. option_and_then (λ v. queries.is_so (truth v)) (queries.value_of m) in
+        (k.0, ap (λ b. so (eval_of (queries.at_row (cond b None most) host params row) e)) k.0 ∙ ap so (one_node here e) ∙ k.1)
+
+    -- ---- all terms
+
+    abbrev is_missed : Ordered → Bool
+    is_missed e = m.quiet e && is_false (is_true m e row)
+
+    abbrev any_missed : List Expr → Bool
+    any_missed terms = list_any is_missed (map view.plain terms)
+
+    some_miss : (terms : List Expr) (at : ℕ) (w : Value) → pinned params terms at ≡ Some w → (get_or row at Null ≡ w → ⊥)
+        → any_missed terms ≡ true
+    some_miss [] at w h differs = absurd cc
+    some_miss (e ∷ es) at w h differs =
+        elim (pin params at e) as (λ o. pin params at e ≡ o → option_or o (pinned params es at) ≡ Some w → any_missed (e ∷ es) ≡ true) [
+          | None ↦ λ is k. or_right _ _ (some_miss es at w k differs)
+          | Some u ↦ λ is k. (let t = term_misses e at w (is ∙ k) differs in or_left _ _ (λ i. t.0 i && is_false (t.1 i)))
+        ] refl h
+
+    -- the same but for the order of values and aggregates, which no term asks for
+    abbrev like : Meant_by Ordered
+    like = record m { over = λ e g. None; order = λ e. value_cmp }
+
+    -- terms that pin a column to another value than the row has there are not all true on it, and do not fault
+    pub rejects : (front : List Ordered) (terms : List Expr) → Differs params terms row
+        → holds m (front ++ map view.plain terms) row ≡ Some false
+    rejects front terms d =
+        rejected like (record { order_total = λ e. value_total; over_bag = λ e k cs ds s. refl }) (safe most host params)
+        (front ++ map view.plain terms) row
+        (list_any-append is_missed front (map view.plain terms) ∙ or_right _ _ (some_miss terms d.at d.wanted d.pins d.differs))

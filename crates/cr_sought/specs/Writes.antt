@@ -1,0 +1,48 @@
+-- An UPDATE or a DELETE whose terms tell the key of their row looks at what is kept of that key, and no more. Source: this
+-- project's own.
+use Rattle.std.specs.Prelude.{◌≡◌, ℕ, true, false, List, Some, Result}
+use Rattle.cr_value.specs.declared.value.Value.{Value}
+use Rattle.cr_lattice.specs.declared.change.Change.{Change}
+use Rattle.cr_lattice.specs.declared.table.TableDef.{TableDef}
+use Rattle.cr_lattice.specs.Profile.{has_key}
+use Rattle.cr_lattice.specs.Rows.{rows}
+use Rattle.cr_cells.specs.Tables.{has_defaults}
+use Rattle.cr_term.specs.declared.query.Update.{Update}
+use Rattle.cr_term.specs.declared.query.Delete.{Delete}
+use Rattle.cr_scalar.specs.Host.{Host}
+use Rattle.cr_query.specs.Query.{Row}
+use Rattle.cr_query.specs.Writes.{wanted_by_update, wanted_by_delete}
+use Rattle.cr_meaning.specs.View as view
+use Rattle.cr_exec.specs.Answers.{Stage}
+use Rattle.cr_world.specs.declared.refusal.Refusal.{Refusal}
+use Rattle.cr_touched.specs.Shown.{AreKeptOf}
+use Rattle.cr_changed.specs.Changed.{Changes}
+use Rattle.cr_sought.specs.Sought.{sought_key, assigns_key, OrdersBytes}
+use Rattle.cr_sought.specs.Laws.{of_key}
+
+-- the rows that a write wants of its table where this is kept
+abbrev pub update_over : List Change → Update → Stage (List Row)
+update_over kept w m = wanted_by_update m w.relation.definition.columns (view.update w) (rows kept w.relation.definition)
+
+abbrev pub delete_over : List Change → Delete → Stage (List Row)
+delete_over kept w m = wanted_by_delete m (view.delete w) (rows kept w.relation.definition)
+
+-- What a DELETE makes over what is kept of the key that its terms tell, changes or a refusal, it makes over all.
+abbrev pub DeletesByKey : Type 0 → Type 0
+DeletesByKey X =
+    (host : Host) (params : List Value) (def : TableDef) (site : List ℕ) (kept : List Change) (w : Delete) (pk : List ℕ)
+    (result : Result X Refusal) (changes_in : X → List Change)
+    → OrdersBytes host → has_key def ≡ true → has_defaults def ≡ true → AreKeptOf def kept
+    → w.relation.definition ≡ def → sought_key def params w.filter ≡ Some pk
+    → Changes host params def site (of_key def pk kept) (delete_over (of_key def pk kept) w) result changes_in
+    → Changes host params def site kept (delete_over kept w) result changes_in
+
+-- So it is with an UPDATE that leaves the key columns as they are.
+abbrev pub UpdatesByKey : Type 0 → Type 0
+UpdatesByKey X =
+    (host : Host) (params : List Value) (def : TableDef) (site : List ℕ) (kept : List Change) (w : Update) (pk : List ℕ)
+    (result : Result X Refusal) (changes_in : X → List Change)
+    → OrdersBytes host → has_key def ≡ true → has_defaults def ≡ true → AreKeptOf def kept
+    → w.relation.definition ≡ def → assigns_key w ≡ false → sought_key def params w.filter ≡ Some pk
+    → Changes host params def site (of_key def pk kept) (update_over (of_key def pk kept) w) result changes_in
+    → Changes host params def site kept (update_over kept w) result changes_in

@@ -1,0 +1,7 @@
+//! Statements that name the key of their row look at what is kept of that key, and no more.
+#![tactic(auto)]
+
+pub mod key;
+pub mod laws;
+pub mod orders;
+mod pin;
