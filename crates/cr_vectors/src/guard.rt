@@ -1,19 +1,14 @@
-//! The calls of a guard in turn, and what a listener hears.
+//! What a listener hears.
 
-use cr_guard::action::{Action, Auth, action_code, auth_code};
-use cr_guard::closures::{AuthorizerFn, CommitHookFn};
 use cr_guard::event::Event;
 use cr_guard::guard::Guard;
 use cr_guard::guarding::Guarding;
 use cr_guard::heard::{TableRows, have_rows_by_key, heard_of_tables};
 use cr_guard::listener::Listener;
-use cr_guard::policy::{PolicyRule, ReadRule};
-use cr_guard::samples::{Notes, denies_names, refuses_over_two};
+use cr_guard::samples::Notes;
 use cr_host::meaning::HostMeaning;
-use cr_lattice::change::Change;
 use cr_lattice::table::Items;
-use cr_told::reading::{T, changes, definition, rows_of};
-use cr_value::text::Text;
+use cr_told::reading::{T, definition, rows_of};
 use std::alloc::{AllocError, Global};
 use std::cell::RefCell;
 use std::rc::Rc;
@@ -40,51 +35,6 @@ impl HostMeaning for Host {
     ghost allows = { λ _. denies_names };
 
     ghost vetoes = { λ _. refuses_over_two };
-}
-
-// An answer to READ of `name` of a table.
-fn read_rule(alloc: Global, table: &str, answer: Auth) -> Result<PolicyRule, AllocError> {
-    Ok(PolicyRule::Read(ReadRule {
-        table: Text::from_str(alloc, table)?,
-        column: Text::from_str(alloc, "name")?,
-        answer,
-    }))
-}
-
-#[test]
-fn an_authorizer_answers_as_a_rule(rt: HostRuntime) -> Result<(), Fail> {
-    let alloc = rt.alloc();
-    let mut guard: Guard<Host> = Guard::new(alloc);
-    let answer: AuthorizerFn = Box::new(
-        alloc,
-        |action: Action, a: &str, b: &str| denies_names(action, a, b),
-    )?;
-    guard.set_authorizer(0, answer);
-    assert_eq!(rt; guard.ask(Action::Read, "t", "name"), Auth::Deny);
-    assert_eq!(rt; guard.ask(Action::Read, "t", "id"), Auth::Ok);
-    guard.policy(alloc, &read_rule(alloc, "t", Auth::Ignore)?)?;
-    assert_eq!(rt; guard.ask(Action::Read, "t", "name"), Auth::Deny);
-    guard.clear_authorizer();
-    assert_eq!(rt; guard.ask(Action::Read, "t", "name"), Auth::Ignore);
-    Ok(())
-}
-
-const TWO: &str = "t|1|-1|NULL|1|A|1 / t|1|name|'a'|1|A|1";
-
-const FOUR: &str =
-    "t|1|-1|NULL|1|A|1 / t|1|name|'a'|1|A|1 / t|2|-1|NULL|1|A|1 / t|2|name|'b'|1|A|1";
-
-#[test]
-fn a_commit_hook_vetoes_as_a_number(rt: HostRuntime) -> Result<(), Fail> {
-    let alloc = rt.alloc();
-    let (two, four) = (changes(alloc, TWO)?, changes(alloc, FOUR)?);
-    let mut guard: Guard<Host> = Guard::new(alloc);
-    let refuses: CommitHookFn = Box::new(alloc, |changes: &[Change]| refuses_over_two(changes))?;
-    guard.set_commit_hook(0, refuses);
-    assert!(rt; !guard.vetoes(&two) && guard.vetoes(&four));
-    guard.clear_commit_hook();
-    assert!(rt; !guard.vetoes(&four));
-    Ok(())
 }
 
 // A listener that writes where its host can read. A contract knows nothing of what a cell holds, so it notes nothing.
@@ -159,26 +109,4 @@ fn a_listener_hears_what_became_of_rows(rt: HostRuntime) -> Result<(), Fail> {
     assert_eq!(rt; told_events(alloc, &notes)?.len(), 3);
     assert!(rt; guard.take_listener().is_none());
     Ok(())
-}
-
-const CODES: &[(Action, u8)] = &[
-    (Action::CreateTable, 2),
-    (Action::Delete, 9),
-    (Action::Insert, 18),
-    (Action::Read, 20),
-    (Action::Select, 21),
-    (Action::Transaction, 22),
-    (Action::Update, 23),
-    (Action::AlterTable, 26),
-    (Action::Function, 31),
-];
-
-#[test]
-fn codes_are_those_of_sqlite(rt: HostRuntime) {
-    for &(action, code) in CODES {
-        assert!(rt; action_code(action) == code);
-    }
-    assert!(rt;
-        auth_code(Auth::Ok) == 0 && auth_code(Auth::Deny) == 1 && auth_code(Auth::Ignore) == 2
-    );
 }

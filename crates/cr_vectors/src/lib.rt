@@ -1,4 +1,4 @@
-//! What the lines of `vectors` can't show: stores, closures, files, devices that fail, and commits at random. A crate of
+//! What the lines of `vectors` can't show: stores, listeners, files, devices that fail, and commits at random. A crate of
 //! tests alone.
 #![tactic(auto)]
 
@@ -10,8 +10,6 @@ mod disk;
 mod fleet;
 #[cfg(test)]
 mod guard;
-#[cfg(test)]
-mod host;
 #[cfg(test)]
 mod replica;
 #[cfg(test)]

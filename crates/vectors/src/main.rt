@@ -6,6 +6,8 @@
 #![tactic(auto)]
 
 mod changes;
+mod guard;
+mod registry;
 mod values;
 
 use cr_told::error::ToldError;
@@ -21,7 +23,13 @@ fn answer(alloc: Global, call: &str, given: &str) -> Result<String, ToldError> {
     if let Some(answer) = values::answer(alloc, call, given)? {
         return Ok(answer);
     }
-    changes::answer(alloc, call, given)?.ok_or(ToldError::Form)
+    if let Some(answer) = changes::answer(alloc, call, given)? {
+        return Ok(answer);
+    }
+    if let Some(answer) = guard::answer(alloc, call, given)? {
+        return Ok(answer);
+    }
+    registry::answer(alloc, call, given)?.ok_or(ToldError::Form)
 }
 
 fn print_case<W: Write>(alloc: Global, line: &str, out: &mut W) -> io::Result<()> {

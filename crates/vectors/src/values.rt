@@ -97,7 +97,7 @@ fn literals(alloc: Global, text: &str) -> Result<Vec<Value>, ToldError> {
     Err(ToldError::Form)
 }
 
-fn order_word(order: Ordering) -> &'static str {
+pub(crate) fn order_word(order: Ordering) -> &'static str {
     match order {
         Ordering::Less => "less",
         Ordering::Equal => "equal",
