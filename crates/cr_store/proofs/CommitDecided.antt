@@ -5,7 +5,6 @@ use Rattle.std.specs.Prelude.{filter, int_lt}
 use Rattle.std.specs.List.{AllByRecursion}
 use Rattle.std.specs.Ordering.{int_eq}
 use Rattle.sqlite.specs.Effect.{Database}
-use Rattle.sqlite.specs.Order.{Row}
 use Rattle.sqlite_rules.specs.Lists.{Has}
 use Rattle.cr_rows.specs.Rows.{Lists}
 use Rattle.cr_lattice.specs.declared.change.Change.{Change}
@@ -15,6 +14,7 @@ use Rattle.cr_cells.specs.Calls.{is_past_limit}
 use Rattle.cr_cells.specs.Commit.{newly_kept, is_changed, stamped, greatest_version, cells_after, committed}
 use Rattle.cr_cells.specs.Holding.{Holding, changes_of, kept_of, IsStampedTo, IsSound}
 use Rattle.cr_cells.specs.Marks.{Mark, marks_after}
+use Rattle.cr_cells.specs.Tables.{AreWellFormed}
 use Rattle.cr_cells.proofs.MemberLemmas.{split, Among}
 use Rattle.cr_cells.proofs.CommitLemmas.{none_passes, unchanged_cells}
 use Rattle.cr_cells.proofs.NewLemmas.{news_are, some-newly_kept}
@@ -25,8 +25,11 @@ use Rattle.cr_store.specs.declared.outcome.Outcome.{Outcome}
 use Rattle.cr_store.specs.Committing.{is_none, left_by, IsDecided, HasCommitted}
 use Rattle.cr_store.specs.Plan.{is_new, gone_by, put_all, without_all, IsPlan}
 use Rattle.cr_store.specs.Rows.{cell_row, meta_rows, table_rows, mark_row}
-use Rattle.cr_store.specs.Shows.{Holds, Shows}
+use Rattle.cr_store.specs.declared.format.Format.TheVariants.{Second}
+use Rattle.cr_store.specs.Shows.{Shows, HasCells}
 use Rattle.cr_store.proofs.CommitCells.{IsToWrite, left_after, after_left}
+use Rattle.cr_store.proofs.MoveLemmas.{lists_moved}
+use Rattle.cr_store.proofs.NamedNews.{named_news}
 
 -- ---- whether something comes in
 
@@ -105,8 +108,8 @@ past_limit h more stamp p changed past plan some limit =
 
 pub decided : (h : Holding) (more : List Change) (d : Decision) → IsSound h → (int_eq h.version greatest_version ≡ false → d.stamp ≡ h.version +ℤ pos 1)
     → IsPlan h.cells (keep more) d.stamp d.plan → d.is_changed ≡ not (is_none d.plan.news.items) → (d.is_changed && int_eq h.version greatest_version) ≡ false
-    → d.version ≡ cond d.is_changed d.stamp h.version → IsDecided h more d
-decided h more d sound next plan some within version =
+    → d.version ≡ cond d.is_changed d.stamp h.version → AreWellFormed h.tables more → IsDecided h more d
+decided h more d sound next plan some within version well =
     let changed : d.is_changed ≡ is_changed (kept_of h) more = some ∙ plan_changes h.cells more d.stamp d.plan plan in
     let past : is_past_limit h more ≡ false = past_limit h more d.stamp d.plan d.is_changed false plan some (sym within) in
     elim (split (is_changed (kept_of h) more)) [
@@ -119,6 +122,7 @@ decided h more d sound next plan some within version =
             version = rw so (version ∙ ap (λ b. cond b d.stamp h.version) (changed ∙ so) ∙ stamp);
             to = λ s a. subst (λ v. Has (cells_after h.cells more v) s) stamp (Among-Has _ s (left_after h.cells more d.stamp d.plan.news.items d.plan.gone.items w s (Has-Among _ s a)));
             from = λ s a. Among-Has _ s (after_left h.cells more d.stamp d.plan.news.items d.plan.gone.items w s (Has-Among _ s (subst (λ v. Has (cells_after h.cells more v) s) (sym stamp) a)));
+            named = named_news h.tables h.cells more d.stamp d.plan well plan;
           })
       | inr not_so ↦ (
           let left : left_by d h.cells ≡ h.cells = nothing_left h.cells more d plan not_so in
@@ -129,56 +133,31 @@ decided h more d sound next plan some within version =
             version = rw not_so (version ∙ ap (λ b. cond b d.stamp h.version) (changed ∙ not_so));
             to = λ s a. subst (λ l. Has l s) (left ∙ sym after) a;
             from = λ s a. subst (λ l. Has l s) (after ∙ sym left) a;
+            named = named_news h.tables h.cells more d.stamp d.plan well plan;
           })
     ]
 
 -- ---- the rows
 
-pub Has-map : {X Y : Type 0} (f : X → Y) (xs : List X) (y : Y) → Has (map f xs) y → (x : X) × Has xs x × (y ≡ f x)
-Has-map f [] y h = absurd h
-Has-map f (x ∷ xs) y h =
-    elim h [
-      | inl here ↦ (x, inl refl, here)
-      | inr there ↦ (let r = Has-map f xs y there in (r.0, inr r.1, r.2))
-    ]
-
-pub map-Has : {X Y : Type 0} (f : X → Y) (xs : List X) (x : X) → Has xs x → Has (map f xs) (f x)
-map-Has f [] x h = absurd h
-map-Has f (y ∷ ys) x h =
-    elim h [
-      | inl here ↦ inl (ap f here)
-      | inr there ↦ inr (map-Has f ys x there)
-    ]
-
-row_moves : (ss ts : List Stamped) → ((s : Stamped) → Has ss s → Has ts s) → (x : Row) → Has (map cell_row ss) x → Has (map cell_row ts) x
-row_moves ss ts to x h = let r = Has-map cell_row ss x h in subst (Has (map cell_row ts)) (sym r.2) (map-Has cell_row ts r.0 (to r.0 r.1))
-
--- rows that show cells show the same cells in any other order
-pub lists_moved : (rows : List Row) (ss ts : List Stamped) → ((s : Stamped) → Has ss s → Has ts s) → ((s : Stamped) → Has ts s → Has ss s) → Lists rows (map cell_row ss) → Lists rows (map cell_row ts)
-lists_moved rows ss ts to from l = record {
-  apart = l.apart;
-  sound = λ r a. (let it = l.sound r a in (it.0, it.1, it.2, row_moves ss ts to it.1 it.3));
-  complete = λ x a. l.complete x (row_moves ts ss from x a);
-}
-
 -- what is written of a decision shows what is committed
 pub shows_committed : (db : Database) (h : Holding) (more : List Change) (peer : Option Mark) (d : Decision) → IsDecided h more d
-    → Holds db (meta_rows h.site d.version) (table_rows 1 h.tables) (map cell_row (left_by d h.cells)) (map mark_row (marks_after h.marks peer)) → Shows db (committed h more peer)
-shows_committed db h more peer d it held = record {
-  schema = held.schema;
-  meta_are = subst (λ v. Lists (db.trees 0) (meta_rows h.site v)) it.version held.meta_are;
-  tables_are = held.tables_are;
-  cells_are = lists_moved (db.trees 4) (left_by d h.cells) (cells_after h.cells more (h.version +ℤ pos 1)) it.to it.from held.cells_are;
-  marks_are = held.marks_are;
+    → HasCells db h.tables (meta_rows Second h.site d.version) (table_rows 1 h.tables) [] (map mark_row (marks_after h.marks peer)) (left_by d h.cells) → Shows db (committed h more peer)
+shows_committed db h more peer d it has = record {
+  schema = has.held.schema;
+  meta_are = subst (λ v. Lists (db.trees 0) (meta_rows Second h.site v)) it.version has.held.meta_are;
+  tables_are = has.held.tables_are;
+  old_are = has.held.old_are;
+  cells_are = lists_moved (cell_row Second h.tables) (db.trees 8) (left_by d h.cells) (cells_after h.cells more (h.version +ℤ pos 1)) it.to it.from has.held.cells_are;
+  marks_are = has.held.marks_are;
 }
 
 -- as code goes: the stamp and the version are those of the decision
 pub has_committed : (db : Database) (h : Holding) (more : List Change) (peer : Option Mark) (d : Decision) (o : Outcome) (stamp version : ℤ) → IsDecided h more d → stamp ≡ d.stamp → version ≡ d.version
-    → Holds db (meta_rows h.site version) (table_rows 1 h.tables) (map cell_row (without_all stamp d.plan.gone.items (put_all d.plan.news.items h.cells))) (map mark_row (marks_after h.marks peer))
+    → HasCells db h.tables (meta_rows Second h.site version) (table_rows 1 h.tables) [] (map mark_row (marks_after h.marks peer)) (without_all stamp d.plan.gone.items (put_all d.plan.news.items h.cells))
     → o.version ≡ version → o.marks.items ≡ marks_after h.marks peer → o.is_changed ≡ d.is_changed → HasCommitted db h more peer o
-has_committed db h more peer d o stamp version it same_stamp same_version held o_version marks changed =
-    let by_version = subst (λ v. Holds db (meta_rows h.site v) (table_rows 1 h.tables) (map cell_row (without_all stamp d.plan.gone.items (put_all d.plan.news.items h.cells))) (map mark_row (marks_after h.marks peer))) same_version held in
-    let by_stamp = subst (λ v. Holds db (meta_rows h.site d.version) (table_rows 1 h.tables) (map cell_row (without_all v d.plan.gone.items (put_all d.plan.news.items h.cells))) (map mark_row (marks_after h.marks peer))) same_stamp by_version in
+has_committed db h more peer d o stamp version it same_stamp same_version has o_version marks changed =
+    let by_version = subst (λ v. HasCells db h.tables (meta_rows Second h.site v) (table_rows 1 h.tables) [] (map mark_row (marks_after h.marks peer)) (without_all stamp d.plan.gone.items (put_all d.plan.news.items h.cells))) same_version has in
+    let by_stamp = subst (λ v. HasCells db h.tables (meta_rows Second h.site d.version) (table_rows 1 h.tables) [] (map mark_row (marks_after h.marks peer)) (without_all v d.plan.gone.items (put_all d.plan.news.items h.cells))) same_stamp by_version in
     record {
       shows = shows_committed db h more peer d it by_stamp;
       version = o_version ∙ same_version ∙ it.version;

@@ -1,5 +1,5 @@
 -- What a store holds once a commit is written.
-use Rattle.std.proofs.Common.{◌≡◌, ◌≤ℤ◌, pos, ℤ, List, Option, refl, sym, ◌∙◌, subst}
+use Rattle.std.proofs.Common.{◌≡◌, ◌≤ℤ◌, pos, ℤ, List, Option, refl, sym, ap, ◌∙◌, subst}
 use Rattle.std.specs.Option.{ForSome}
 use Rattle.std.specs.List.Sorted.{IsStrictlySortedBy}
 use Rattle.sqlite.specs.Effect.{Database}
@@ -14,12 +14,14 @@ use Rattle.cr_cells.specs.Tables.{AreWellFormed}
 use Rattle.cr_cells.proofs.CellLemmas.{strict_cells}
 use Rattle.cr_cells.proofs.CommitLemmas.{sorted_kept}
 use Rattle.cr_cells.proofs.SoundLemmas.{sound_committed}
+use Rattle.cr_store.specs.declared.format.Format.TheVariants.{Second}
 use Rattle.cr_store.specs.declared.known.Known.{Known}
 use Rattle.cr_store.specs.declared.outcome.Outcome.{Outcome}
 use Rattle.cr_store.specs.Committing.{HasCommitted, IsUndecided}
 use Rattle.cr_store.specs.Kept.{holding_of}
 use Rattle.cr_store.specs.Shows.{Shows, cells_in}
-use Rattle.cr_store.proofs.CellRows.{cells_shown}
+use Rattle.cr_store.proofs.OrdinalLemmas.{named_cells}
+use Rattle.cr_store.proofs.StoreHolding.{cells_back}
 
 pub sorted_cells : (h : Holding) → IsSound h → IsStrictlySortedBy cell_cmp h.cells
 sorted_cells h sound = strict_cells h.cells (sorted_kept h.cells sound.kept)
@@ -27,7 +29,8 @@ sorted_cells h sound = strict_cells h.cells (sorted_kept h.cells sound.kept)
 -- a database that shows a sound holding, beside what is known of it, is that holding
 pub holding_is : (db : Database) (h : Holding) (k : Known) → Shows db h → IsSound h → k.tables.items ≡ h.tables → k.site ≡ h.site → k.version ≡ h.version → k.marks.items ≡ h.marks → holding_of db k ≡ h
 holding_is db h k shows sound tables site version marks =
-    let cells : cells_in (db.trees 4) ≡ h.cells = cells_shown (db.trees 4) h.cells shows.cells_are (sorted_cells h sound) in
+    let cells : cells_in Second k.tables.items (db.trees 8) ≡ h.cells = ap (λ ts. cells_in Second ts (db.trees 8)) tables
+    ∙ cells_back Second h.tables (db.trees 8) h.cells shows.cells_are (named_cells h sound) (sorted_cells h sound) in
     λ i. record { tables = tables i; site = site i; version = version i; cells = cells i; marks = marks i }
 
 -- what is known after a commit

@@ -1,5 +1,4 @@
 pub mod AskedRows
-pub mod CellRows
 pub mod CommitCells
 pub mod CommitDecided
 pub mod CommitHolding
@@ -12,7 +11,10 @@ pub mod InsertLemmas
 pub mod KnownLemmas
 pub mod ListedRows
 pub mod MakeLemmas
+pub mod MoveLemmas
+pub mod NamedNews
 pub mod OpenTexts
+pub mod OrdinalLemmas
 pub mod PlanLemmas
 pub mod ReadBack
 pub mod ReadLemmas

@@ -1,5 +1,5 @@
 -- Rows that are read as things of one kind, and which things rows list.
-use Rattle.std.proofs.Common.{◌≡◌, ℤ, List, ◌∷◌, map, Ordering, refl, sym, ap, subst, ◌∙◌}
+use Rattle.std.proofs.Common.{◌≡◌, ℤ, List, [], ◌∷◌, map, Ordering, refl, sym, ap, subst, ◌∙◌}
 use Rattle.std.specs.List.{AllByRecursion, list_any}
 use Rattle.std.specs.List.Sorted.{IsStrictlySortedBy}
 use Rattle.std.specs.Ordering.{eq_by_cmp, is_eq}
@@ -31,13 +31,11 @@ module _ {D : Type 0} {R : D → D → Ordering} (total : IsTotalOrder R) (exact
   set_in ws x = alike ws (set_of R ws) x (λ q. sym (list_any-set_of total exact (eq_by_cmp R q) ws))
 
   -- each thing has columns, and each row is read as one
-  module _ (row : D → Row) (of : Row → D) (IsRow : Row → Type 0) (P : D → Type 0)
-      (shows : (r : Row) → IsInteger (rowid r) → IsRow r → r ≡ Int (id_in (rowid r)) ∷ row (of r))
-      (back : (id : ℤ) (x : D) → of (Int id ∷ row x) ≡ x)
-      (stored : (id : ℤ) (x : D) → P x → IsRow (Int id ∷ row x)) where
+  module _ (row : D → Row) (of : Row → D) where
     -- rows that are read list what they are read as
-    pub lists_read : (rows : List Row) → AreStored IsRow rows → Lists rows (map row (set_of R (map of rows)))
-    lists_read rows it = record { apart = it.apart; sound = sound; complete = complete }
+    pub lists_read : (IsRow : Row → Type 0) → ((r : Row) → IsInteger (rowid r) → IsRow r → r ≡ Int (id_in (rowid r)) ∷ row (of r)) → (rows : List Row) → AreStored IsRow rows
+        → Lists rows (map row (set_of R (map of rows)))
+    lists_read IsRow shows rows it = record { apart = it.apart; sound = sound; complete = complete }
       where
         shown : (r : Row) → Has rows r → r ≡ Int (id_in (rowid r)) ∷ row (of r)
         shown r h = shows r (all_has (λ r. IsInteger (rowid r)) rows r it.numbered h) (all_has IsRow rows r it.each h)
@@ -51,32 +49,36 @@ module _ {D : Type 0} {R : D → D → Ordering} (total : IsTotalOrder R) (exact
             let r = has_mapped of rows d.0 (in_set (map of rows) d.0 d.1) in
             (id_in (rowid r.0), subst (Has rows) (shown r.0 r.1 ∙ ap (λ x. Int (id_in (rowid r.0)) ∷ x) (ap row (sym r.2) ∙ sym d.2)) r.1)
 
-    module _ (rows : List Row) (xs : List D) (it : Lists rows (map row xs)) where
-      -- what rows list in order is what they are read as
-      pub set_listed : IsStrictlySortedBy R xs → set_of R (map of rows) ≡ xs
-      set_listed up = same_sets total exact (map of rows) xs to from ∙ set_of_sorted total exact xs up
-        where
-          to : (d : D) → Has (map of rows) d → Has xs d
-          to d h =
-              let r = has_mapped of rows d h in
-              let l = it.sound r.0 r.1 in
-              let a = has_mapped row xs l.1 l.3 in
-              subst (Has xs) (sym (r.2 ∙ ap of l.2 ∙ ap (λ (x : Row). of (Int l.0 ∷ x)) a.2 ∙ back l.0 a.0)) a.1
+    -- what rows list in order is what they are read as
+    pub set_listed : ((id : ℤ) (x : D) → of (Int id ∷ row x) ≡ x) → (rows : List Row) (xs : List D) → Lists rows (map row xs) → IsStrictlySortedBy R xs → set_of R (map of rows) ≡ xs
+    set_listed back rows xs it up = same_sets total exact (map of rows) xs to from ∙ set_of_sorted total exact xs up
+      where
+        to : (d : D) → Has (map of rows) d → Has xs d
+        to d h =
+            let r = has_mapped of rows d h in
+            let l = it.sound r.0 r.1 in
+            let a = has_mapped row xs l.1 l.3 in
+            subst (Has xs) (sym (r.2 ∙ ap of l.2 ∙ ap (λ (x : Row). of (Int l.0 ∷ x)) a.2 ∙ back l.0 a.0)) a.1
 
-          from : (d : D) → Has xs d → Has (map of rows) d
-          from d h =
-              let c = it.complete (row d) (mapped_has row xs d h) in
-              subst (Has (map of rows)) (back c.0 d) (mapped_has of rows (Int c.0 ∷ row d) c.1)
+        from : (d : D) → Has xs d → Has (map of rows) d
+        from d h =
+            let c = it.complete (row d) (mapped_has row xs d h) in
+            subst (Has (map of rows)) (back c.0 d) (mapped_has of rows (Int c.0 ∷ row d) c.1)
 
-      -- and they can be read
-      pub stored_listed : AllByRecursion P xs → AreStored IsRow rows
-      stored_listed all = record { numbered = all_from _ rows numbered; apart = it.apart; each = all_from IsRow rows each }
-        where
-          numbered : (r : Row) → Has rows r → IsInteger (rowid r)
-          numbered r h = let l = it.sound r h in subst (λ z. IsInteger (rowid z)) (sym l.2) refl
+-- rows that list what can be written can be read
+pub stored_listed : {D : Type 0} (row : D → Row) (IsRow : Row → Type 0) (P : D → Type 0) → ((id : ℤ) (x : D) → P x → IsRow (Int id ∷ row x)) → (rows : List Row) (xs : List D) → Lists rows (map row xs)
+    → AllByRecursion P xs → AreStored IsRow rows
+stored_listed {D} row IsRow P stored rows xs it all = record { numbered = all_from _ rows numbered; apart = it.apart; each = all_from IsRow rows each }
+  where
+    numbered : (r : Row) → Has rows r → IsInteger (rowid r)
+    numbered r h = let l = it.sound r h in subst (λ z. IsInteger (rowid z)) (sym l.2) refl
 
-          each : (r : Row) → Has rows r → IsRow r
-          each r h =
-              let l = it.sound r h in
-              let a = has_mapped row xs l.1 l.3 in
-              subst IsRow (sym (l.2 ∙ ap (λ (x : Row). Int l.0 ∷ x) a.2)) (stored l.0 a.0 (all_has P xs a.0 all a.1))
+    each : (r : Row) → Has rows r → IsRow r
+    each r h =
+        let l = it.sound r h in
+        let a = has_mapped row xs l.1 l.3 in
+        subst IsRow (sym (l.2 ∙ ap (λ (x : Row). Int l.0 ∷ x) a.2)) (stored l.0 a.0 (all_has P xs a.0 all a.1))
+
+pub both_all : {D : Type 0} (P Q : D → Type 0) (xs : List D) → AllByRecursion P xs → AllByRecursion Q xs → AllByRecursion (λ x. P x × Q x) xs
+both_all P Q [] p q = tt
+both_all P Q (x ∷ xs) p q = ((p.0, q.0), both_all P Q xs p.1 q.1)

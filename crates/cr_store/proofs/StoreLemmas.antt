@@ -40,39 +40,53 @@ shown_open old new sql params rows s = rows_open old new sql s.0 _ rows s.0.retu
 
 -- ---- one table is changed
 
-module _ (old new : Database) (a b c d x : List Row) (it : Holds old a b c d) (schema : new.schema ≡ store_schema) where
-  pub with_meta : KeepsOthers store_schema 0 old.trees new.trees → Lists (new.trees 0) x → Holds new x b c d
+module _ (old new : Database) (a b o c d x : List Row) (it : Holds old a b o c d) (schema : new.schema ≡ store_schema) where
+  pub with_meta : KeepsOthers store_schema 0 old.trees new.trees → Lists (new.trees 0) x → Holds new x b o c d
   with_meta others are = record {
     schema = schema;
     meta_are = are;
     tables_are = lists_in (new.trees 2) (old.trees 2) b (others.1.0 (λ e. omega (arith, e))) it.tables_are;
-    cells_are = lists_in (new.trees 4) (old.trees 4) c (others.1.1.0 (λ e. omega (arith, e))) it.cells_are;
+    old_are = lists_in (new.trees 4) (old.trees 4) o (others.1.1.0 (λ e. omega (arith, e))) it.old_are;
+    cells_are = lists_in (new.trees 8) (old.trees 8) c (others.1.1.1.1.0 (λ e. omega (arith, e))) it.cells_are;
     marks_are = lists_in (new.trees 6) (old.trees 6) d (others.1.1.1.0 (λ e. omega (arith, e))) it.marks_are;
   }
 
-  pub with_tables : KeepsOthers store_schema 2 old.trees new.trees → Lists (new.trees 2) x → Holds new a x c d
+  pub with_tables : KeepsOthers store_schema 2 old.trees new.trees → Lists (new.trees 2) x → Holds new a x o c d
   with_tables others are = record {
     schema = schema;
     meta_are = lists_in (new.trees 0) (old.trees 0) a (others.0 (λ e. omega (arith, e))) it.meta_are;
     tables_are = are;
-    cells_are = lists_in (new.trees 4) (old.trees 4) c (others.1.1.0 (λ e. omega (arith, e))) it.cells_are;
+    old_are = lists_in (new.trees 4) (old.trees 4) o (others.1.1.0 (λ e. omega (arith, e))) it.old_are;
+    cells_are = lists_in (new.trees 8) (old.trees 8) c (others.1.1.1.1.0 (λ e. omega (arith, e))) it.cells_are;
     marks_are = lists_in (new.trees 6) (old.trees 6) d (others.1.1.1.0 (λ e. omega (arith, e))) it.marks_are;
   }
 
-  pub with_cells : KeepsOthers store_schema 4 old.trees new.trees → Lists (new.trees 4) x → Holds new a b x d
+  pub with_old : KeepsOthers store_schema 4 old.trees new.trees → Lists (new.trees 4) x → Holds new a b x c d
+  with_old others are = record {
+    schema = schema;
+    meta_are = lists_in (new.trees 0) (old.trees 0) a (others.0 (λ e. omega (arith, e))) it.meta_are;
+    tables_are = lists_in (new.trees 2) (old.trees 2) b (others.1.0 (λ e. omega (arith, e))) it.tables_are;
+    old_are = are;
+    cells_are = lists_in (new.trees 8) (old.trees 8) c (others.1.1.1.1.0 (λ e. omega (arith, e))) it.cells_are;
+    marks_are = lists_in (new.trees 6) (old.trees 6) d (others.1.1.1.0 (λ e. omega (arith, e))) it.marks_are;
+  }
+
+  pub with_cells : KeepsOthers store_schema 8 old.trees new.trees → Lists (new.trees 8) x → Holds new a b o x d
   with_cells others are = record {
     schema = schema;
     meta_are = lists_in (new.trees 0) (old.trees 0) a (others.0 (λ e. omega (arith, e))) it.meta_are;
     tables_are = lists_in (new.trees 2) (old.trees 2) b (others.1.0 (λ e. omega (arith, e))) it.tables_are;
+    old_are = lists_in (new.trees 4) (old.trees 4) o (others.1.1.0 (λ e. omega (arith, e))) it.old_are;
     cells_are = are;
     marks_are = lists_in (new.trees 6) (old.trees 6) d (others.1.1.1.0 (λ e. omega (arith, e))) it.marks_are;
   }
 
-  pub with_marks : KeepsOthers store_schema 6 old.trees new.trees → Lists (new.trees 6) x → Holds new a b c x
+  pub with_marks : KeepsOthers store_schema 6 old.trees new.trees → Lists (new.trees 6) x → Holds new a b o c x
   with_marks others are = record {
     schema = schema;
     meta_are = lists_in (new.trees 0) (old.trees 0) a (others.0 (λ e. omega (arith, e))) it.meta_are;
     tables_are = lists_in (new.trees 2) (old.trees 2) b (others.1.0 (λ e. omega (arith, e))) it.tables_are;
-    cells_are = lists_in (new.trees 4) (old.trees 4) c (others.1.1.0 (λ e. omega (arith, e))) it.cells_are;
+    old_are = lists_in (new.trees 4) (old.trees 4) o (others.1.1.0 (λ e. omega (arith, e))) it.old_are;
+    cells_are = lists_in (new.trees 8) (old.trees 8) c (others.1.1.1.1.0 (λ e. omega (arith, e))) it.cells_are;
     marks_are = are;
   }

@@ -1,6 +1,6 @@
 -- The rows of each of the four tables, and what they are read as.
-use Rattle.std.proofs.Common.{◌≡◌, ℕ, zero, suc, ◌+◌, ◌<◌, ℤ, pos, Bool, true, false, List, [], ◌∷◌, map, length, codes, Ordering, Less, refl, sym, ap, ◌∙◌, arith, int_cmp, inl, inr}
-use Rattle.std.specs.List.{AllByRecursion, list_all}
+use Rattle.std.proofs.Common.{◌≡◌, ℕ, zero, suc, ◌+◌, ◌<◌, ℤ, pos, Bool, true, false, List, [], ◌∷◌, map, length, codes, Ordering, Less, refl, sym, ap, ◌∙◌, arith, int_cmp, inl, inr, is_some}
+use Rattle.std.specs.List.{AllByRecursion, IsDistinct, list_all}
 use Rattle.std.specs.Prelude.{nat_lt}
 use Rattle.std.specs.List.Sorted.{IsStrictlySortedBy}
 use Rattle.std.specs.Ordering.{ordering_then}
@@ -9,6 +9,7 @@ use Rattle.std.proofs.lemmas.Str.{IsUtf8-from_ascii}
 use Rattle.std.proofs.lemmas.Bool.{and_parts, ltb-true}
 use Rattle.std.proofs.lemmas.Int.{ints}
 use Rattle.std.proofs.lemmas.Bool.Decides.{nat_tests}
+use Rattle.sqlite.specs.declared.types.Value.{Value as SqlValue}
 use Rattle.sqlite.specs.declared.types.Value.TheVariants.{Int, Text, Blob}
 use Rattle.sqlite.specs.Order.{Row}
 use Rattle.sqlite_value.specs.Order.{column}
@@ -21,11 +22,16 @@ use Rattle.cr_value.specs.declared.value.Value.TheVariants as val
 use Rattle.cr_lattice.specs.declared.stamped.Stamped.{Stamped}
 use Rattle.cr_lattice.specs.declared.table.Table.{Table}
 use Rattle.cr_cells.specs.Marks.{Mark, mark_cmp}
+use Rattle.cr_cells.specs.Tables.{same_name}
 use Rattle.cr_store.specs.declared.stored.MetaEntry.{MetaEntry}
 use Rattle.cr_store.specs.declared.stored.TableEntry.{TableEntry}
-use Rattle.cr_store.specs.Rows.{value_of, value_in, cell_row, cell_of, meta_rows, one_if, table_row, table_rows, mark_row}
-use Rattle.cr_store.specs.Stored.{IsInteger, IsKept, IsReadableValue, is_one, IsCellRow, IsMetaRow, IsTableRow, IsMarkRow, meta_of, table_of, mark_of, meta_cmp, table_cmp, seen_cmp, meta_entries, table_entry, table_entries}
+use Rattle.cr_store.specs.declared.format.Format.{Format}
+use Rattle.cr_store.specs.declared.format.Format.TheVariants.{First, Second}
+use Rattle.cr_store.specs.Ordinals.{has_table, IsNamed}
+use Rattle.cr_store.specs.Rows.{value_of, value_in, named_as, name_in, cell_row, cell_of, meta_rows, one_if, table_row, table_rows, mark_row}
+use Rattle.cr_store.specs.Stored.{IsInteger, IsKept, IsReadableValue, is_one, IsTableName, IsCellRow, IsMetaRow, IsTableRow, IsMarkRow, meta_of, table_of, mark_of, meta_cmp, table_cmp, seen_cmp, meta_entries, table_entry, table_entries}
 use Rattle.cr_store.specs.Opening.{IsReadableCell, IsReadableTable, IsReadableMark}
+use Rattle.cr_store.proofs.OrdinalLemmas.{name_back, ordinal_back}
 
 -- ---- widths
 
@@ -71,24 +77,35 @@ value_back (val.Int n) = refl
 value_back (val.Text t) = refl
 value_back (val.Blob b) = refl
 
--- ---- cr_cell
+-- ---- cells
 
-pub cell_shows : (r : Row) → IsInteger (rowid r) → IsCellRow r → r ≡ Int (id_in (rowid r)) ∷ cell_row (cell_of r)
-cell_shows r n it = ten r it.width ∙ (λ i. n i ∷ it.table.0 i ∷ it.pk i ∷ it.cid.0 i ∷ it.cl i ∷ it.col_version i ∷ it.val.0 i ∷ it.site.0 i ∷ it.version i ∷ it.seq i ∷ [])
+name_shows : (f : Format) (ts : List Table) (v : SqlValue) → IsDistinct same_name ts → IsTableName f ts v → v ≡ named_as f ts (name_in f ts v)
+name_shows First ts v distinct it = it.0
+name_shows Second ts v distinct it = it.0 ∙ ap Int (sym (ordinal_back ts (id_in v) distinct it.1))
 
-pub cell_stored : (id : ℤ) (s : Stamped) → IsReadableCell s → IsCellRow (Int id ∷ cell_row s)
-cell_stored id s h = record {
-  width = refl;
-  table = (refl, h.table);
-  pk = refl;
-  cid = (refl, h.cid);
-  cl = refl;
-  col_version = refl;
-  val = kept s.change.val h.val;
-  site = (refl, h.site);
-  version = refl;
-  seq = refl;
-}
+name_stored : (f : Format) (ts : List Table) (name : List ℕ) → IsUtf8 name → has_table ts name ≡ true → IsTableName f ts (named_as f ts name)
+name_stored First ts name utf8 there = (refl, utf8)
+name_stored Second ts name utf8 there = (refl, ap is_some (name_back ts name there))
+
+module _ (f : Format) (ts : List Table) where
+  pub cell_shows : IsDistinct same_name ts → (r : Row) → IsInteger (rowid r) → IsCellRow f ts r → r ≡ Int (id_in (rowid r)) ∷ cell_row f ts (cell_of f ts r)
+  cell_shows distinct r n it =
+      let named = name_shows f ts (column r 1) distinct it.table in
+      ten r it.width ∙ (λ i. n i ∷ named i ∷ it.pk i ∷ it.cid.0 i ∷ it.cl i ∷ it.col_version i ∷ it.val.0 i ∷ it.site.0 i ∷ it.version i ∷ it.seq i ∷ [])
+
+  pub cell_stored : (id : ℤ) (s : Stamped) → IsReadableCell s × IsNamed ts s → IsCellRow f ts (Int id ∷ cell_row f ts s)
+  cell_stored id s h = record {
+    width = refl;
+    table = name_stored f ts s.change.table h.0.table h.1;
+    pk = refl;
+    cid = (refl, h.0.cid);
+    cl = refl;
+    col_version = refl;
+    val = kept s.change.val h.0.val;
+    site = (refl, h.0.site);
+    version = refl;
+    seq = refl;
+  }
 
 -- ---- cr_meta
 
@@ -109,27 +126,27 @@ pub meta_stored : (id : ℤ) (e : MetaEntry) → IsReadableMeta e → IsMetaRow 
 meta_stored id e h = record { width = refl; name = (refl, h.name); val = kept e.val h.val }
 
 -- the three rows in either order
-pub meta_reordered : (site : List ℕ) (version : ℤ) → SameRows (map meta_row (meta_entries site version)) (meta_rows site version)
-meta_reordered site version = record { to = to; from = from }
+pub meta_reordered : (f : Format) (site : List ℕ) (version : ℤ) → SameRows (map meta_row (meta_entries f site version)) (meta_rows f site version)
+meta_reordered f site version = record { to = to; from = from }
   where
-    to : (r : Row) → Has (map meta_row (meta_entries site version)) r → Has (meta_rows site version) r
+    to : (r : Row) → Has (map meta_row (meta_entries f site version)) r → Has (meta_rows f site version) r
     to r (inl v) = inr (inr (inl v))
-    to r (inr (inl f)) = inl f
+    to r (inr (inl e)) = inl e
     to r (inr (inr (inl s))) = inr (inl s)
     to r (inr (inr (inr none))) = absurd none
 
-    from : (r : Row) → Has (meta_rows site version) r → Has (map meta_row (meta_entries site version)) r
-    from r (inl f) = inr (inl f)
+    from : (r : Row) → Has (meta_rows f site version) r → Has (map meta_row (meta_entries f site version)) r
+    from r (inl e) = inr (inl e)
     from r (inr (inl s)) = inr (inr (inl s))
     from r (inr (inr (inl v))) = inl v
     from r (inr (inr (inr none))) = absurd none
 
-pub reordered_meta : (site : List ℕ) (version : ℤ) → SameRows (meta_rows site version) (map meta_row (meta_entries site version))
-reordered_meta site version = let same = meta_reordered site version in record { to = same.from; from = same.to }
+pub reordered_meta : (f : Format) (site : List ℕ) (version : ℤ) → SameRows (meta_rows f site version) (map meta_row (meta_entries f site version))
+reordered_meta f site version = let same = meta_reordered f site version in record { to = same.from; from = same.to }
 
-pub meta_sorted : (site : List ℕ) (version : ℤ) → IsStrictlySortedBy meta_cmp (meta_entries site version)
+pub meta_sorted : (f : Format) (site : List ℕ) (version : ℤ) → IsStrictlySortedBy meta_cmp (meta_entries f site version)
 unfolding IsStrictlySortedBy meta_cmp
-meta_sorted site version = ((refl, (refl, tt)), ((refl, tt), (tt, tt)))
+meta_sorted f site version = ((refl, (refl, tt)), ((refl, tt), (tt, tt)))
 
 -- ---- cr_schema
 
@@ -210,8 +227,8 @@ format_utf8 = IsUtf8-from_ascii (codes "format") (ascii_from (codes "format") re
 site_utf8 : IsUtf8 (codes "site")
 site_utf8 = IsUtf8-from_ascii (codes "site") (ascii_from (codes "site") refl)
 
-pub meta_readable : (site : List ℕ) (version : ℤ) → AllByRecursion IsReadableMeta (meta_entries site version)
-meta_readable site version = (record { name = version_utf8; val = tt }, (record { name = format_utf8; val = tt }, (record { name = site_utf8; val = tt }, tt)))
+pub meta_readable : (f : Format) (site : List ℕ) (version : ℤ) → AllByRecursion IsReadableMeta (meta_entries f site version)
+meta_readable f site version = (record { name = version_utf8; val = tt }, (record { name = format_utf8; val = tt }, (record { name = site_utf8; val = tt }, tt)))
 
 pub entries_readable : (n : ℕ) (ts : List Table) → AllByRecursion IsReadableTable ts → AllByRecursion IsReadableEntry (table_entries n ts)
 entries_readable n [] all = tt

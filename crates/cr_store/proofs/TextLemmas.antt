@@ -19,7 +19,7 @@ use Rattle.cr_rows.proofs.InsertLemmas.{IsBare}
 use Rattle.cr_rows.proofs.SelectLemmas.{plain_query}
 use Rattle.cr_rows.proofs.DeleteLemmas.{rowids_that}
 use Rattle.cr_rows.proofs.UpdateLemmas.{rows_set}
-use Rattle.cr_store.specs.Schema.{meta_table, schema_table, cell_table, peer_table, store_schema}
+use Rattle.cr_store.specs.Schema.{meta_table, schema_table, cell_table, cell2_table, peer_table, old_schema, store_schema}
 
 -- ---- the tables
 
@@ -35,6 +35,9 @@ make_cell = codes "CREATE TABLE cr_cell(tbl TEXT, pk BLOB, cid TEXT, cl INTEGER,
 abbrev pub make_peer : List ℕ
 make_peer = codes "CREATE TABLE cr_peer(site BLOB PRIMARY KEY, seen INTEGER)"
 
+abbrev pub make_cell2 : List ℕ
+make_cell2 = codes "CREATE TABLE cr_cell2(tab INTEGER, pk BLOB, cid TEXT, cl INTEGER, ver INTEGER, val, site BLOB, dbv INTEGER, seq INTEGER, PRIMARY KEY(tab, pk, cid))"
+
 unfoldable pub first_schema : Schema
 first_schema = created no_schema (meta_table 0)
 
@@ -44,8 +47,12 @@ second_schema = created (created no_schema (meta_table 0)) (schema_table 0)
 unfoldable pub third_schema : Schema
 third_schema = created (created (created no_schema (meta_table 0)) (schema_table 0)) (cell_table 0)
 
-pub whole : created third_schema (peer_table 0) ≡ store_schema
+pub four : created third_schema (peer_table 0) ≡ old_schema
 unfolding everything third_schema
+four = refl
+
+pub whole : created old_schema (cell2_table 0) ≡ store_schema
+unfolding everything
 whole = refl
 
 pub makes_meta : IsDefinition no_schema make_meta (meta_table 0)
@@ -64,13 +71,20 @@ pub makes_peer : IsDefinition third_schema make_peer (peer_table 0)
 unfolding understood everything third_schema
 makes_peer = record { command = refl; text = refl; table_is = refl; plain = (refl, refl); uncounted = refl }
 
+pub makes_cell2 : IsDefinition old_schema make_cell2 (cell2_table 0)
+unfolding understood everything
+makes_cell2 = record { command = refl; text = refl; table_is = refl; plain = (refl, refl); uncounted = refl }
+
 pub meta_bare : IsBare store_schema 0 (meta_table 0)
 meta_bare = record { listed = refl; alone = λ olds news. refl }
 
 pub schema_bare : IsBare store_schema 1 (schema_table 2)
 schema_bare = record { listed = refl; alone = λ olds news. refl }
 
-pub cell_bare : IsBare store_schema 2 (cell_table 4)
+pub old_bare : IsBare store_schema 2 (cell_table 4)
+old_bare = record { listed = refl; alone = λ olds news. refl }
+
+pub cell_bare : IsBare store_schema 4 (cell2_table 8)
 cell_bare = record { listed = refl; alone = λ olds news. refl }
 
 pub peer_bare : IsBare store_schema 3 (peer_table 6)
@@ -80,6 +94,10 @@ peer_bare = record { listed = refl; alone = λ olds news. refl }
 
 abbrev pub equals : ℕ → ℕ → Term
 equals place param = op2 (Compare Eq Binary) (col 1 place) (col 0 param)
+
+-- of a column of integers
+abbrev pub equals_number : ℕ → ℕ → Term
+equals_number place param = op2 (Compare Eq Binary) (col 1 place) (op1 ToNumeric (col 0 param))
 
 abbrev pub given_2 : List Term
 given_2 = lit Null ∷ col 0 0 ∷ col 0 1 ∷ []
@@ -108,22 +126,22 @@ abbrev pub set_cell : List Term
 set_cell = col 1 0 ∷ col 1 0 ∷ col 1 1 ∷ col 1 2 ∷ col 1 3 ∷ col 0 3 ∷ col 0 4 ∷ col 0 5 ∷ col 0 6 ∷ col 0 7 ∷ col 0 8 ∷ []
 
 abbrev pub at_key : List Term
-at_key = equals 1 0 ∷ equals 2 1 ∷ equals 3 2 ∷ []
+at_key = equals_number 1 0 ∷ equals 2 1 ∷ equals 3 2 ∷ []
 
 abbrev pub at_old_key : List Term
-at_old_key = equals 1 0 ∷ equals 2 1 ∷ equals 3 2 ∷ op2 (Compare Lt Binary) (col 1 8) (op1 ToNumeric (col 0 3)) ∷ []
+at_old_key = equals_number 1 0 ∷ equals 2 1 ∷ equals 3 2 ∷ op2 (Compare Lt Binary) (col 1 8) (op1 ToNumeric (col 0 3)) ∷ []
 
 abbrev pub above : List Term
 above = op2 (Compare Gt Binary) (col 1 8) (op1 ToNumeric (col 0 0)) ∷ []
 
 abbrev pub at_row : List Term
-at_row = equals 1 0 ∷ equals 2 1 ∷ []
+at_row = equals_number 1 0 ∷ equals 2 1 ∷ []
 
 abbrev pub shows : List Term
 shows = col 1 1 ∷ col 1 2 ∷ col 1 3 ∷ col 1 4 ∷ col 1 5 ∷ col 1 6 ∷ col 1 7 ∷ col 1 8 ∷ col 1 9 ∷ []
 
 abbrev pub names : List (List ℕ)
-names = codes "tbl" ∷ codes "pk" ∷ codes "cid" ∷ codes "cl" ∷ codes "ver" ∷ codes "val" ∷ codes "site" ∷ codes "dbv" ∷ codes "seq" ∷ []
+names = codes "tab" ∷ codes "pk" ∷ codes "cid" ∷ codes "cl" ∷ codes "ver" ∷ codes "val" ∷ codes "site" ∷ codes "dbv" ∷ codes "seq" ∷ []
 
 -- ---- cr_meta
 
@@ -208,24 +226,24 @@ pub update_mark_plain : IsPlain (understood store_schema update_mark)
 unfolding understood everything
 update_mark_plain = (refl, refl)
 
--- ---- cr_cell
+-- ---- cr_cell2
 
 abbrev pub insert_cell : List ℕ
-insert_cell = codes "INSERT INTO cr_cell VALUES(?1, ?2, ?3, ?4, ?5, ?6, ?7, ?8, ?9)"
+insert_cell = codes "INSERT INTO cr_cell2 VALUES(?1, ?2, ?3, ?4, ?5, ?6, ?7, ?8, ?9)"
 
 abbrev pub update_cell : List ℕ
-update_cell = codes "UPDATE cr_cell SET cl = ?4, ver = ?5, val = ?6, site = ?7, dbv = ?8, seq = ?9 WHERE tbl = ?1 AND pk = ?2 AND cid = ?3"
+update_cell = codes "UPDATE cr_cell2 SET cl = ?4, ver = ?5, val = ?6, site = ?7, dbv = ?8, seq = ?9 WHERE tab = ?1 AND pk = ?2 AND cid = ?3"
 
 abbrev pub delete_cell : List ℕ
-delete_cell = codes "DELETE FROM cr_cell WHERE tbl = ?1 AND pk = ?2 AND cid = ?3 AND dbv < ?4"
+delete_cell = codes "DELETE FROM cr_cell2 WHERE tab = ?1 AND pk = ?2 AND cid = ?3 AND dbv < ?4"
 
 abbrev pub select_since : List ℕ
-select_since = codes "SELECT tbl, pk, cid, cl, ver, val, site, dbv, seq FROM cr_cell WHERE dbv > ?1"
+select_since = codes "SELECT tab, pk, cid, cl, ver, val, site, dbv, seq FROM cr_cell2 WHERE dbv > ?1"
 
 abbrev pub select_row : List ℕ
-select_row = codes "SELECT tbl, pk, cid, cl, ver, val, site, dbv, seq FROM cr_cell WHERE tbl = ?1 AND pk = ?2"
+select_row = codes "SELECT tab, pk, cid, cl, ver, val, site, dbv, seq FROM cr_cell2 WHERE tab = ?1 AND pk = ?2"
 
-pub insert_cell_is : command_of (understood store_schema insert_cell) ≡ Insert 2 (Values given_9 10)
+pub insert_cell_is : command_of (understood store_schema insert_cell) ≡ Insert 4 (Values given_9 10)
 unfolding understood everything
 insert_cell_is = refl
 
@@ -233,7 +251,7 @@ pub insert_cell_plain : IsPlain (understood store_schema insert_cell)
 unfolding understood everything
 insert_cell_plain = (refl, refl)
 
-pub update_cell_is : command_of (understood store_schema update_cell) ≡ Update 2 (rows_set 4 at_key set_cell)
+pub update_cell_is : command_of (understood store_schema update_cell) ≡ Update 4 (rows_set 8 at_key set_cell)
 unfolding understood everything
 update_cell_is = refl
 
@@ -241,7 +259,7 @@ pub update_cell_plain : IsPlain (understood store_schema update_cell)
 unfolding understood everything
 update_cell_plain = (refl, refl)
 
-pub delete_cell_is : command_of (understood store_schema delete_cell) ≡ Delete 2 (rowids_that 4 at_old_key)
+pub delete_cell_is : command_of (understood store_schema delete_cell) ≡ Delete 4 (rowids_that 8 at_old_key)
 unfolding understood everything
 delete_cell_is = refl
 
@@ -249,7 +267,7 @@ pub delete_cell_plain : IsPlain (understood store_schema delete_cell)
 unfolding understood everything
 delete_cell_plain = (refl, refl)
 
-pub since_is : command_of (understood store_schema select_since) ≡ Select (record { lets = []; body = plain_query 4 above shows [] }) names
+pub since_is : command_of (understood store_schema select_since) ≡ Select (record { lets = []; body = plain_query 8 above shows [] }) names
 unfolding understood everything
 since_is = refl
 
@@ -261,7 +279,7 @@ pub since_unlisted : reads_listing store_schema select_since ≡ false
 unfolding understood everything
 since_unlisted = refl
 
-pub row_is : command_of (understood store_schema select_row) ≡ Select (record { lets = []; body = plain_query 4 at_row shows [] }) names
+pub row_is : command_of (understood store_schema select_row) ≡ Select (record { lets = []; body = plain_query 8 at_row shows [] }) names
 unfolding understood everything
 row_is = refl
 
@@ -272,3 +290,16 @@ row_plain = (refl, refl)
 pub row_unlisted : reads_listing store_schema select_row ≡ false
 unfolding understood everything
 row_unlisted = refl
+
+-- ---- cr_cell
+
+abbrev pub empty_old : List ℕ
+empty_old = codes "DELETE FROM cr_cell"
+
+pub empty_old_is : command_of (understood store_schema empty_old) ≡ Delete 2 (rowids_that 4 [])
+unfolding understood everything
+empty_old_is = refl
+
+pub empty_old_plain : IsPlain (understood store_schema empty_old)
+unfolding understood everything
+empty_old_plain = (refl, refl)

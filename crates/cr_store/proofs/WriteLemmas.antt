@@ -105,18 +105,19 @@ module _ (m : Mark) (marks : List Mark) where
 rows_of : (xs ys : List Mark) → ((o : Mark) → Has xs o → Has ys o) → (r : Row) → Has (map mark_row xs) r → Has (map mark_row ys) r
 rows_of xs ys to r h = let from = has_mapped mark_row xs r h in subst (Has (map mark_row ys)) (sym from.2) (mapped_has mark_row ys from.0 (to from.0 from.1))
 
-shows_marks : (db : Database) (a b c : List Row) (xs ys : List Mark) → ((o : Mark) → Has xs o → Has ys o) → ((o : Mark) → Has ys o → Has xs o) → Holds db a b c (map mark_row xs) → Holds db a b c (map mark_row ys)
-shows_marks db a b c xs ys to from it =
+shows_marks : (db : Database) (a b o c : List Row) (xs ys : List Mark) → ((o : Mark) → Has xs o → Has ys o) → ((o : Mark) → Has ys o → Has xs o) → Holds db a b o c (map mark_row xs) → Holds db a b o c (map mark_row ys)
+shows_marks db a b o c xs ys to from it =
     record {
       schema = it.schema;
       meta_are = it.meta_are;
       tables_are = it.tables_are;
+      old_are = it.old_are;
       cells_are = it.cells_are;
       marks_are = lists_same (db.trees 6) (map mark_row xs) (map mark_row ys) (record { to = rows_of xs ys to; from = rows_of ys xs from }) it.marks_are;
     }
 
-pub marks_set : (db : Database) (a b c : List Row) (m : Mark) (marks : List Mark) → has_site marks m.0 ≡ true → Holds db a b c (map mark_row (set_mark m marks)) → Holds db a b c (map mark_row (with_mark marks m))
-marks_set db a b c m marks there it = shows_marks db a b c (set_mark m marks) (with_mark marks m) (set_has m marks) (has_set m marks there) it
+pub marks_set : (db : Database) (a b o c : List Row) (m : Mark) (marks : List Mark) → has_site marks m.0 ≡ true → Holds db a b o c (map mark_row (set_mark m marks)) → Holds db a b o c (map mark_row (with_mark marks m))
+marks_set db a b o c m marks there it = shows_marks db a b o c (set_mark m marks) (with_mark marks m) (set_has m marks) (has_set m marks there) it
 
-pub marks_added : (db : Database) (a b c : List Row) (m : Mark) (marks : List Mark) → has_site marks m.0 ≡ false → Holds db a b c (map mark_row (m ∷ marks)) → Holds db a b c (map mark_row (with_mark marks m))
-marks_added db a b c m marks none it = shows_marks db a b c (m ∷ marks) (with_mark marks m) (added_has m marks none) (has_added m marks) it
+pub marks_added : (db : Database) (a b o c : List Row) (m : Mark) (marks : List Mark) → has_site marks m.0 ≡ false → Holds db a b o c (map mark_row (m ∷ marks)) → Holds db a b o c (map mark_row (with_mark marks m))
+marks_added db a b o c m marks none it = shows_marks db a b o c (m ∷ marks) (with_mark marks m) (added_has m marks none) (has_added m marks) it

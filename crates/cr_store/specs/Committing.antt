@@ -1,5 +1,6 @@
 -- What a commit decides before it writes, and what it leaves.
 use Rattle.std.specs.Prelude.{◌≡◌, pos, ◌+ℤ◌, false, List, Option, if◌then◌else◌}
+use Rattle.std.specs.List.{AllByRecursion}
 use Rattle.sqlite.specs.Effect.{Database}
 use Rattle.sqlite_rules.specs.Lists.{Has}
 use Rattle.cr_lattice.specs.declared.change.Change.{Change}
@@ -12,6 +13,7 @@ use Rattle.cr_cells.specs.Holding.{Holding, kept_of}
 use Rattle.cr_cells.specs.Marks.{Mark, marks_after}
 use Rattle.cr_store.specs.declared.outcome.Decision.{Decision}
 use Rattle.cr_store.specs.declared.outcome.Outcome.{Outcome}
+use Rattle.cr_store.specs.Ordinals.{IsNamed}
 use Rattle.cr_store.specs.Plan.{put_all, without_all}
 use Rattle.cr_store.specs.Shows.{Shows}
 
@@ -26,6 +28,7 @@ pub record IsDecided (h : Holding) (more : List Change) (d : Decision) : Type 0 
   pub version : d.version ≡ (if is_changed (kept_of h) more then h.version +ℤ pos 1 else h.version)
   pub to : (s : Stamped) → Has (left_by d h.cells) s → Has (cells_after h.cells more (h.version +ℤ pos 1)) s
   pub from : (s : Stamped) → Has (cells_after h.cells more (h.version +ℤ pos 1)) s → Has (left_by d h.cells) s
+  pub named : AllByRecursion (λ n. IsNamed h.tables n.cell) d.plan.news.items
 
 -- the database shows what is committed
 pub record HasCommitted (db : Database) (h : Holding) (more : List Change) (peer : Option Mark) (o : Outcome) : Type 0 where

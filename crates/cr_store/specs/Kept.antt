@@ -5,12 +5,13 @@ use Rattle.sqlite.specs.State.{HasCleanDisk}
 use Rattle.sqlite.specs.Held.{Held, state}
 use Rattle.sqlite_trees.specs.declared.store.Store.{Ghosts}
 use Rattle.cr_cells.specs.Holding.{Holding, IsSound}
+use Rattle.cr_store.specs.declared.format.Format.TheVariants.{Second}
 use Rattle.cr_store.specs.declared.known.Known.{Known}
 use Rattle.cr_store.specs.Shows.{Shows, cells_in}
 
--- what a store holds: the cells that the rows of cr_cell show, and the rest as it knows it
+-- what a store holds: the cells that the rows of cr_cell2 show, and the rest as it knows it
 abbrev pub holding_of : Database → Known → Holding
-holding_of db k = record { tables = k.tables.items; site = k.site; version = k.version; cells = cells_in (db.trees 4); marks = k.marks.items }
+holding_of db k = record { tables = k.tables.items; site = k.site; version = k.version; cells = cells_in Second k.tables.items (db.trees 8); marks = k.marks.items }
 
 -- the disk gave back what was written, and is still there
 pub record IsClean {S : Type 0} (g : Ghosts S) (h : Held S) : Type 0 where

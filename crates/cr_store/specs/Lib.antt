@@ -1,3 +1,4 @@
+pub mod Ordinals
 pub mod Schema
 pub mod Rows
 pub mod Shows

@@ -1,5 +1,5 @@
 -- When a database is opened as a store. Source: this project's own.
-use Rattle.std.specs.Prelude.{◌≡◌, List, map, length}
+use Rattle.std.specs.Prelude.{◌≡◌, List, [], map, length}
 use Rattle.std.specs.List.{AllByRecursion}
 use Rattle.std.specs.Str.{IsUtf8}
 use Rattle.sqlite.specs.Order.{Row}
@@ -14,8 +14,9 @@ use Rattle.cr_cells.specs.declared.store.StoreFault.TheVariants as fault
 use Rattle.cr_cells.specs.Holding.{Holding, IsSound}
 use Rattle.cr_cells.specs.Marks.{Mark}
 use Rattle.cr_store.specs.Rows.{cell_row, meta_rows, table_rows, mark_row}
+use Rattle.cr_store.specs.declared.format.Format.{Format}
 use Rattle.cr_store.specs.declared.known.Known.{Known}
-use Rattle.cr_store.specs.Shows.{Shows, cells_in}
+use Rattle.cr_store.specs.Shows.{ShowsIn}
 use Rattle.cr_store.specs.Stored.{IsReadableValue}
 
 -- ---- what a value in memory is
@@ -60,10 +61,14 @@ IsOpenError error.VersionLimit = ⊥
 
 -- ---- what is held
 
--- the database shows it, and it is sound
-pub record IsHeld (db : Database) (h : Holding) : Type 0 where
-  pub shows : Shows db h
+-- the database shows it in a format, and it is sound
+pub record IsHeldIn (f : Format) (db : Database) (h : Holding) : Type 0 where
+  pub shows : ShowsIn f db h
   pub sound : IsSound h
+
+-- in one of the formats
+abbrev pub IsHeld : Database → Holding → Type 0
+IsHeld db h = (f : Format) × IsHeldIn f db h
 
 -- damaged is said of a database only where it holds nothing
 abbrev pub FailsToOpen : Database → CellsError → Type 0
@@ -73,19 +78,20 @@ FailsToOpen db (error.Store fault.Damaged) = (h : Holding) → IsReadable h → 
 FailsToOpen db (error.Store fault.Refused) = Unit {0}
 FailsToOpen db error.VersionLimit = ⊥
 
--- the rows of the four tables
-pub record ListsAll (meta tables cells marks : List Row) (h : Holding) : Type 0 where
-  pub meta_are : Lists meta (meta_rows h.site h.version)
+-- the rows of a store's tables in a format, of which none are old ones
+pub record ListsAll (f : Format) (meta tables old cells marks : List Row) (h : Holding) : Type 0 where
+  pub meta_are : Lists meta (meta_rows f h.site h.version)
   pub tables_are : Lists tables (table_rows 1 h.tables)
-  pub cells_are : Lists cells (map cell_row h.cells)
+  pub old_are : old ≡ []
+  pub cells_are : Lists cells (map (cell_row f h.tables) h.cells)
   pub marks_are : Lists marks (map mark_row h.marks)
 
--- what is known of a store whose cr_cell has these rows
-abbrev pub known_holding : List Row → Known → Holding
-known_holding cells k = record { tables = k.tables.items; site = k.site; version = k.version; cells = cells_in cells; marks = k.marks.items }
+-- what is known of a store, beside these cells
+abbrev pub holding_with : Known → List Stamped → Holding
+holding_with k ss = record { tables = k.tables.items; site = k.site; version = k.version; cells = ss; marks = k.marks.items }
 
--- the rows list what is known, and that is sound, and its definitions those that bytes tell
-pub record IsKnown (meta tables cells marks : List Row) (k : Known) : Type 0 where
-  pub listed : ListsAll meta tables cells marks (known_holding cells k)
-  pub sound : IsSound (known_holding cells k)
+-- the rows list what is known with these cells, and that is sound, and its definitions those that bytes tell
+pub record IsKnown (f : Format) (meta tables old cells marks : List Row) (k : Known) (ss : List Stamped) : Type 0 where
+  pub listed : ListsAll f meta tables old cells marks (holding_with k ss)
+  pub sound : IsSound (holding_with k ss)
   pub readable : AllByRecursion IsReadableTable k.tables.items

@@ -1,5 +1,5 @@
--- The rows that a store's tables may have, and what each is read as. Source: this project's own format 1.
-use Rattle.std.specs.Prelude.{◌≡◌, ℕ, ◌+◌, ℤ, pos, Bool, List, [], ◌∷◌, length, codes}
+-- The rows that a store's tables may have, and what each is read as. Source: this project's own formats 1 and 2.
+use Rattle.std.specs.Prelude.{◌≡◌, ℕ, ◌+◌, ℤ, pos, Bool, true, List, [], ◌∷◌, length, codes, is_some}
 use Rattle.std.specs.List.{AllByRecursion}
 use Rattle.std.specs.Str.{IsUtf8}
 use Rattle.std.specs.declared.cmp.Ordering.{Ordering}
@@ -17,7 +17,10 @@ use Rattle.cr_value.specs.Order.{bytes_cmp, value_cmp}
 use Rattle.cr_lattice.specs.declared.table.Table.{Table}
 use Rattle.cr_cells.specs.Marks.{Mark}
 use Rattle.cr_layout.specs.Definition.{definition}
-use Rattle.cr_store.specs.Rows.{value_of, value_in, one_if}
+use Rattle.cr_store.specs.declared.format.Format.{Format}
+use Rattle.cr_store.specs.declared.format.Format.TheVariants.{First, Second}
+use Rattle.cr_store.specs.Ordinals.{name_at}
+use Rattle.cr_store.specs.Rows.{value_of, value_in, one_if, number_of}
 use Rattle.cr_store.specs.declared.stored.MetaEntry.{MetaEntry}
 use Rattle.cr_store.specs.declared.stored.TableEntry.{TableEntry}
 
@@ -55,10 +58,15 @@ IsKept v = (v ≡ value_of (value_in v)) × IsReadableValue (value_in v)
 
 -- ---- rows
 
--- rowid, tbl, pk, cid, cl, ver, val, site, dbv, seq
-pub record IsCellRow (r : Row) : Type 0 where
+-- format 1 has a name there, format 2 the ordinal of a table
+abbrev pub IsTableName : Format → List Table → SqlValue → Type 0
+IsTableName First ts v = IsText v
+IsTableName Second ts v = IsInteger v × (is_some (name_at ts (id_in v)) ≡ true)
+
+-- rowid, tbl or tab, pk, cid, cl, ver, val, site, dbv, seq
+pub record IsCellRow (f : Format) (ts : List Table) (r : Row) : Type 0 where
   pub width : length r ≡ 10
-  pub table : IsText (column r 1)
+  pub table : IsTableName f ts (column r 1)
   pub pk : IsBlob (column r 2)
   pub cid : IsText (column r 3)
   pub cl : IsInteger (column r 4)
@@ -118,9 +126,9 @@ pub record AreStored (P : Row → Type 0) (rows : List Row) : Type 0 where
   pub each : AllByRecursion P rows
 
 -- what the rows of cr_meta are read as, by name
-abbrev pub meta_entries : List ℕ → ℤ → List MetaEntry
-meta_entries site version =
-    record { name = codes "db_version"; val = val.Int version } ∷ record { name = codes "format"; val = val.Int (pos 1) } ∷ record { name = codes "site"; val = val.Blob site } ∷ []
+abbrev pub meta_entries : Format → List ℕ → ℤ → List MetaEntry
+meta_entries f site version =
+    record { name = codes "db_version"; val = val.Int version } ∷ record { name = codes "format"; val = val.Int (number_of f) } ∷ record { name = codes "site"; val = val.Blob site } ∷ []
 
 abbrev pub table_entry : ℕ → Table → TableEntry
 table_entry n t = record { ordinal = pos n; name = t.definition.name; is_replicated = t.is_replicated; layout = definition t.definition }

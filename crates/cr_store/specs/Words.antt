@@ -1,11 +1,6 @@
--- When a row of cr_cell is that of a key, and what becomes of a list of cells.
+-- When two cells are of one key, and what becomes of a list of cells.
 use Rattle.std.specs.Prelude.{◌≡◌, true, Option, Some, None, codes, ◌||◌, ℕ, Bool, ◌&&◌, List, map, cond}
-use Rattle.std.specs.Ordering.{is_eq}
 use Rattle.std.specs.List.{list_any, AllByRecursion}
-use Rattle.sqlite.specs.declared.types.Value.{Value}
-use Rattle.sqlite.specs.declared.types.Value.TheVariants.{Text, Blob}
-use Rattle.sqlite.specs.Order.{Row}
-use Rattle.sqlite_value.specs.Order.{value_cmp, column}
 use Rattle.sqlite_schema.specs.Names.{same_name}
 use Rattle.sqlite_rules.specs.Lists.{Has}
 use Rattle.cr_lattice.specs.declared.change.Change.{Change}
@@ -16,13 +11,6 @@ use Rattle.cr_lattice.specs.Check.{same_bytes}
 use Rattle.cr_cells.specs.Tables.{is_named, with_column}
 use Rattle.cr_layout.specs.Definition.{definition}
 use Rattle.cr_cells.specs.Marks.{Mark}
-
-abbrev pub is_same : Value → Value → Bool
-is_same a b = is_eq (value_cmp a b)
-
--- the row of cr_cell has this key
-abbrev pub has_key : List ℕ → List ℕ → List ℕ → Row → Bool
-has_key tbl pk cid row = is_same (column row 0) (Text tbl) && (is_same (column row 1) (Blob pk) && is_same (column row 2) (Text cid))
 
 -- two changes are of one cell
 abbrev pub same_key : Change → Change → Bool
@@ -38,7 +26,7 @@ set_mark m marks = map (λ o. cond (same_bytes o.0 m.0) m o) marks
 
 -- the name is that of a table of a store, its letters in either case
 abbrev pub is_ours : List ℕ → Bool
-is_ours name = same_name name (codes "cr_meta") || (same_name name (codes "cr_schema") || (same_name name (codes "cr_cell") || same_name name (codes "cr_peer")))
+is_ours name = same_name name (codes "cr_meta") || (same_name name (codes "cr_schema") || (same_name name (codes "cr_cell") || (same_name name (codes "cr_peer") || same_name name (codes "cr_cell2"))))
 
 -- these are the bytes of the definition of each table of that name with the column
 abbrev pub AreWidened : List ℕ → ColumnDef → List ℕ → List Table → Type 0

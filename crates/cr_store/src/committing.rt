@@ -8,6 +8,7 @@ ghost use Rattle.cr_lattice.specs.Keep.{keep};
 ghost use Rattle.cr_cells.specs.Calls.{is_want, UnlessWant};
 ghost use Rattle.cr_cells.specs.Commit.{greatest_version};
 ghost use Rattle.cr_cells.specs.Holding.{IsSound};
+ghost use Rattle.cr_cells.specs.Tables.{AreWellFormed};
 ghost use Rattle.cr_store.specs.Committing.{is_none, IsDecided, HasCommitted, IsUndecided};
 ghost use Rattle.cr_store.specs.Kept.{holding_of};
 ghost use Rattle.cr_store.specs.Schema.{store_schema};
@@ -64,7 +65,7 @@ fn decide<S: Alter>(
     changes: &[Change],
 ) -> Result<Decision, CellsError>
     requires mode { conn.old.in_transaction ≡ false }
-    ensures decided { HasCleanDisk (state S.Store conn.new) → IsTrue (state S.Store conn.new).is_open → Shows (state S.Store conn.old).now (holding_of (state S.Store conn.old).now known.now) → IsSound (holding_of (state S.Store conn.old).now known.now)
+    ensures decided { HasCleanDisk (state S.Store conn.new) → IsTrue (state S.Store conn.new).is_open → Shows (state S.Store conn.old).now (holding_of (state S.Store conn.old).now known.now) → IsSound (holding_of (state S.Store conn.old).now known.now) → AreWellFormed known.now.tables.items changes.now
         → MatchResult result (IsDecided (holding_of (state S.Store conn.old).now known.now) changes.now) (IsUndecided (holding_of (state S.Store conn.old).now known.now) changes.now) }
     ensures same { HasCleanDisk (state S.Store conn.new) → (state S.Store conn.old).now.schema ≡ store_schema
         → IsTrue (state S.Store conn.new).is_open → (state S.Store conn.new).now ≡ (state S.Store conn.old).now }
@@ -75,7 +76,7 @@ fn decide<S: Alter>(
 {
     let kept = kept_of(alloc, changes)?;
     let stamp = stamp_after(known.version);
-    let plan = plan(alloc, conn, &kept, stamp)?;
+    let plan = plan(alloc, conn, &known.tables, &kept, stamp)?;
     let is_changed = has_news(&plan.news);
     stay_within_limit(is_changed, known.version)?;
     let version = version_after(is_changed, stamp, known.version);
@@ -99,7 +100,7 @@ pub(crate) fn commit<S: Alter>(
     peer: Option<Mark>,
 ) -> Result<Outcome, CellsError>
     requires mode { conn.old.in_transaction ≡ false }
-    ensures done { HasCleanDisk (state S.Store conn.new) → IsTrue (state S.Store conn.new).is_open → Shows (state S.Store conn.old).now (holding_of (state S.Store conn.old).now known.now) → IsSound (holding_of (state S.Store conn.old).now known.now)
+    ensures done { HasCleanDisk (state S.Store conn.new) → IsTrue (state S.Store conn.new).is_open → Shows (state S.Store conn.old).now (holding_of (state S.Store conn.old).now known.now) → IsSound (holding_of (state S.Store conn.old).now known.now) → AreWellFormed known.now.tables.items changes.now
         → MatchResult result (HasCommitted (state S.Store conn.new).now (holding_of (state S.Store conn.old).now known.now) changes.now peer)
         (λ e. ((state S.Store conn.new).now ≡ (state S.Store conn.old).now) × IsUndecided (holding_of (state S.Store conn.old).now known.now) changes.now e) }
     ensures opened { HasCleanDisk (state S.Store conn.new) → IsTrue (state S.Store conn.old).is_open → UnlessWant is_want result (IsTrue (state S.Store conn.new).is_open) }
@@ -113,6 +114,7 @@ pub(crate) fn commit<S: Alter>(
     let _ = conn.is_autocommit();
     match write_commit(
         conn,
+        &known.tables,
         &decision.plan,
         decision.stamp,
         decision.version,

@@ -1,13 +1,17 @@
-//! A store of cells in four tables of sqlite.
+//! A store of cells in tables of sqlite.
 #![tactic(auto)]
 
 mod asking;
+mod cell_rows;
 mod cells;
 mod committing;
 mod definition;
+mod format;
 mod known;
 pub mod laws;
+mod migrating;
 mod opening;
+mod ordinals;
 mod outcome;
 mod plan;
 mod planning;

@@ -1,7 +1,7 @@
 //! What a store holds, read from the rows of its tables.
 
-ghost use Rattle.std.specs.Prelude.{◌≡◌, ◌≢◌, ℕ, ℤ, pos, List, map, length, codes, Decides, MatchOption, MatchResult, false, IsTrue, IfOk, IfErr, OnOk};
-ghost use Rattle.std.specs.List.{AllByRecursion};
+ghost use Rattle.std.specs.Prelude.{◌≡◌, ◌≢◌, ℕ, ℤ, pos, [], List, map, length, codes, Decides, MatchOption, MatchResult, false, IsTrue, IfOk, IfErr, OnOk};
+ghost use Rattle.std.specs.List.{AllByRecursion, IsDistinct};
 ghost use Rattle.sqlite.specs.Held.{state};
 ghost use Rattle.sqlite.specs.State.{HasCleanDisk, IsLive};
 ghost use Rattle.cr_rows.specs.Rows.{Lists};
@@ -12,18 +12,23 @@ ghost use Rattle.cr_lattice.specs.Sets.{set_of};
 ghost use Rattle.cr_cells.specs.Holding.{Holding, IsSound};
 ghost use Rattle.cr_cells.specs.Marks.{Mark};
 ghost use Rattle.cr_sound.specs.Sound.{holding};
-ghost use Rattle.cr_store.specs.Rows.{meta_rows, table_rows, cell_row, mark_row};
+ghost use Rattle.cr_cells.specs.Tables.{same_name};
+ghost use Rattle.cr_store.specs.Ordinals.{IsNamed};
+ghost use Rattle.cr_store.specs.Rows.{number_of, meta_rows, table_rows, cell_row, mark_row};
 ghost use Rattle.cr_store.specs.Asking.{OnlyAsks};
 ghost use Rattle.cr_store.specs.Kept.{holding_of};
-ghost use Rattle.cr_store.specs.Schema.{store_schema};
+ghost use Rattle.cr_store.specs.Schema.{schema_of};
 ghost use Rattle.cr_store.specs.Shows.{cells_in};
 ghost use Rattle.cr_store.specs.Stored.{meta_entries, table_entry, table_entries, mark_of, seen_cmp};
-ghost use Rattle.cr_store.specs.Opening.{IsReadableTable, IsReadableCell, IsReadableMark, IsReadable, IsDamage, ListsAll, IsKnown, IsHeld, IsOpenError, FailsToOpen};
+ghost use Rattle.cr_store.specs.Opening.{IsReadableTable, IsReadableCell, IsReadableMark, IsReadable, IsDamage, ListsAll, IsKnown, IsHeldIn, holding_with, IsOpenError, FailsToOpen};
 
 use crate::asking::read_rows;
+use crate::cell_rows::read_cells;
+use crate::format::Format;
 use crate::known::Known;
+use crate::migrating::migrate;
+use crate::ordinals::next_ordinal;
 use crate::rows::refusal;
-use crate::store::next_ordinal;
 use crate::stored::{DAMAGED, MetaEntry, TableEntry, read_table, site_of};
 use cr_cells::marks::Mark;
 use cr_cells::store::CellsError;
@@ -36,11 +41,12 @@ use cr_value::value::Value;
 use sqlite::{Alter, Connection, Row};
 use std::alloc::Global;
 
-/// The rows of a store's four tables, each behind its rowid.
+/// The rows of a store's tables, each behind its rowid. The old ones are those of `cr_cell` where the cells lie elsewhere.
 #[derive(Drop)]
 pub(crate) struct Rows {
     pub(crate) meta: Vec<Row>,
     pub(crate) tables: Vec<Row>,
+    pub(crate) old: Vec<Row>,
     pub(crate) cells: Vec<Row>,
     pub(crate) marks: Vec<Row>,
 }
@@ -73,24 +79,33 @@ fn site_in(entry: &MetaEntry, name: &[u8]) -> Option<Site>
     }
 }
 
-fn is_format(entry: &MetaEntry) -> bool
-    ensures { Decides result (entry.now ≡ record { name = codes "format"; val = Int (pos 1) }) }
+fn number_of(format: Format) -> i64
+    ensures { result ≡ number_of format }
+{
+    match format {
+        Format::First => 1,
+        Format::Second => 2,
+    }
+}
+
+fn is_format(entry: &MetaEntry, format: Format) -> bool
+    ensures { Decides result (entry.now ≡ record { name = codes "format"; val = Int (number_of format) }) }
 {
     match number_in(entry, b"format") {
-        Some(format) => format == 1,
+        Some(number) => number == number_of(format),
         None => false,
     }
 }
 
 // The site and the version that the rows of cr_meta tell, in the order of their names.
-fn meta_in(entries: &[MetaEntry]) -> Option<(Site, i64)>
-    ensures { MatchOption result ((site : List ℕ) (version : ℤ) → length site ≡ 16 → entries.now ≢ meta_entries site version)
-        (λ m. entries.now ≡ meta_entries m.0 m.1) }
+fn meta_in(entries: &[MetaEntry], format: Format) -> Option<(Site, i64)>
+    ensures { MatchOption result ((site : List ℕ) (version : ℤ) → length site ≡ 16 → entries.now ≢ meta_entries format site version)
+        (λ m. entries.now ≡ meta_entries format m.0 m.1) }
 {
-    let [version, format, site] = entries else {
+    let [version, number, site] = entries else {
         return None;
     };
-    if !is_format(format) {
+    if !is_format(number, format) {
         return None;
     }
     let site = site_in(site, b"site")?;
@@ -98,12 +113,12 @@ fn meta_in(entries: &[MetaEntry]) -> Option<(Site, i64)>
     Some((site, version))
 }
 
-fn read_meta(rows: &[Row], alloc: Global) -> Result<(Site, i64), CellsError>
-    ensures { MatchResult result (λ m. Lists rows.now (meta_rows m.0 m.1))
-        (IsDamage ((site : List ℕ) (version : ℤ) → length site ≡ 16 → ¬ Lists rows.now (meta_rows site version))) }
+fn read_meta(rows: &[Row], format: Format, alloc: Global) -> Result<(Site, i64), CellsError>
+    ensures { MatchResult result (λ m. Lists rows.now (meta_rows format m.0 m.1))
+        (IsDamage ((site : List ℕ) (version : ℤ) → length site ≡ 16 → ¬ Lists rows.now (meta_rows format site version))) }
 {
     let entries: Vec<MetaEntry> = read_table(rows, alloc)?;
-    match meta_in(&entries) {
+    match meta_in(&entries, format) {
         Some(meta) => Ok(meta),
         None => Err(DAMAGED),
     }
@@ -151,13 +166,18 @@ fn read_tables(rows: &[Row], alloc: Global) -> Result<Vec<Table>, CellsError>
     tables_in(&entries, alloc)
 }
 
-// ---- cr_cell and cr_peer
+// ---- cells and cr_peer
 
-fn read_cells(rows: &[Row], alloc: Global) -> Result<Vec<Stamped>, CellsError>
-    ensures { MatchResult result (λ cells. Lists rows.now (map cell_row cells.items) × (cells.items ≡ cells_in rows.now))
-        (IsDamage ((ss : List Stamped) → AllByRecursion IsReadableCell ss → ¬ Lists rows.now (map cell_row ss))) }
+fn list_cells(
+    rows: &[Row],
+    format: Format,
+    tables: &[Table],
+    alloc: Global,
+) -> Result<Vec<Stamped>, CellsError>
+    ensures { MatchResult result (λ cells. (IsDistinct same_name tables.now → Lists rows.now (map (cell_row format tables.now) cells.items)) × (cells.items ≡ cells_in format tables.now rows.now))
+        (IsDamage ((ss : List Stamped) → AllByRecursion IsReadableCell ss → AllByRecursion (IsNamed tables.now) ss → ¬ Lists rows.now (map (cell_row format tables.now) ss))) }
 {
-    read_table(rows, alloc)
+    read_cells(rows, format, tables, alloc)
 }
 
 fn read_marks(rows: &[Row], alloc: Global) -> Result<Vec<Mark>, CellsError>
@@ -180,17 +200,30 @@ fn check(alloc: Global, known: &Known, cells: &[Stamped]) -> Result<(), CellsErr
     }
 }
 
-/// What a store holds, of the rows of its tables.
+fn has_none(rows: &[Row]) -> bool
+    ensures { Decides result (rows.now ≡ []) }
+{
+    rows.is_empty()
+}
+
+/// What a store holds, of the rows of its tables in a format: what it knows, and its cells.
 ///
 /// # Errors
 /// `Memory`, or `Store(Damaged)` where the rows are those of nothing that a store holds.
-pub(crate) fn known_in(rows: &Rows, alloc: Global) -> Result<Known, CellsError>
-    ensures { MatchResult result (λ k. IsKnown rows.now.meta.items rows.now.tables.items rows.now.cells.items rows.now.marks.items k)
-        (IsDamage ((h : Holding) → IsReadable h → IsSound h → ¬ ListsAll rows.now.meta.items rows.now.tables.items rows.now.cells.items rows.now.marks.items h)) }
+pub(crate) fn known_in(
+    rows: &Rows,
+    format: Format,
+    alloc: Global,
+) -> Result<(Known, Vec<Stamped>), CellsError>
+    ensures { MatchResult result (λ it. IsKnown format rows.now.meta.items rows.now.tables.items rows.now.old.items rows.now.cells.items rows.now.marks.items it.0 it.1.items)
+        (IsDamage ((h : Holding) → IsReadable h → IsSound h → ¬ ListsAll format rows.now.meta.items rows.now.tables.items rows.now.old.items rows.now.cells.items rows.now.marks.items h)) }
 {
-    let (site, version) = read_meta(&rows.meta, alloc)?;
+    let (site, version) = read_meta(&rows.meta, format, alloc)?;
     let tables = read_tables(&rows.tables, alloc)?;
-    let cells = read_cells(&rows.cells, alloc)?;
+    if !has_none(&rows.old) {
+        return Err(DAMAGED);
+    }
+    let cells = list_cells(&rows.cells, format, &tables, alloc)?;
     let marks = read_marks(&rows.marks, alloc)?;
     let known = Known {
         site,
@@ -199,33 +232,68 @@ pub(crate) fn known_in(rows: &Rows, alloc: Global) -> Result<Known, CellsError>
         marks,
     };
     check(alloc, &known, &cells)?;
-    Ok(known)
+    Ok((known, cells))
 }
 
-/// What a store holds whose database has the schema of a store.
-///
-/// # Errors
-/// `Memory` and `Store(Refused)` where sqlite refuses to tell, and `Store(Damaged)` where the database holds nothing.
-pub(crate) fn read_known<S: Alter>(
+// What a store holds whose database has the schema of a format.
+fn read_held<S: Alter>(
     conn: &mut Connection<S>,
+    format: Format,
     alloc: Global,
-) -> Result<Known, CellsError>
+) -> Result<(Known, Vec<Stamped>), CellsError>
     requires mode { conn.old.in_transaction ≡ false }
     requires live { IsLive (state S.Store conn.old) }
-    ensures found { HasCleanDisk (state S.Store conn.new) → (state S.Store conn.old).now.schema ≡ store_schema
-        → IfOk result (λ k. IsHeld (state S.Store conn.old).now (holding_of (state S.Store conn.old).now k) × AllByRecursion IsReadableTable k.tables.items) }
-    ensures opened { HasCleanDisk (state S.Store conn.new) → (state S.Store conn.old).now.schema ≡ store_schema
+    ensures found { HasCleanDisk (state S.Store conn.new) → (state S.Store conn.old).now.schema ≡ schema_of format
+        → IfOk result (λ it. IsHeldIn format (state S.Store conn.old).now (holding_with it.0 it.1.items) × AllByRecursion IsReadableTable it.0.tables.items) }
+    ensures opened { HasCleanDisk (state S.Store conn.new) → (state S.Store conn.old).now.schema ≡ schema_of format
         → OnOk result (IsTrue (state S.Store conn.new).is_open) }
     ensures why { IfErr result IsOpenError }
-    ensures damaged { HasCleanDisk (state S.Store conn.new) → IsTrue (state S.Store conn.new).is_open → (state S.Store conn.old).now.schema ≡ store_schema
+    ensures damaged { HasCleanDisk (state S.Store conn.new) → IsTrue (state S.Store conn.new).is_open → (state S.Store conn.old).now.schema ≡ schema_of format
         → IfErr result (FailsToOpen (state S.Store conn.old).now) }
-    ensures asks { HasCleanDisk (state S.Store conn.new) → (state S.Store conn.old).now.schema ≡ store_schema
+    ensures asks { HasCleanDisk (state S.Store conn.new) → (state S.Store conn.old).now.schema ≡ schema_of format
         → OnlyAsks (state S.Store conn.old) (state S.Store conn.new) }
     ensures mode { conn.new.in_transaction ≡ false }
     ensures clean { HasCleanDisk (state S.Store conn.new) → HasCleanDisk (state S.Store conn.old) }
 {
-    match read_rows(conn) {
-        Ok(rows) => known_in(&rows, alloc),
+    match read_rows(conn, format, alloc) {
+        Ok(rows) => known_in(&rows, format, alloc),
         Err(error) => Err(refusal(error)),
+    }
+}
+
+/// What a store holds whose database has the schema of a format; it is left in the second.
+///
+/// # Errors
+/// `Memory` and `Store(Refused)` where sqlite refuses to tell or to write, and `Store(Damaged)` where the database holds
+/// nothing. Then it is as it was.
+pub(crate) fn open_known<S: Alter>(
+    conn: &mut Connection<S>,
+    format: Format,
+    alloc: Global,
+) -> Result<Known, CellsError>
+    requires mode { conn.old.in_transaction ≡ false }
+    requires live { IsLive (state S.Store conn.old) }
+    ensures found { HasCleanDisk (state S.Store conn.new) → (state S.Store conn.old).now.schema ≡ schema_of format
+        → IfOk result (λ k. IsHeldIn format (state S.Store conn.old).now (holding_of (state S.Store conn.new).now k) × IsHeldIn Format.Second (state S.Store conn.new).now (holding_of (state S.Store conn.new).now k) × AllByRecursion IsReadableTable k.tables.items) }
+    ensures opened { HasCleanDisk (state S.Store conn.new) → (state S.Store conn.old).now.schema ≡ schema_of format
+        → OnOk result (IsTrue (state S.Store conn.new).is_open) }
+    ensures why { IfErr result IsOpenError }
+    ensures damaged { HasCleanDisk (state S.Store conn.new) → IsTrue (state S.Store conn.new).is_open → (state S.Store conn.old).now.schema ≡ schema_of format
+        → IfErr result (FailsToOpen (state S.Store conn.old).now) }
+    ensures same { HasCleanDisk (state S.Store conn.new) → IsTrue (state S.Store conn.new).is_open → (state S.Store conn.old).now.schema ≡ schema_of format
+        → MatchResult result (λ _. format ≡ Format.Second → (state S.Store conn.new).now ≡ (state S.Store conn.old).now) (λ _. (state S.Store conn.new).now ≡ (state S.Store conn.old).now) }
+    ensures was_open { HasCleanDisk (state S.Store conn.new) → IsTrue (state S.Store conn.new).is_open → (state S.Store conn.old).now.schema ≡ schema_of format
+        → IsTrue (state S.Store conn.old).is_open }
+    ensures mode { conn.new.in_transaction ≡ false }
+    ensures clean { HasCleanDisk (state S.Store conn.new) → HasCleanDisk (state S.Store conn.old) }
+{
+    let (known, cells) = read_held(conn, format, alloc)?;
+    let _ = conn.is_autocommit();
+    match format {
+        Format::First => match migrate(conn, &known.tables, &cells) {
+            Ok(()) => Ok(known),
+            Err(refused) => Err(refusal(refused)),
+        },
+        Format::Second => Ok(known),
     }
 }

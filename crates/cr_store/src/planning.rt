@@ -1,6 +1,6 @@
 //! What a commit is to write, from the cells that it touches.
 
-ghost use Rattle.std.specs.Prelude.{◌≡◌, pos, length, [], ◌∷◌, ◌++◌, List, true, false, not, ◌&&◌, filter, map, IsTrue, IfOk, IfErr, OnOk, MatchResult};
+ghost use Rattle.std.specs.Prelude.{◌≡◌, pos, length, [], ◌∷◌, ◌++◌, List, true, false, not, ◌&&◌, filter, IsTrue, IfOk, IfErr, OnOk, MatchResult};
 ghost use Rattle.std.specs.List.Sorted.{IsStrictlySortedBy};
 ghost use Rattle.sqlite.specs.Held.{state};
 ghost use Rattle.sqlite.specs.Order.{Row};
@@ -9,9 +9,8 @@ ghost use Rattle.cr_lattice.specs.declared.change.Change.{Change};
 ghost use Rattle.cr_lattice.specs.declared.stamped.Stamped.{Stamped};
 ghost use Rattle.cr_cells.specs.Calls.{IsRefusal, is_want};
 ghost use Rattle.cr_cells.specs.Holding.{changes_of, cell_cmp, cells_of};
-ghost use Rattle.cr_store.specs.Rows.{cell_row};
 ghost use Rattle.cr_store.specs.Schema.{store_schema};
-ghost use Rattle.cr_store.specs.Shows.{Holds};
+ghost use Rattle.cr_store.specs.Shows.{HasCells};
 ghost use Rattle.cr_store.specs.Plan.{is_there, removes, IsPlan};
 ghost use Rattle.cr_store.specs.Words.{same_key};
 
@@ -22,6 +21,7 @@ use cr_cells::store::CellsError;
 use cr_lattice::change::Change;
 use cr_lattice::order::beats;
 use cr_lattice::stamped::Stamped;
+use cr_lattice::table::Table;
 use cr_value::order::same_bytes;
 use sqlite::{Alter, Connection};
 use std::alloc::{AllocError, Global};
@@ -103,11 +103,12 @@ fn take(
 pub(crate) fn plan<S: Alter>(
     alloc: Global,
     conn: &mut Connection<S>,
+    tables: &[Table],
     changes: &[Change],
     version: i64,
 ) -> Result<Plan, CellsError>
     requires mode { conn.old.in_transaction ≡ false }
-    ensures planned { HasCleanDisk (state S.Store conn.new) → IsTrue (state S.Store conn.new).is_open → (a b d : List Row) → (ss : List Stamped) → Holds (state S.Store conn.old).now a b (map cell_row ss) d → IsStrictlySortedBy cell_cmp ss
+    ensures planned { HasCleanDisk (state S.Store conn.new) → IsTrue (state S.Store conn.new).is_open → (a b o d : List Row) → (ss : List Stamped) → HasCells (state S.Store conn.old).now tables.now a b o d ss → IsStrictlySortedBy cell_cmp ss
         → MatchResult result (IsPlan ss changes.now version) IsRefusal }
     ensures opened { HasCleanDisk (state S.Store conn.new) → IsTrue (state S.Store conn.old).is_open → OnOk result (IsTrue (state S.Store conn.new).is_open) }
     ensures wants { IfErr result (λ e. is_want e ≡ true) }
@@ -123,7 +124,8 @@ pub(crate) fn plan<S: Alter>(
     };
     for change in changes {
         let _ = conn.is_autocommit();
-        let row = cells_of(conn, change.table.as_str(), change.pk.as_slice(), alloc)?;
+        let table = change.table.as_str();
+        let row = cells_of(conn, tables, table, change.pk.as_slice(), alloc)?;
         take(alloc, &mut plan, &row, change, version)?;
     }
     Ok(plan)

@@ -1,6 +1,6 @@
 //! The cells that are read.
 
-ghost use Rattle.std.specs.Prelude.{◌≡◌, List, true, false, filter, map, int_lt, IfOk, IfErr, OnOk, IsTrue, MatchResult};
+ghost use Rattle.std.specs.Prelude.{◌≡◌, List, true, false, filter, int_lt, IfOk, IfErr, OnOk, IsTrue, MatchResult};
 ghost use Rattle.sqlite.specs.Held.{state};
 ghost use Rattle.sqlite.specs.Order.{Row};
 ghost use Rattle.sqlite.specs.State.{HasCleanDisk};
@@ -10,33 +10,36 @@ ghost use Rattle.cr_lattice.specs.Sets.{set_of};
 ghost use Rattle.cr_lattice.specs.declared.stamped.Stamped.{Stamped};
 ghost use Rattle.cr_cells.specs.Holding.{cell_cmp, stamp_cmp, since, cells_of};
 ghost use Rattle.cr_cells.specs.Calls.{IsRefusal, is_want};
-ghost use Rattle.cr_store.specs.Rows.{cell_row};
 ghost use Rattle.cr_store.specs.Schema.{store_schema};
-ghost use Rattle.cr_store.specs.Shows.{Holds};
+ghost use Rattle.cr_store.specs.Shows.{HasCells};
 ghost use Rattle.cr_store.specs.Words.{SameCells};
 
+use crate::ordinals::ordinal;
 use crate::rows::{read_cells, refusal};
 use cr_cells::store::CellsError;
 use cr_lattice::order::cmp_changes;
 use cr_lattice::stamped::Stamped;
+use cr_lattice::table::Table;
 use cr_rows::ask;
 use sqlite::types::ValueRef;
 use sqlite::{Alter, Connection, Error};
 use std::alloc::{AllocError, Global};
 use std::cmp::Ordering;
 
-const SINCE: &str = "SELECT tbl, pk, cid, cl, ver, val, site, dbv, seq FROM cr_cell WHERE dbv > ?1";
+const SINCE: &str =
+    "SELECT tab, pk, cid, cl, ver, val, site, dbv, seq FROM cr_cell2 WHERE dbv > ?1";
 
 const ROW: &str =
-    "SELECT tbl, pk, cid, cl, ver, val, site, dbv, seq FROM cr_cell WHERE tbl = ?1 AND pk = ?2";
+    "SELECT tab, pk, cid, cl, ver, val, site, dbv, seq FROM cr_cell2 WHERE tab = ?1 AND pk = ?2";
 
 /// The cells that are stamped above a version, in the order of sqlite's rows.
 pub(crate) fn cells_above<S: Alter>(
     conn: &mut Connection<S>,
+    tables: &[Table],
     version: i64,
     alloc: Global,
 ) -> Result<Vec<Stamped>, Error>
-    ensures found { HasCleanDisk (state S.Store conn.new) → (a b d : List Row) → (ss : List Stamped) → Holds (state S.Store conn.old).now a b (map cell_row ss) d
+    ensures found { HasCleanDisk (state S.Store conn.new) → (a b o d : List Row) → (ss : List Stamped) → HasCells (state S.Store conn.old).now tables.now a b o d ss
         → IfOk result (λ cells. SameCells (filter (λ s. int_lt version s.version) ss) cells.items) }
     ensures opened { HasCleanDisk (state S.Store conn.new) → OnOk result (IsTrue (state S.Store conn.new).is_open) }
     ensures same { HasCleanDisk (state S.Store conn.new) → (state S.Store conn.old).now.schema ≡ store_schema → (state S.Store conn.old).now ≡ (state S.Store conn.old).committed
@@ -46,17 +49,18 @@ pub(crate) fn cells_above<S: Alter>(
     ensures clean { HasCleanDisk (state S.Store conn.new) → HasCleanDisk (state S.Store conn.old) }
 {
     let rows = ask(conn, SINCE, &[ValueRef::Int(version)])?;
-    read_cells(&rows, alloc)
+    read_cells(&rows, tables, alloc)
 }
 
 /// The cells of one row, in the order of sqlite's rows.
 pub(crate) fn cells_of_row<'a, S: Alter>(
     conn: &mut Connection<S>,
+    tables: &[Table],
     table: &'a str,
     pk: &'a [u8],
     alloc: Global,
 ) -> Result<Vec<Stamped>, Error>
-    ensures found { HasCleanDisk (state S.Store conn.new) → (a b d : List Row) → (ss : List Stamped) → Holds (state S.Store conn.old).now a b (map cell_row ss) d
+    ensures found { HasCleanDisk (state S.Store conn.new) → (a b o d : List Row) → (ss : List Stamped) → HasCells (state S.Store conn.old).now tables.now a b o d ss
         → IfOk result (λ cells. SameCells (filter (λ s. is_of_row table.now pk.now s.change) ss) cells.items) }
     ensures opened { HasCleanDisk (state S.Store conn.new) → OnOk result (IsTrue (state S.Store conn.new).is_open) }
     ensures same { HasCleanDisk (state S.Store conn.new) → (state S.Store conn.old).now.schema ≡ store_schema → (state S.Store conn.old).now ≡ (state S.Store conn.old).committed
@@ -68,9 +72,9 @@ pub(crate) fn cells_of_row<'a, S: Alter>(
     let rows = ask(
         conn,
         ROW,
-        &[ValueRef::Text(table.as_bytes()), ValueRef::Blob(pk)],
+        &[ValueRef::Int(ordinal(tables, table)), ValueRef::Blob(pk)],
     )?;
-    read_cells(&rows, alloc)
+    read_cells(&rows, tables, alloc)
 }
 
 fn cmp_stamps(a: &Stamped, b: &Stamped) -> Ordering
@@ -111,10 +115,11 @@ pub(crate) fn by_change(mut cells: Vec<Stamped>) -> Result<Vec<Stamped>, AllocEr
 /// The cells that are stamped above a version, by their stamps.
 pub(crate) fn since<S: Alter>(
     conn: &mut Connection<S>,
+    tables: &[Table],
     version: i64,
     alloc: Global,
 ) -> Result<Vec<Stamped>, CellsError>
-    ensures found { HasCleanDisk (state S.Store conn.new) → (a b d : List Row) → (ss : List Stamped) → Holds (state S.Store conn.old).now a b (map cell_row ss) d
+    ensures found { HasCleanDisk (state S.Store conn.new) → (a b o d : List Row) → (ss : List Stamped) → HasCells (state S.Store conn.old).now tables.now a b o d ss
         → MatchResult result (λ cells. cells.items ≡ since ss version) IsRefusal }
     ensures opened { HasCleanDisk (state S.Store conn.new) → OnOk result (IsTrue (state S.Store conn.new).is_open) }
     ensures wants { IfErr result (λ e. is_want e ≡ true) }
@@ -124,7 +129,7 @@ pub(crate) fn since<S: Alter>(
     ensures mode { conn.old.in_transaction ≡ false → conn.new.in_transaction ≡ false }
     ensures clean { HasCleanDisk (state S.Store conn.new) → HasCleanDisk (state S.Store conn.old) }
 {
-    match cells_above(conn, version, alloc) {
+    match cells_above(conn, tables, version, alloc) {
         Ok(cells) => Ok(by_stamp(cells)?),
         Err(error) => Err(refusal(error)),
     }
@@ -133,11 +138,12 @@ pub(crate) fn since<S: Alter>(
 /// The cells of one row, in the order of changes.
 pub(crate) fn cells_of<'a, S: Alter>(
     conn: &mut Connection<S>,
+    tables: &[Table],
     table: &'a str,
     pk: &'a [u8],
     alloc: Global,
 ) -> Result<Vec<Stamped>, CellsError>
-    ensures found { HasCleanDisk (state S.Store conn.new) → (a b d : List Row) → (ss : List Stamped) → Holds (state S.Store conn.old).now a b (map cell_row ss) d → IsStrictlySortedBy cell_cmp ss
+    ensures found { HasCleanDisk (state S.Store conn.new) → (a b o d : List Row) → (ss : List Stamped) → HasCells (state S.Store conn.old).now tables.now a b o d ss → IsStrictlySortedBy cell_cmp ss
         → MatchResult result (λ cells. cells.items ≡ cells_of ss table.now pk.now) IsRefusal }
     ensures opened { HasCleanDisk (state S.Store conn.new) → OnOk result (IsTrue (state S.Store conn.new).is_open) }
     ensures wants { IfErr result (λ e. is_want e ≡ true) }
@@ -147,7 +153,7 @@ pub(crate) fn cells_of<'a, S: Alter>(
     ensures mode { conn.old.in_transaction ≡ false → conn.new.in_transaction ≡ false }
     ensures clean { HasCleanDisk (state S.Store conn.new) → HasCleanDisk (state S.Store conn.old) }
 {
-    match cells_of_row(conn, table, pk, alloc) {
+    match cells_of_row(conn, tables, table, pk, alloc) {
         Ok(cells) => Ok(by_change(cells)?),
         Err(error) => Err(refusal(error)),
     }

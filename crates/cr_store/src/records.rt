@@ -15,6 +15,7 @@ ghost use Rattle.cr_store.specs.Rows.{meta_rows, table_rows, one_if, mark_row};
 ghost use Rattle.cr_store.specs.Shows.{Holds};
 ghost use Rattle.cr_store.specs.Words.{set_mark, AreWidened};
 
+use crate::format::Format;
 use cr_lattice::change::Site;
 use cr_rows::write;
 use sqlite::types::ValueRef;
@@ -22,7 +23,7 @@ use sqlite::{Alter, Error, Transaction};
 
 const META: &str = "INSERT INTO cr_meta VALUES(?1, ?2)";
 
-const VERSION: &str = "UPDATE cr_meta SET val = ?2 WHERE name = ?1";
+const SET: &str = "UPDATE cr_meta SET val = ?2 WHERE name = ?1";
 
 const TABLE: &str = "INSERT INTO cr_schema VALUES(?1, ?2, ?3, ?4)";
 
@@ -41,8 +42,8 @@ pub(crate) fn insert_meta<S: Alter>(
     value: ValueRef<'_>,
 ) -> Result<(), Error>
     ensures same_reference { tx.new.conn.ghost_name ≡ tx.old.conn.ghost_name }
-    ensures put { HasCleanDisk (state S.Store tx.new.conn.now) → (a b c d : List Row) → Holds (state S.Store tx.old.conn.now).now a b c d
-        → OnOk result (Holds (state S.Store tx.new.conn.now).now ((SqlText name.now ∷ bound_value (owned value.entry) ∷ []) ∷ a) b c d) }
+    ensures put { HasCleanDisk (state S.Store tx.new.conn.now) → (a b o c d : List Row) → Holds (state S.Store tx.old.conn.now).now a b o c d
+        → OnOk result (Holds (state S.Store tx.new.conn.now).now ((SqlText name.now ∷ bound_value (owned value.entry) ∷ []) ∷ a) b o c d) }
     ensures inside { HasCleanDisk (state S.Store tx.new.conn.now) → OnOk result (tx.new.conn.now.in_transaction ≡ tx.old.conn.now.in_transaction) }
     ensures kept { HasCleanDisk (state S.Store tx.new.conn.now) → KeepsCommit (state S.Store tx.old.conn.now) (state S.Store tx.new.conn.now) }
     ensures survives { Survives (state S.Store tx.old.conn.now) (state S.Store tx.new.conn.now) (λ _. ⊥) }
@@ -53,17 +54,29 @@ pub(crate) fn insert_meta<S: Alter>(
 /// Sets the version.
 pub(crate) fn set_version<S: Alter>(tx: &mut Transaction<'_, S>, version: i64) -> Result<(), Error>
     ensures same_reference { tx.new.conn.ghost_name ≡ tx.old.conn.ghost_name }
-    ensures set { HasCleanDisk (state S.Store tx.new.conn.now) → (site : List ℕ) → (old : ℤ) → (b c d : List Row) → Holds (state S.Store tx.old.conn.now).now (meta_rows site old) b c d
-        → OnOk result (Holds (state S.Store tx.new.conn.now).now (meta_rows site version) b c d) }
+    ensures set { HasCleanDisk (state S.Store tx.new.conn.now) → (site : List ℕ) → (old : ℤ) → (b o c d : List Row) → Holds (state S.Store tx.old.conn.now).now (meta_rows Format.Second site old) b o c d
+        → OnOk result (Holds (state S.Store tx.new.conn.now).now (meta_rows Format.Second site version) b o c d) }
     ensures inside { HasCleanDisk (state S.Store tx.new.conn.now) → OnOk result (tx.new.conn.now.in_transaction ≡ tx.old.conn.now.in_transaction) }
     ensures kept { HasCleanDisk (state S.Store tx.new.conn.now) → KeepsCommit (state S.Store tx.old.conn.now) (state S.Store tx.new.conn.now) }
     ensures survives { Survives (state S.Store tx.old.conn.now) (state S.Store tx.new.conn.now) (λ _. ⊥) }
 {
     write(
         tx,
-        VERSION,
+        SET,
         &[ValueRef::Text(b"db_version"), ValueRef::Int(version)],
     )
+}
+
+/// Sets the format, of a store that was of the first one, to the second.
+pub(crate) fn set_format<S: Alter>(tx: &mut Transaction<'_, S>) -> Result<(), Error>
+    ensures same_reference { tx.new.conn.ghost_name ≡ tx.old.conn.ghost_name }
+    ensures set { HasCleanDisk (state S.Store tx.new.conn.now) → (site : List ℕ) → (version : ℤ) → (b o c d : List Row) → Holds (state S.Store tx.old.conn.now).now (meta_rows Format.First site version) b o c d
+        → OnOk result (Holds (state S.Store tx.new.conn.now).now (meta_rows Format.Second site version) b o c d) }
+    ensures inside { HasCleanDisk (state S.Store tx.new.conn.now) → OnOk result (tx.new.conn.now.in_transaction ≡ tx.old.conn.now.in_transaction) }
+    ensures kept { HasCleanDisk (state S.Store tx.new.conn.now) → KeepsCommit (state S.Store tx.old.conn.now) (state S.Store tx.new.conn.now) }
+    ensures survives { Survives (state S.Store tx.old.conn.now) (state S.Store tx.new.conn.now) (λ _. ⊥) }
+{
+    write(tx, SET, &[ValueRef::Text(b"format"), ValueRef::Int(2)])
 }
 
 /// What `crr` is of a table.
@@ -82,8 +95,8 @@ pub(crate) fn insert_table<'a, S: Alter>(
     definition: &'a [u8],
 ) -> Result<(), Error>
     ensures same_reference { tx.new.conn.ghost_name ≡ tx.old.conn.ghost_name }
-    ensures put { HasCleanDisk (state S.Store tx.new.conn.now) → (a b c d : List Row) → Holds (state S.Store tx.old.conn.now).now a b c d
-        → OnOk result (Holds (state S.Store tx.new.conn.now).now a ((SqlText name.now ∷ SqlInt ordinal ∷ SqlInt crr ∷ SqlBlob definition.now ∷ []) ∷ b) c d) }
+    ensures put { HasCleanDisk (state S.Store tx.new.conn.now) → (a b o c d : List Row) → Holds (state S.Store tx.old.conn.now).now a b o c d
+        → OnOk result (Holds (state S.Store tx.new.conn.now).now a ((SqlText name.now ∷ SqlInt ordinal ∷ SqlInt crr ∷ SqlBlob definition.now ∷ []) ∷ b) o c d) }
     ensures inside { HasCleanDisk (state S.Store tx.new.conn.now) → OnOk result (tx.new.conn.now.in_transaction ≡ tx.old.conn.now.in_transaction) }
     ensures kept { HasCleanDisk (state S.Store tx.new.conn.now) → KeepsCommit (state S.Store tx.old.conn.now) (state S.Store tx.new.conn.now) }
     ensures survives { Survives (state S.Store tx.old.conn.now) (state S.Store tx.new.conn.now) (λ _. ⊥) }
@@ -103,8 +116,8 @@ pub(crate) fn insert_table<'a, S: Alter>(
 /// Marks the table of that name as replicated.
 pub(crate) fn set_replicated<S: Alter>(tx: &mut Transaction<'_, S>, name: &str) -> Result<(), Error>
     ensures same_reference { tx.new.conn.ghost_name ≡ tx.old.conn.ghost_name }
-    ensures set { HasCleanDisk (state S.Store tx.new.conn.now) → (a c d : List Row) → (tables : List Table) → Holds (state S.Store tx.old.conn.now).now a (table_rows 1 tables) c d
-        → OnOk result (Holds (state S.Store tx.new.conn.now).now a (table_rows 1 (with_replicated name.now tables)) c d) }
+    ensures set { HasCleanDisk (state S.Store tx.new.conn.now) → (a o c d : List Row) → (tables : List Table) → Holds (state S.Store tx.old.conn.now).now a (table_rows 1 tables) o c d
+        → OnOk result (Holds (state S.Store tx.new.conn.now).now a (table_rows 1 (with_replicated name.now tables)) o c d) }
     ensures inside { HasCleanDisk (state S.Store tx.new.conn.now) → OnOk result (tx.new.conn.now.in_transaction ≡ tx.old.conn.now.in_transaction) }
     ensures kept { HasCleanDisk (state S.Store tx.new.conn.now) → KeepsCommit (state S.Store tx.old.conn.now) (state S.Store tx.new.conn.now) }
     ensures survives { Survives (state S.Store tx.old.conn.now) (state S.Store tx.new.conn.now) (λ _. ⊥) }
@@ -123,8 +136,8 @@ pub(crate) fn set_definition<'a, S: Alter>(
     definition: &'a [u8],
 ) -> Result<(), Error>
     ensures same_reference { tx.new.conn.ghost_name ≡ tx.old.conn.ghost_name }
-    ensures set { HasCleanDisk (state S.Store tx.new.conn.now) → (a c d : List Row) → (column : ColumnDef) → (tables : List Table) → AreWidened name.now column definition.now tables → Holds (state S.Store tx.old.conn.now).now a (table_rows 1 tables) c d
-        → OnOk result (Holds (state S.Store tx.new.conn.now).now a (table_rows 1 (with_added name.now column tables)) c d) }
+    ensures set { HasCleanDisk (state S.Store tx.new.conn.now) → (a o c d : List Row) → (column : ColumnDef) → (tables : List Table) → AreWidened name.now column definition.now tables → Holds (state S.Store tx.old.conn.now).now a (table_rows 1 tables) o c d
+        → OnOk result (Holds (state S.Store tx.new.conn.now).now a (table_rows 1 (with_added name.now column tables)) o c d) }
     ensures inside { HasCleanDisk (state S.Store tx.new.conn.now) → OnOk result (tx.new.conn.now.in_transaction ≡ tx.old.conn.now.in_transaction) }
     ensures kept { HasCleanDisk (state S.Store tx.new.conn.now) → KeepsCommit (state S.Store tx.old.conn.now) (state S.Store tx.new.conn.now) }
     ensures survives { Survives (state S.Store tx.old.conn.now) (state S.Store tx.new.conn.now) (λ _. ⊥) }
@@ -143,8 +156,8 @@ pub(crate) fn insert_mark<S: Alter>(
     version: i64,
 ) -> Result<(), Error>
     ensures same_reference { tx.new.conn.ghost_name ≡ tx.old.conn.ghost_name }
-    ensures put { HasCleanDisk (state S.Store tx.new.conn.now) → (a b c : List Row) → (marks : List Mark) → Holds (state S.Store tx.old.conn.now).now a b c (map mark_row marks)
-        → OnOk result (Holds (state S.Store tx.new.conn.now).now a b c (map mark_row ((site.now, version) ∷ marks))) }
+    ensures put { HasCleanDisk (state S.Store tx.new.conn.now) → (a b o c : List Row) → (marks : List Mark) → Holds (state S.Store tx.old.conn.now).now a b o c (map mark_row marks)
+        → OnOk result (Holds (state S.Store tx.new.conn.now).now a b o c (map mark_row ((site.now, version) ∷ marks))) }
     ensures inside { HasCleanDisk (state S.Store tx.new.conn.now) → OnOk result (tx.new.conn.now.in_transaction ≡ tx.old.conn.now.in_transaction) }
     ensures kept { HasCleanDisk (state S.Store tx.new.conn.now) → KeepsCommit (state S.Store tx.old.conn.now) (state S.Store tx.new.conn.now) }
     ensures survives { Survives (state S.Store tx.old.conn.now) (state S.Store tx.new.conn.now) (λ _. ⊥) }
@@ -159,8 +172,8 @@ pub(crate) fn update_mark<S: Alter>(
     version: i64,
 ) -> Result<(), Error>
     ensures same_reference { tx.new.conn.ghost_name ≡ tx.old.conn.ghost_name }
-    ensures set { HasCleanDisk (state S.Store tx.new.conn.now) → (a b c : List Row) → (marks : List Mark) → Holds (state S.Store tx.old.conn.now).now a b c (map mark_row marks)
-        → OnOk result (Holds (state S.Store tx.new.conn.now).now a b c (map mark_row (set_mark (site.now, version) marks))) }
+    ensures set { HasCleanDisk (state S.Store tx.new.conn.now) → (a b o c : List Row) → (marks : List Mark) → Holds (state S.Store tx.old.conn.now).now a b o c (map mark_row marks)
+        → OnOk result (Holds (state S.Store tx.new.conn.now).now a b o c (map mark_row (set_mark (site.now, version) marks))) }
     ensures inside { HasCleanDisk (state S.Store tx.new.conn.now) → OnOk result (tx.new.conn.now.in_transaction ≡ tx.old.conn.now.in_transaction) }
     ensures kept { HasCleanDisk (state S.Store tx.new.conn.now) → KeepsCommit (state S.Store tx.old.conn.now) (state S.Store tx.new.conn.now) }
     ensures survives { Survives (state S.Store tx.old.conn.now) (state S.Store tx.new.conn.now) (λ _. ⊥) }

@@ -1,4 +1,4 @@
-//! The rows of `cr_cell`: what is written and read.
+//! The rows of `cr_cell2`: what is written and read.
 
 ghost use Rattle.std.specs.Prelude.{◌≡◌, true, [], ◌∷◌, ◌++◌, map, IfOk, OnOk};
 ghost use Rattle.sqlite.specs.declared.types.Value.TheVariants.{Null as SqlNull, Text as SqlText, Blob as SqlBlob, Int as SqlInt};
@@ -6,11 +6,15 @@ ghost use Rattle.sqlite.specs.Values.{bound, bound_value};
 ghost use Rattle.sqlite_value.specs.Order.{column};
 ghost use Rattle.sqlite_value.specs.Value.{owned};
 ghost use Rattle.cr_cells.specs.Calls.{IsRefusal, is_want};
-ghost use Rattle.cr_store.specs.Rows.{value_of, cell_row, cell_of, value_in};
+ghost use Rattle.cr_store.specs.Ordinals.{ordinal};
+ghost use Rattle.cr_store.specs.Rows.{value_of, cell_row, cell_of, name_in, value_in};
 
+use crate::format::Format;
+use crate::ordinals::{name_at, ordinal};
 use cr_cells::store::{CellsError, StoreFault};
 use cr_lattice::change::{Change, Site};
 use cr_lattice::stamped::Stamped;
+use cr_lattice::table::Table;
 use cr_rows::{blob_at, int_at, text_at};
 use cr_value::text::{Bytes, Text};
 use cr_value::value::Value;
@@ -45,11 +49,11 @@ fn lend(value: &Value) -> ValueRef<'_>
 }
 
 /// The parameters that give each column of a cell.
-pub(crate) fn columns(cell: &Stamped) -> [ValueRef<'_>; 9]
-    ensures { bound result ≡ cell_row cell.now }
+pub(crate) fn columns<'a>(tables: &[Table], cell: &'a Stamped) -> [ValueRef<'a>; 9]
+    ensures { bound result ≡ cell_row Format.Second tables.now cell.now }
 {
     [
-        ValueRef::Text(cell.change.table.as_str().as_bytes()),
+        ValueRef::Int(ordinal(tables, cell.change.table.as_str())),
         ValueRef::Blob(cell.change.pk.as_slice()),
         ValueRef::Text(cell.change.cid.as_str().as_bytes()),
         ValueRef::Int(cell.change.cl),
@@ -62,11 +66,11 @@ pub(crate) fn columns(cell: &Stamped) -> [ValueRef<'_>; 9]
 }
 
 /// The parameters that name a cell of before a version.
-pub(crate) fn old_key(change: &Change, version: i64) -> [ValueRef<'_>; 4]
-    ensures { bound result ≡ SqlText change.now.table ∷ SqlBlob change.now.pk ∷ SqlText change.now.cid ∷ SqlInt version ∷ [] }
+pub(crate) fn old_key<'a>(tables: &[Table], change: &'a Change, version: i64) -> [ValueRef<'a>; 4]
+    ensures { bound result ≡ SqlInt (ordinal tables.now change.now.table) ∷ SqlBlob change.now.pk ∷ SqlText change.now.cid ∷ SqlInt version ∷ [] }
 {
     [
-        ValueRef::Text(change.table.as_str().as_bytes()),
+        ValueRef::Int(ordinal(tables, change.table.as_str())),
         ValueRef::Blob(change.pk.as_slice()),
         ValueRef::Text(change.cid.as_str().as_bytes()),
         ValueRef::Int(version),
@@ -111,11 +115,25 @@ fn site_at(row: &Row, at: usize) -> Result<Site, Error>
     Ok(site)
 }
 
-/// The cell that a row of the nine columns of `cr_cell` shows.
-pub(crate) fn read_cell(row: &Row, alloc: Global) -> Result<Stamped, Error>
-    ensures { IfOk result (λ c. c ≡ cell_of (SqlNull ∷ row.now)) }
+// The name of the table whose ordinal a row begins with.
+fn table_at(row: &Row, tables: &[Table], alloc: Global) -> Result<Text, Error>
+    ensures { IfOk result (λ t. t ≡ name_in Format.Second tables.now (column row.now 0)) }
 {
-    let table = Text::new(text_at(row, 0)?);
+    let ordinal = int_at(row, 0)?;
+    match name_at(tables, ordinal) {
+        Some(name) => match name.copy(alloc) {
+            Ok(name) => Ok(name),
+            Err(_) => Err(OUT_OF_MEMORY),
+        },
+        None => Err(Error::InvalidQuery),
+    }
+}
+
+/// The cell that a row of the nine columns of `cr_cell2` shows.
+pub(crate) fn read_cell(row: &Row, tables: &[Table], alloc: Global) -> Result<Stamped, Error>
+    ensures { IfOk result (λ c. c ≡ cell_of Format.Second tables.now (SqlNull ∷ row.now)) }
+{
+    let table = table_at(row, tables, alloc)?;
     let pk = Bytes::new(blob_at(row, 1)?);
     let cid = Text::new(text_at(row, 2)?);
     let cl = int_at(row, 3)?;
@@ -140,13 +158,17 @@ pub(crate) fn read_cell(row: &Row, alloc: Global) -> Result<Stamped, Error>
     })
 }
 
-/// The cells that rows of the nine columns of `cr_cell` show.
-pub(crate) fn read_cells(rows: &[Row], alloc: Global) -> Result<Vec<Stamped>, Error>
-    ensures { IfOk result (λ cells. cells.items ≡ map (λ row. cell_of (SqlNull ∷ row)) rows.now) }
+/// The cells that rows of the nine columns of `cr_cell2` show.
+pub(crate) fn read_cells(
+    rows: &[Row],
+    tables: &[Table],
+    alloc: Global,
+) -> Result<Vec<Stamped>, Error>
+    ensures { IfOk result (λ cells. cells.items ≡ map (λ row. cell_of Format.Second tables.now (SqlNull ∷ row)) rows.now) }
 {
     let mut cells = Vec::new(alloc);
     for row in rows {
-        let cell = read_cell(row, alloc)?;
+        let cell = read_cell(row, tables, alloc)?;
         match cells.push(cell) {
             Ok(()) => {}
             Err(_) => return Err(OUT_OF_MEMORY),

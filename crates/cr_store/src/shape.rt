@@ -1,10 +1,11 @@
-//! Whether a schema is that of a store.
+//! Which format the schema of a database is of.
 
-ghost use Rattle.std.specs.Prelude.{◌≡◌, [], ◌∷◌, None, true, false, drop, codes, Decides};
+ghost use Rattle.std.specs.Prelude.{◌≡◌, [], ◌∷◌, None, true, false, drop, codes, Decides, ◌≢◌, MatchOption};
 ghost use Rattle.sqlite_value.specs.Keys.{plain};
 ghost use Rattle.cr_rows.specs.Schema.{column, keyed, index_of};
-ghost use Rattle.cr_store.specs.Schema.{meta_columns, table_columns, cell_columns, peer_columns, meta_table, schema_table, cell_table, peer_table, store_schema};
+ghost use Rattle.cr_store.specs.Schema.{meta_columns, table_columns, cell_columns, cell2_columns, peer_columns, meta_table, schema_table, cell_table, cell2_table, peer_table, old_schema, store_schema, schema_of};
 
+use crate::format::Format;
 use sqlite_items::Items;
 use sqlite_schema::code::Terms;
 use sqlite_schema::schema::{Column, Index, Kind, Schema, Stamps, Table};
@@ -225,12 +226,43 @@ fn is_peer(table: &Table) -> bool
     is_keyed(table, b"cr_peer", 6, &[1]) && has_peer_columns(table.columns.as_slice())
 }
 
-fn has_tables(tables: &[Table]) -> bool
-    ensures { Decides result (tables.now ≡ store_schema.tables) }
+fn has_cell2_columns(columns: &[Column]) -> bool
+    ensures { Decides result (columns.now ≡ cell2_columns) }
+{
+    match columns {
+        [tab, pk, cid, change @ ..] => {
+            is_column(tab, b"tab", Kind::Integer)
+                && is_column(pk, b"pk", Kind::Any)
+                && is_column(cid, b"cid", Kind::Text)
+                && has_change_columns(change)
+        }
+        _ => false,
+    }
+}
+
+fn is_cell2(table: &Table) -> bool
+    ensures { Decides result (table.now ≡ cell2_table 8) }
+{
+    is_keyed(table, b"cr_cell2", 8, &[1, 2, 3]) && has_cell2_columns(table.columns.as_slice())
+}
+
+fn has_old_tables(tables: &[Table]) -> bool
+    ensures { Decides result (tables.now ≡ old_schema.tables) }
 {
     match tables {
         [meta, schema, cell, peer] => {
             is_meta(meta) && is_schema(schema) && is_cell(cell) && is_peer(peer)
+        }
+        _ => false,
+    }
+}
+
+fn has_tables(tables: &[Table]) -> bool
+    ensures { Decides result (tables.now ≡ store_schema.tables) }
+{
+    match tables {
+        [meta, schema, cell, peer, cell2] => {
+            is_meta(meta) && is_schema(schema) && is_cell(cell) && is_peer(peer) && is_cell2(cell2)
         }
         _ => false,
     }
@@ -260,8 +292,14 @@ fn is_peer_index(index: &Index) -> bool
     is_index(index, b"sqlite_autoindex_cr_peer_1", 6, &[1], 7)
 }
 
-fn has_indexes(indexes: &[Index]) -> bool
-    ensures { Decides result (indexes.now ≡ store_schema.indexes) }
+fn is_cell2_index(index: &Index) -> bool
+    ensures { Decides result (index.now ≡ index_of (codes "sqlite_autoindex_cr_cell2_1") (cell2_table 8) (1 ∷ 2 ∷ 3 ∷ []) 9) }
+{
+    is_index(index, b"sqlite_autoindex_cr_cell2_1", 8, &[1, 2, 3], 9)
+}
+
+fn has_old_indexes(indexes: &[Index]) -> bool
+    ensures { Decides result (indexes.now ≡ old_schema.indexes) }
 {
     match indexes {
         [meta, schema, cell, peer] => {
@@ -274,11 +312,46 @@ fn has_indexes(indexes: &[Index]) -> bool
     }
 }
 
-/// Whether a schema is that of a store and nothing else: its four tables as they are made, in their order.
-pub(crate) fn is_store_schema(schema: &Schema) -> bool
+fn has_indexes(indexes: &[Index]) -> bool
+    ensures { Decides result (indexes.now ≡ store_schema.indexes) }
+{
+    match indexes {
+        [meta, schema, cell, peer, cell2] => {
+            is_meta_index(meta)
+                && is_schema_index(schema)
+                && is_cell_index(cell)
+                && is_peer_index(peer)
+                && is_cell2_index(cell2)
+        }
+        _ => false,
+    }
+}
+
+fn is_old_schema(schema: &Schema) -> bool
+    ensures { Decides result (schema.now ≡ old_schema) }
+{
+    has_old_tables(schema.tables.as_slice())
+        && has_old_indexes(schema.indexes.as_slice())
+        && schema.views.is_empty()
+}
+
+fn is_store_schema(schema: &Schema) -> bool
     ensures { Decides result (schema.now ≡ store_schema) }
 {
-    has_tables(schema.tables.as_slice())
+    schema.views.is_empty()
+        && has_tables(schema.tables.as_slice())
         && has_indexes(schema.indexes.as_slice())
-        && schema.views.is_empty()
+}
+
+/// The format whose schema this is: the tables of a store as they are made, in their order, and nothing else.
+pub(crate) fn format_of(schema: &Schema) -> Option<Format>
+    ensures { MatchOption result ((format : Format) → schema.now ≢ schema_of format) (λ format. schema.now ≡ schema_of format) }
+{
+    if is_store_schema(schema) {
+        return Some(Format::Second);
+    }
+    if is_old_schema(schema) {
+        return Some(Format::First);
+    }
+    None
 }

@@ -10,18 +10,20 @@ ghost use Rattle.cr_cells.specs.Calls.{IsRefusal, Reads, Defines, Commits, is_wa
 ghost use Rattle.cr_cells.specs.Holding.{empty_holding, IsSound, since, cells_of};
 ghost use Rattle.cr_cells.specs.Tables.{AreWellFormed, IsNewTable, IsNewColumn, has_defaults, with_table, with_replicated, with_added, is_markable};
 ghost use Rattle.cr_store.specs.Making.{has_store, IsRefused};
-ghost use Rattle.cr_store.specs.Opening.{IsReadableTable, IsHeld, IsOpenError, FailsToOpen};
-ghost use Rattle.cr_store.specs.Schema.{store_schema};
+ghost use Rattle.cr_store.specs.Opening.{IsReadableTable, IsHeldIn, IsHeld, IsOpenError, FailsToOpen};
+ghost use Rattle.cr_store.specs.Schema.{schema_of};
 ghost use Rattle.cr_store.specs.Words.{is_ours};
 
 use crate::committing::commit;
 use crate::definition::definition;
+use crate::format::Format;
 use crate::known::Known;
-use crate::opening::read_known;
+use crate::opening::open_known;
+use crate::ordinals::next_ordinal;
 use crate::reads::{cells_of, since};
 use crate::records::crr_of;
 use crate::rows::refusal;
-use crate::shape::is_store_schema;
+use crate::shape::format_of;
 use crate::tables::{add_table, make, redefine, replicate};
 use cr_cells::marks::{Mark, seen_of};
 use cr_cells::store::{Cells, CellsError, StoreFault};
@@ -35,7 +37,7 @@ use sqlite_schema::schema::Schema;
 use std::alloc::Global;
 use std::marker::Model;
 
-/// A store of cells in four tables of sqlite: `cr_meta`, `cr_schema`, `cr_cell` and `cr_peer`.
+/// A store of cells in five tables of sqlite: `cr_meta`, `cr_schema`, `cr_cell`, which is empty, `cr_peer` and `cr_cell2`.
 pub struct Store<S: Alter> {
     conn: Connection<S>,
     known: Known,
@@ -64,13 +66,6 @@ impl<S: Alter + Drop> Drop for Store<S> {
     }
 }
 
-// Tables are counted from 1.
-pub(crate) fn next_ordinal(tables: &[Table]) -> i64
-    ensures { result ≡ pos (1 + length tables.now) }
-{
-    tables.len() as i64 + 1
-}
-
 fn is_ours(name: &[u8]) -> bool
     ensures { result ≡ is_ours name.now }
 {
@@ -78,6 +73,7 @@ fn is_ours(name: &[u8]) -> bool
         || same_name(name, b"cr_schema")
         || same_name(name, b"cr_cell")
         || same_name(name, b"cr_peer")
+        || same_name(name, b"cr_cell2")
 }
 
 fn has_ours(schema: &Schema) -> bool
@@ -156,27 +152,29 @@ impl<S: Alter> Store<S> {
         Ok(Store { conn, known })
     }
 
-    /// The store that the database of a connection holds. A limit of steps is taken off.
+    /// The store that the database of a connection holds, in format 1 or 2. It is left in format 2, in one transaction where
+    /// it was in format 1. A limit of steps is taken off.
     ///
     /// # Errors
     /// With the connection, whose database is as it was: `Store(Refused)` where a transaction is open; else
     /// `Store(Damaged)` where the database has another schema than a store's; in these two cases all of the connection
     /// is as it was. Over a store's schema, `Store(Damaged)` where the rows are those of nothing that a store holds,
-    /// `Store(Refused)` where sqlite refuses to read them, as a limit of steps may have it do, and `Memory`.
+    /// `Store(Refused)` where sqlite refuses to read or to write them, as a limit of steps may have it do, and `Memory`.
     pub fn open(
         alloc: Global,
         mut conn: Connection<S>,
     ) -> Result<Store<S>, (CellsError, Connection<S>)>
         ensures held { IfOk result (λ it. IsClean S.Store it.0 → IsHeld (state S.Store conn).now (holding_of (state S.Store it.0).now it.1)) }
+        ensures left { IfOk result (λ it. IsClean S.Store it.0 → IsHeldIn Format.Second (state S.Store it.0).now (holding_of (state S.Store it.0).now it.1)) }
         ensures readable { IfOk result (λ it. IsClean S.Store it.0 → AllByRecursion IsReadableTable it.1.tables.items) }
         ensures clean { IfOk result (λ it. HasCleanDisk (state S.Store it.0) → IsClean S.Store it.0) }
         ensures limit { IfOk result (λ it. it.0.step_limit ≡ None) }
         ensures busy { (state S.Store conn).in_transaction ≡ true → IsRefused result StoreFault.Refused conn }
-        ensures foreign { (state S.Store conn).in_transaction ≡ false → (state S.Store conn).now.schema ≢ store_schema
+        ensures foreign { (state S.Store conn).in_transaction ≡ false → ((format : Format) → (state S.Store conn).now.schema ≢ schema_of format)
             → IsRefused result StoreFault.Damaged conn }
         ensures damaged { IfErr result (λ e. IsClean S.Store e.1 → FailsToOpen (state S.Store conn).now e.0) }
         ensures why { IfErr result (λ e. IsOpenError e.0) }
-        ensures same { MatchResult result (λ it. IsClean S.Store it.0 → (state S.Store it.0).now ≡ (state S.Store conn).now)
+        ensures same { MatchResult result (λ it. IsClean S.Store it.0 → (state S.Store conn).now.schema ≡ schema_of Format.Second → (state S.Store it.0).now ≡ (state S.Store conn).now)
             (λ e. IsClean S.Store e.1 → (state S.Store e.1).now ≡ (state S.Store conn).now) }
         ensures was_clean { MatchResult result (λ it. IsClean S.Store it.0 → IsClean S.Store conn)
             (λ e. IsClean S.Store e.1 → IsClean S.Store conn) }
@@ -186,10 +184,11 @@ impl<S: Alter> Store<S> {
         if is_busy {
             return Err((CellsError::Store(StoreFault::Refused), conn));
         }
-        if !is_store_schema(conn.schema()) {
-            return Err((CellsError::Store(StoreFault::Damaged), conn));
-        }
-        match read_known(&mut conn, alloc) {
+        let format = match format_of(conn.schema()) {
+            Some(format) => format,
+            None => return Err((CellsError::Store(StoreFault::Damaged), conn)),
+        };
+        match open_known(&mut conn, format, alloc) {
             Ok(known) => {
                 conn.set_step_limit(None);
                 Ok(Store { conn, known })
@@ -201,7 +200,7 @@ impl<S: Alter> Store<S> {
     /// The connection of a store, which goes on as it stands.
     pub fn into_connection(self) -> Connection<S>
         ensures same { result ≡ self.0 }
-        ensures held { IsClean S.Store self.0 → IsHeld (state S.Store self.0).now (holding_of (state S.Store self.0).now self.1) }
+        ensures held { IsClean S.Store self.0 → IsHeldIn Format.Second (state S.Store self.0).now (holding_of (state S.Store self.0).now self.1) }
         ensures auto { self.0.in_transaction ≡ false }
     {
         let Store { conn, known: _ } = self;
@@ -293,7 +292,7 @@ impl<S: Alter> Store<S> {
             (λ cells. cells.items ≡ since (holding_of (state S.Store self.old.0).now self.old.1).cells version) }
     {
         let _ = self.conn.is_autocommit();
-        since(&mut self.conn, version, alloc)
+        since(&mut self.conn, &self.known.tables, version, alloc)
     }
 
     fn read_row<'a>(
@@ -310,7 +309,7 @@ impl<S: Alter> Store<S> {
             (λ cells. cells.items ≡ cells_of (holding_of (state S.Store self.old.0).now self.old.1).cells table.now pk.now) }
     {
         let _ = self.conn.is_autocommit();
-        cells_of(&mut self.conn, table, pk, alloc)
+        cells_of(&mut self.conn, &self.known.tables, table, pk, alloc)
     }
 
     fn take(

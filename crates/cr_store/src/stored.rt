@@ -15,12 +15,10 @@ ghost use Rattle.cr_store.specs.Rows.{value_in};
 ghost use Rattle.cr_store.specs.Stored.{IsText, IsBlob, IsInteger, IsSite, IsFlag, is_one, IsKept, AreStored};
 ghost use Rattle.cr_store.specs.Opening.{IsDamage};
 
-use crate::reads::cmp_cells;
 use crate::rows::OUT_OF_MEMORY;
 use cr_cells::marks::Mark;
 use cr_cells::store::{CellsError, StoreFault};
-use cr_lattice::change::{Change, Site};
-use cr_lattice::stamped::Stamped;
+use cr_lattice::change::Site;
 use cr_rows::{blob_at, int_at, text_at};
 use cr_value::order::{cmp_binary, cmp_bytes};
 use cr_value::text::{Bytes, Text};
@@ -61,7 +59,7 @@ fn damage(error: Error) -> CellsError
     }
 }
 
-fn read_text(row: &Row, at: usize) -> Result<Text, CellsError>
+pub(crate) fn read_text(row: &Row, at: usize) -> Result<Text, CellsError>
     requires { at < length row.now }
     ensures { MatchResult result (λ t. (t ≡ bytes (column row.now at)) × IsText (column row.now at))
         (IsDamage (¬ IsText (column row.now at))) }
@@ -72,7 +70,7 @@ fn read_text(row: &Row, at: usize) -> Result<Text, CellsError>
     }
 }
 
-fn read_blob(row: &Row, at: usize) -> Result<Bytes, CellsError>
+pub(crate) fn read_blob(row: &Row, at: usize) -> Result<Bytes, CellsError>
     requires { at < length row.now }
     ensures { MatchResult result (λ b. (b ≡ bytes (column row.now at)) × IsBlob (column row.now at))
         (IsDamage (¬ IsBlob (column row.now at))) }
@@ -83,7 +81,7 @@ fn read_blob(row: &Row, at: usize) -> Result<Bytes, CellsError>
     }
 }
 
-fn read_int(row: &Row, at: usize) -> Result<i64, CellsError>
+pub(crate) fn read_int(row: &Row, at: usize) -> Result<i64, CellsError>
     requires { at < length row.now }
     ensures { MatchResult result (λ n. (n ≡ id_in (column row.now at)) × IsInteger (column row.now at))
         (IsDamage (¬ IsInteger (column row.now at))) }
@@ -106,7 +104,7 @@ pub(crate) fn site_of(bytes: &[u8]) -> Option<Site>
     Some(site)
 }
 
-fn read_site(row: &Row, at: usize) -> Result<Site, CellsError>
+pub(crate) fn read_site(row: &Row, at: usize) -> Result<Site, CellsError>
     requires { at < length row.now }
     ensures { MatchResult result (λ s. (s ≡ bytes (column row.now at)) × IsSite (column row.now at))
         (IsDamage (¬ IsSite (column row.now at))) }
@@ -146,7 +144,7 @@ fn keep(value: ValueRef<'_>, alloc: Global) -> Result<Value, CellsError>
     }
 }
 
-fn read_value(row: &Row, at: usize, alloc: Global) -> Result<Value, CellsError>
+pub(crate) fn read_value(row: &Row, at: usize, alloc: Global) -> Result<Value, CellsError>
     requires { at < length row.now }
     ensures { MatchResult result (λ v. (v ≡ value_in (column row.now at)) × IsKept (column row.now at))
         (IsDamage (¬ IsKept (column row.now at))) }
@@ -260,56 +258,6 @@ impl Stored for TableEntry {
     }
 }
 
-impl Stored for Stamped {
-    ghost use Rattle.cr_cells.specs.Holding.{cell_cmp};
-    ghost use Rattle.cr_cells.proofs.CellLemmas.{cell_total, cell_exact};
-    ghost use Rattle.cr_store.specs.Rows.{cell_of};
-    ghost use Rattle.cr_store.specs.Stored.{IsCellRow};
-
-    ghost of = { cell_of };
-
-    ghost is_stored = { IsCellRow };
-
-    ghost order = { cell_cmp };
-
-    ghost total = { cell_total };
-
-    ghost exact = { cell_exact };
-
-    fn read(row: &Row, alloc: Global) -> Result<Stamped, CellsError> {
-        if row.column_count() != 10 {
-            return Err(DAMAGED);
-        }
-        let table = read_text(row, 1)?;
-        let pk = read_blob(row, 2)?;
-        let cid = read_text(row, 3)?;
-        let cl = read_int(row, 4)?;
-        let col_version = read_int(row, 5)?;
-        let val = read_value(row, 6, alloc)?;
-        let site = read_site(row, 7)?;
-        let version = read_int(row, 8)?;
-        let seq = read_int(row, 9)?;
-        let change = Change {
-            table,
-            pk,
-            cid,
-            val,
-            col_version,
-            site,
-            cl,
-        };
-        Ok(Stamped {
-            change,
-            version,
-            seq,
-        })
-    }
-
-    fn compare(&self, other: &Stamped) -> Ordering {
-        cmp_cells(self, other)
-    }
-}
-
 impl Stored for Mark {
     ghost use Rattle.cr_store.specs.Stored.{mark_of, IsMarkRow, seen_cmp};
     ghost use Rattle.cr_store.specs.StoredOrders.{seen_total, seen_exact};
@@ -340,7 +288,7 @@ impl Stored for Mark {
 
 // ---- tables
 
-fn read_ids(rows: &[Row], alloc: Global) -> Result<Vec<i64>, CellsError>
+pub(crate) fn read_ids(rows: &[Row], alloc: Global) -> Result<Vec<i64>, CellsError>
     ensures { MatchResult result (λ ids. (ids.items ≡ map (λ r. id_in (rowid r)) rows.now) × AllByRecursion (λ r. IsInteger (rowid r)) rows.now)
         (IsDamage (¬ AllByRecursion (λ r. IsInteger (rowid r)) rows.now)) }
 {
@@ -359,7 +307,7 @@ fn read_ids(rows: &[Row], alloc: Global) -> Result<Vec<i64>, CellsError>
 }
 
 // Sorts the numbers, so that equal ones are neighbours.
-fn are_distinct(mut ids: Vec<i64>) -> bool
+pub(crate) fn are_distinct(mut ids: Vec<i64>) -> bool
     ensures { Decides result (IsDistinct int_eq ids.items) }
 {
     ids.sort_unstable();

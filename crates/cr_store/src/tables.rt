@@ -23,7 +23,7 @@ use sqlite::{Alter, Connection, Error, Transaction};
 // The rows of cr_meta in a new store.
 fn insert_all_meta<S: Alter>(tx: &mut Transaction<'_, S>, site: &Site) -> Result<(), Error>
     ensures same_reference { tx.new.conn.ghost_name ≡ tx.old.conn.ghost_name }
-    ensures put { HasCleanDisk (state S.Store tx.new.conn.now) → Holds (state S.Store tx.old.conn.now).now [] [] [] []
+    ensures put { HasCleanDisk (state S.Store tx.new.conn.now) → Holds (state S.Store tx.old.conn.now).now [] [] [] [] []
         → OnOk result (Shows (state S.Store tx.new.conn.now).now (empty_holding site.now)) }
     ensures inside { HasCleanDisk (state S.Store tx.new.conn.now) → OnOk result (tx.new.conn.now.in_transaction ≡ tx.old.conn.now.in_transaction) }
     ensures kept { HasCleanDisk (state S.Store tx.new.conn.now) → KeepsCommit (state S.Store tx.old.conn.now) (state S.Store tx.new.conn.now) }
@@ -31,7 +31,7 @@ fn insert_all_meta<S: Alter>(tx: &mut Transaction<'_, S>, site: &Site) -> Result
 {
     insert_meta(tx, "db_version", ValueRef::Int(0))?;
     insert_meta(tx, "site", ValueRef::Blob(site))?;
-    insert_meta(tx, "format", ValueRef::Int(1))
+    insert_meta(tx, "format", ValueRef::Int(2))
 }
 
 // The tables of a store that holds nothing, in one transaction.
@@ -82,8 +82,8 @@ pub(crate) fn add_table<'a, S: Alter>(
 ) -> Result<(), Error>
     requires auto { conn.old.in_transaction ≡ false }
     requires settled { IsTrue (state S.Store conn.old).is_open → (state S.Store conn.old).now ≡ (state S.Store conn.old).committed }
-    ensures put { HasCleanDisk (state S.Store conn.new) → (a b c d : List Row) → Holds (state S.Store conn.old).now a b c d
-        → OnOk result (Holds (state S.Store conn.new).now a ((SqlText name.now ∷ SqlInt ordinal ∷ SqlInt crr ∷ SqlBlob definition.now ∷ []) ∷ b) c d) }
+    ensures put { HasCleanDisk (state S.Store conn.new) → (a b o c d : List Row) → Holds (state S.Store conn.old).now a b o c d
+        → OnOk result (Holds (state S.Store conn.new).now a ((SqlText name.now ∷ SqlInt ordinal ∷ SqlInt crr ∷ SqlBlob definition.now ∷ []) ∷ b) o c d) }
     ensures opened { HasCleanDisk (state S.Store conn.new) → OnOk result (IsTrue (state S.Store conn.new).is_open) }
     ensures same { HasCleanDisk (state S.Store conn.new) → IsTrue (state S.Store conn.new).is_open → OnErr result ((state S.Store conn.new).now ≡ (state S.Store conn.old).now) }
     ensures auto { conn.new.in_transaction ≡ false }
@@ -104,8 +104,8 @@ pub(crate) fn redefine<'a, S: Alter>(
 ) -> Result<(), Error>
     requires auto { conn.old.in_transaction ≡ false }
     requires settled { IsTrue (state S.Store conn.old).is_open → (state S.Store conn.old).now ≡ (state S.Store conn.old).committed }
-    ensures set { HasCleanDisk (state S.Store conn.new) → (a c d : List Row) → (column : ColumnDef) → (tables : List Table) → AreWidened name.now column definition.now tables → Holds (state S.Store conn.old).now a (table_rows 1 tables) c d
-        → OnOk result (Holds (state S.Store conn.new).now a (table_rows 1 (with_added name.now column tables)) c d) }
+    ensures set { HasCleanDisk (state S.Store conn.new) → (a o c d : List Row) → (column : ColumnDef) → (tables : List Table) → AreWidened name.now column definition.now tables → Holds (state S.Store conn.old).now a (table_rows 1 tables) o c d
+        → OnOk result (Holds (state S.Store conn.new).now a (table_rows 1 (with_added name.now column tables)) o c d) }
     ensures opened { HasCleanDisk (state S.Store conn.new) → OnOk result (IsTrue (state S.Store conn.new).is_open) }
     ensures same { HasCleanDisk (state S.Store conn.new) → IsTrue (state S.Store conn.new).is_open → OnErr result ((state S.Store conn.new).now ≡ (state S.Store conn.old).now) }
     ensures auto { conn.new.in_transaction ≡ false }
@@ -122,8 +122,8 @@ pub(crate) fn redefine<'a, S: Alter>(
 pub(crate) fn replicate<S: Alter>(conn: &mut Connection<S>, name: &str) -> Result<(), Error>
     requires auto { conn.old.in_transaction ≡ false }
     requires settled { IsTrue (state S.Store conn.old).is_open → (state S.Store conn.old).now ≡ (state S.Store conn.old).committed }
-    ensures set { HasCleanDisk (state S.Store conn.new) → (a c d : List Row) → (tables : List Table) → Holds (state S.Store conn.old).now a (table_rows 1 tables) c d
-        → OnOk result (Holds (state S.Store conn.new).now a (table_rows 1 (with_replicated name.now tables)) c d) }
+    ensures set { HasCleanDisk (state S.Store conn.new) → (a o c d : List Row) → (tables : List Table) → Holds (state S.Store conn.old).now a (table_rows 1 tables) o c d
+        → OnOk result (Holds (state S.Store conn.new).now a (table_rows 1 (with_replicated name.now tables)) o c d) }
     ensures opened { HasCleanDisk (state S.Store conn.new) → OnOk result (IsTrue (state S.Store conn.new).is_open) }
     ensures same { HasCleanDisk (state S.Store conn.new) → IsTrue (state S.Store conn.new).is_open → OnErr result ((state S.Store conn.new).now ≡ (state S.Store conn.old).now) }
     ensures auto { conn.new.in_transaction ≡ false }

@@ -9,6 +9,8 @@ mod disk;
 #[cfg(test)]
 mod fleet;
 #[cfg(test)]
+mod formats;
+#[cfg(test)]
 mod guard;
 #[cfg(test)]
 mod replica;

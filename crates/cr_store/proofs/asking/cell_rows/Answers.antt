@@ -1,5 +1,6 @@
 use Rattle.std.proofs.Common.{not, ap, ◌∙◌}
 use Rattle.sqlite.specs.Held.{state}
+use Rattle.cr_store.specs.Schema.{store_schema}
 use Rattle.cr_store.proofs.OpenTexts.{select_cells, first_10, cell_names, asks_cells}
 use Rattle.cr_store.proofs.AskedRows.{asked, is_plain}
 use Rattle.cr_store.proofs.StoreLemmas.{if_then}
@@ -9,7 +10,7 @@ pub returns-clause-found : goal.returns-clause-found
 returns-clause-found g c clean has =
     let old = state g.S.Store c.args.conn.now in
     let new = state g.S.Store c.ask.new.conn in
-    if_then c.ask.result _ _ (λ rows h. asked select_cells 4 first_10 cell_names asks_cells old new rows.items has h) (c.ask.ensures.found clean)
+    if_then c.ask.result _ _ (λ rows h. asked store_schema select_cells 8 first_10 cell_names asks_cells old new rows.items has h) (c.ask.ensures.found clean)
 
 pub returns-clause-asks : goal.returns-clause-asks
 returns-clause-asks g c clean has =
@@ -18,5 +19,5 @@ returns-clause-asks g c clean has =
     let was_open = c.ask.ensures.was_open clean in
     record {
       was_open = was_open;
-      same = λ it. c.ask.ensures.same clean (is_plain select_cells 4 first_10 cell_names asks_cells old new has) (c.is_autocommit.ensures.settled (c.is_autocommit.ensures.value ∙ ap not c.requires.mode) (was_open it)) it;
+      same = λ it. c.ask.ensures.same clean (is_plain store_schema select_cells 8 first_10 cell_names asks_cells old new has) (c.is_autocommit.ensures.settled (c.is_autocommit.ensures.value ∙ ap not c.requires.mode) (was_open it)) it;
     }

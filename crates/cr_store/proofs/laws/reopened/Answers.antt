@@ -1,5 +1,6 @@
 use Rattle.std.proofs.Common.{subst}
 use Rattle.sqlite.specs.Held.{Held, state}
+use Rattle.cr_store.specs.declared.format.Format.TheVariants.{Second}
 use Rattle.cr_store.specs.Kept.{IsClean, holding_of}
 use Rattle.cr_store.specs.Opening.{IsHeld, FailsToOpen}
 use Rattle.cr_store.proofs.KnownLemmas.{holds_one}
@@ -16,7 +17,7 @@ returns-clause-same g c =
     (λ it h clean readable.
     let was : IsClean g.S.Store store.0 = subst (IsClean g.S.Store) same (h.1.0 clean) in
     let held : IsHeld (state g.S.Store store.0).now (holding_of (state g.S.Store it.0).now it.1) = subst (λ (conn : Held g.row.S.Denot). IsHeld (state g.S.Store conn).now (holding_of (state g.S.Store it.0).now it.1)) same (h.0 clean) in
-    holds_one (state g.S.Store store.0).now (holding_of (state g.S.Store it.0).now it.1) (holding_of (state g.S.Store store.0).now store.1) held (c.into_connection.ensures.held was) (h.1.1 clean) readable) opened
+    holds_one (state g.S.Store store.0).now (holding_of (state g.S.Store it.0).now it.1) (holding_of (state g.S.Store store.0).now store.1) held (Second, c.into_connection.ensures.held was) (h.1.1 clean) readable) opened
 
 pub returns-clause-why : goal.returns-clause-why
 returns-clause-why g c =
@@ -26,5 +27,5 @@ returns-clause-why g c =
     (λ e h clean can.
     let was : IsClean g.S.Store store.0 = subst (IsClean g.S.Store) same (h.1 clean) in
     let fails : FailsToOpen (state g.S.Store store.0).now e.0 = subst (λ (conn : Held g.row.S.Denot). FailsToOpen (state g.S.Store conn).now e.0) same (h.0 clean) in
-    refusal_only (state g.S.Store store.0).now (holding_of (state g.S.Store store.0).now store.1) (c.into_connection.ensures.held was) can e.0 fails)
+    refusal_only (state g.S.Store store.0).now (holding_of (state g.S.Store store.0).now store.1) (Second, c.into_connection.ensures.held was) can e.0 fails)
     (both_err c.open.result _ _ c.open.ensures.damaged (err_part c.open.result _ _ c.open.ensures.was_clean))

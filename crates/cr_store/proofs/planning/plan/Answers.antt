@@ -1,19 +1,18 @@
-use Rattle.std.proofs.Common.{◌≡◌, ◌+◌, rules, IsTrue, map, take, [], ◌∷◌, ◌++◌, ◌∙◌, ap, sym, not, subst, SFits, w64, to_z, of_z, to_z-of_z}
+use Rattle.std.proofs.Common.{◌≡◌, ◌+◌, rules, IsTrue, take, [], ◌∷◌, ◌++◌, ◌∙◌, ap, sym, not, subst, SFits, w64, to_z, of_z, to_z-of_z}
 use Rattle.std.proofs.lemmas.List.{take_more, take_all}
 use Rattle.sqlite.specs.Held.{state}
 use Rattle.cr_cells.specs.Holding.{cells_of}
 use Rattle.cr_store.specs.Plan.{IsPlan}
-use Rattle.cr_store.specs.Rows.{cell_row}
-use Rattle.cr_store.specs.Shows.{Holds}
+use Rattle.cr_store.specs.Shows.{HasCells}
 use Rattle.cr_store.proofs.planning.plan.Goals as goal
 
 pub returns-in_err-row-clause-planned : goal.returns-in_err-row-clause-planned
-returns-in_err-row-clause-planned g c = λ clean it a b d ss held sorted.
+returns-in_err-row-clause-planned g c = λ clean it a b o d ss held sorted.
     let early = c.cells_of.ensures.clean clean in
     let was_open = c.cells_of.ensures.was_open clean it in
-    let same = c.loop-change.invariant.same early held.schema was_open in
-    let held_now = subst (λ db. Holds db a b (map cell_row ss) d) (sym same) held in
-    let refused = c.in_err-row.ensures.found clean a b d ss held_now sorted in
+    let same = c.loop-change.invariant.same early held.held.schema was_open in
+    let held_now = subst (λ db. HasCells db c.args.tables.now a b o d ss) (sym same) held in
+    let refused = c.in_err-row.ensures.found clean a b o d ss held_now sorted in
     search rules
 
 pub loop-change-preserved : goal.loop-change-preserved
@@ -36,21 +35,21 @@ loop-change-preserved g c =
           let was_open = read.was_open clean it in
           let before = was.same early schema was_open in
           read.same clean (ap (λ db. db.schema) before ∙ schema) (settled was_open) it ∙ before;
-      planned = λ clean it a b d ss held sorted.
+      planned = λ clean it a b o d ss held sorted.
           let early = read.clean clean in
           let was_open = read.was_open clean it in
-          let before = was.same early held.schema was_open in
-          let held_now = subst (λ db. Holds db a b (map cell_row ss) d) (sym before) held in
+          let before = was.same early held.held.schema was_open in
+          let held_now = subst (λ db. HasCells db c.args.tables.now a b o d ss) (sym before) held in
           let cut : take i changes ++ x ∷ [] ≡ take (i + 1) changes = ap (λ y. take i changes ++ y ∷ []) c.change-item.is ∙ sym (take_more changes i x c.loop-change-test.true) in
-          let row = c.in_ok-row.ensures.found clean a b d ss held_now sorted in
-          let plan = was.planned early was_open a b d ss held sorted in
+          let row = c.in_ok-row.ensures.found clean a b o d ss held_now sorted in
+          let plan = was.planned early was_open a b o d ss held sorted in
           let same_row : c.deref.result.now ≡ cells_of ss x.table x.pk =
-          c.deref.ensures.value ∙ row ∙ ap (λ t. cells_of ss t c.as_slice.result.now) c.as_str.ensures.value ∙ ap (cells_of ss x.table) c.as_slice.ensures in
+          c.deref.ensures.value ∙ row ∙ ap (λ t. cells_of ss t c.as_slice.result.now) c.as_str-table.ensures.value ∙ ap (cells_of ss x.table) c.as_slice.ensures in
           subst (λ cs. IsPlan ss cs (to_z w64 (of_z w64 c.args.version)) c.take.new.plan) cut (c.in_ok-take.ensures ss (take i changes) same_row plan);
     }
 
 pub returns-clause-planned : goal.returns-clause-planned
-returns-clause-planned g c = λ clean it a b d ss held sorted.
+returns-clause-planned g c = λ clean it a b o d ss held sorted.
     let fits : SFits w64 c.args.version = c.ranges.version in
     subst (λ v. IsPlan ss c.args.changes.now v c.loop-change.plan) (to_z-of_z fits)
-    (subst (λ cs. IsPlan ss cs (to_z w64 (of_z w64 c.args.version)) c.loop-change.plan) (take_all c.loop-change.change-index c.args.changes.now c.loop-change-test.false) (c.loop-change.invariant.planned clean it a b d ss held sorted))
+    (subst (λ cs. IsPlan ss cs (to_z w64 (of_z w64 c.args.version)) c.loop-change.plan) (take_all c.loop-change.change-index c.args.changes.now c.loop-change-test.false) (c.loop-change.invariant.planned clean it a b o d ss held sorted))

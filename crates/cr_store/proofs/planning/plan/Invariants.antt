@@ -1,4 +1,4 @@
-use Rattle.std.proofs.Common.{◌≡◌, List, false, IsTrue, map, take}
+use Rattle.std.proofs.Common.{◌≡◌, List, false, IsTrue, take}
 use Rattle.std.specs.List.Sorted.{IsStrictlySortedBy}
 use Rattle.sqlite.specs.Held.{state}
 use Rattle.sqlite.specs.Order.{Row}
@@ -6,9 +6,8 @@ use Rattle.sqlite.specs.State.{HasCleanDisk}
 use Rattle.cr_lattice.specs.declared.stamped.Stamped.{Stamped}
 use Rattle.cr_cells.specs.Holding.{cell_cmp}
 use Rattle.cr_store.specs.Plan.{IsPlan}
-use Rattle.cr_store.specs.Rows.{cell_row}
 use Rattle.cr_store.specs.Schema.{store_schema}
-use Rattle.cr_store.specs.Shows.{Holds}
+use Rattle.cr_store.specs.Shows.{HasCells}
 use Rattle.cr_store.proofs.planning.plan.Given as goal
 
 abbrev pub invariant-loop-change : goal.invariant-loop-change
@@ -21,6 +20,6 @@ invariant-loop-change g l =
       was_open : HasCleanDisk new → IsTrue new.is_open → IsTrue old.is_open;
       opened : HasCleanDisk new → IsTrue old.is_open → IsTrue new.is_open;
       same : HasCleanDisk new → old.now.schema ≡ store_schema → IsTrue new.is_open → new.now ≡ old.now;
-      planned : HasCleanDisk new → IsTrue new.is_open → (a b d : List Row) → (ss : List Stamped) → Holds old.now a b (map cell_row ss) d → IsStrictlySortedBy cell_cmp ss
+      planned : HasCleanDisk new → IsTrue new.is_open → (a b o d : List Row) → (ss : List Stamped) → HasCells old.now l.tables a b o d ss → IsStrictlySortedBy cell_cmp ss
           → IsPlan ss (take l.change-index l.changes) l.version l.plan;
     }

@@ -5,9 +5,10 @@ use Rattle.sqlite.specs.Held.{state}
 use Rattle.sqlite.specs.Listing.{understood}
 use Rattle.sqlite.proofs.Callers.{IsPlain}
 use Rattle.cr_rows.specs.Rows.{SameRows}
+use Rattle.cr_store.specs.declared.format.Format.TheVariants.{Second}
 use Rattle.cr_store.specs.Rows.{cell_row}
 use Rattle.cr_store.proofs.TextLemmas.{select_since, since_plain}
-use Rattle.cr_store.proofs.ReadLemmas.{shows_since, same_cells}
+use Rattle.cr_store.proofs.ReadLemmas.{shows_since, same_cells, named_filter}
 use Rattle.cr_store.proofs.StoreLemmas.{if_then, on_ok, shown_open}
 use Rattle.cr_store.proofs.reads.cells_above.Goals as goal
 
@@ -18,12 +19,13 @@ pub returns-clause-same : goal.returns-clause-same
 returns-clause-same g c clean has settled it = c.ask.ensures.same clean (subst (λ s. IsPlain (understood s select_since)) (sym has) since_plain) settled it
 
 pub returns-clause-found : goal.returns-clause-found
-returns-clause-found g c clean a b d ss it =
+returns-clause-found g c clean a b o d ss it =
+    let ts = c.args.tables.now in
     let old = state g.S.Store c.args.conn.now in
     let new = state g.S.Store c.ask.new.conn in
     let shown = simp (to_z-of_z w64 c.args.version c.ranges.version) at (c.in_ok-rows.ensures.found clean) in
-    let found : SameRows (map cell_row (filter (λ s. int_lt c.args.version s.version) ss)) c.deref.result.now = rw c.deref.ensures.value (shows_since old new a b d ss c.args.version _ it shown) in
-    if_then c.read_cells.result _ _ (λ cells is. same_cells (filter (λ s. int_lt c.args.version s.version) ss) c.deref.result.now cells.items found is) c.read_cells.ensures
+    let found : SameRows (map (cell_row Second ts) (filter (λ s. int_lt c.args.version s.version) ss)) c.deref.result.now = rw c.deref.ensures.value (shows_since ts old new a b o d ss c.args.version _ it shown) in
+    if_then c.read_cells.result _ _ (λ cells is. same_cells ts (filter (λ s. int_lt c.args.version s.version) ss) c.deref.result.now cells.items (named_filter ts _ ss it.named) found is) c.read_cells.ensures
 
 pub returns-clause-opened : goal.returns-clause-opened
 returns-clause-opened g c clean =

@@ -8,8 +8,8 @@ use Rattle.cr_store.proofs.reads.cells_of.Goals as goal
 
 pub returns-in_ok-by_change-in-Ok-clause-found : goal.returns-in_ok-by_change-in-Ok-clause-found
 unfolding cells_of
-returns-in_ok-by_change-in-Ok-clause-found g c clean a b d ss it up =
-    let same = c.in-Ok.ensures.found clean a b d ss it in
+returns-in_ok-by_change-in-Ok-clause-found g c clean a b o d ss it up =
+    let same = c.in-Ok.ensures.found clean a b o d ss it in
     c.in_ok-by_change-in-Ok.ensures
     ∙ sym (same_sets cell_total cell_exact (filter (λ s. is_of_row c.args.table.now c.args.pk.now s.change) ss) c.in-Ok.cells.items same.to same.from)
     ∙ set_of_sorted cell_total cell_exact _ (IsStrictlySortedBy-filter _ _ ss up)

@@ -6,6 +6,6 @@ use Rattle.cr_store.proofs.StoreLemmas.{ok_then}
 use Rattle.cr_store.proofs.records.insert_table.Goals as goal
 
 pub returns-clause-put : goal.returns-clause-put
-returns-clause-put g c clean a b cells marks it =
-    ok_then c.write.result _ _ (λ ran. puts_table (state g.S.Store c.args.tx.now.conn.now) (state g.S.Store c.write.new.tx.conn.now) a b cells marks _ _ _ _ ran.0 it
+returns-clause-put g c clean a b o cells marks it =
+    ok_then c.write.result _ _ (λ ran. puts_table (state g.S.Store c.args.tx.now.conn.now) (state g.S.Store c.write.new.tx.conn.now) a b o cells marks _ _ _ _ ran.0 it
     (rw c.as_bytes.ensures.value at (simp (to_z-of_z w64 c.args.ordinal c.ranges.ordinal, to_z-of_z w64 c.args.crr c.ranges.crr) at ran.1))) (c.write.ensures.ran clean)

@@ -9,6 +9,6 @@ returns-clause-put g c clean it =
     let s1 = state g.S.Store c.insert_meta.new.tx.conn.now in
     let two = was_clean s2 (state g.S.Store c.insert_meta-3.new.tx.conn.now) c.insert_meta-3.ensures.survives clean in
     let one = was_clean s1 s2 c.insert_meta-2.ensures.survives two in
-    let p = c.in_ok-insert_meta.ensures.put one [] [] [] [] it in
-    let q = c.in_ok-insert_meta-2.ensures.put two _ _ _ _ p in
-    c.insert_meta-3.ensures.put clean _ _ _ _ q
+    let p = c.in_ok-insert_meta.ensures.put one [] [] [] [] [] it in
+    let q = c.in_ok-insert_meta-2.ensures.put two _ _ _ _ _ p in
+    c.insert_meta-3.ensures.put clean _ _ _ _ _ q

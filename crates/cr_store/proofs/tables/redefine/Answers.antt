@@ -7,11 +7,11 @@ use Rattle.cr_store.specs.Shows.{Holds}
 use Rattle.cr_store.proofs.tables.redefine.Goals as goal
 
 pub returns-clause-set : goal.returns-clause-set
-returns-clause-set g c clean a cells marks column tables widened it =
+returns-clause-set g c clean a o cells marks column tables widened it =
     let late : HasCleanDisk (state g.S.Store c.commit.new.self.0) = search rules in
     let begun = c.transaction-tx.ensures.begun in
     let inside : HasCleanDisk (state g.S.Store c.set_definition.new.tx.conn.now) = omega (arith, c.commit.ensures.survives.clean, late) in
-    let done = c.in_ok-set_definition.ensures.set inside a cells marks column tables widened (rw begun it) in
-    let fact : Holds (state g.S.Store c.commit.new.self.0).now a (table_rows 1 (with_added c.args.name.now column tables)) cells marks =
-    subst (λ db. Holds db a (table_rows 1 (with_added c.args.name.now column tables)) cells marks) (sym (c.in_ok-commit.ensures.ok late).1.now_is) done in
+    let done = c.in_ok-set_definition.ensures.set inside a o cells marks column tables widened (rw begun it) in
+    let fact : Holds (state g.S.Store c.commit.new.self.0).now a (table_rows 1 (with_added c.args.name.now column tables)) o cells marks =
+    subst (λ db. Holds db a (table_rows 1 (with_added c.args.name.now column tables)) o cells marks) (sym (c.in_ok-commit.ensures.ok late).1.now_is) done in
     search (rules, fact)

@@ -1,11 +1,10 @@
-use Rattle.std.proofs.Common.{◌∙◌, map, subst, sym, take_all, w64, to_z, of_z}
+use Rattle.std.proofs.Common.{◌∙◌, subst, sym, take_all, w64, to_z, of_z}
 use Rattle.std.proofs.lemmas.Int.{to_z-of_z}
 use Rattle.cr_store.specs.Plan.{without_all}
 use Rattle.sqlite.specs.State.{HasCleanDisk}
 use Rattle.sqlite.specs.Held.{state}
 use Rattle.sqlite.proofs.StateLemmas.{survives_then}
-use Rattle.cr_store.specs.Rows.{cell_row}
-use Rattle.cr_store.specs.Shows.{Holds}
+use Rattle.cr_store.specs.Shows.{HasCells}
 use Rattle.cr_store.proofs.StoreLemmas.{was_clean, keeps_then}
 use Rattle.cr_store.proofs.WriteLemmas.{without_more}
 use Rattle.cr_store.proofs.writing.delete_all.Goals as goal
@@ -23,14 +22,14 @@ loop-change-preserved g c =
       survives = survives_then old mid new (λ _. ⊥) (λ _. ⊥) (λ _. ⊥) (λ _ db none. none) (λ _ db none. none) was.survives put.survives;
       inside = λ clean. put.inside clean ∙ was.inside (early clean);
       kept = λ clean. keeps_then old mid new (was.kept (early clean)) (put.kept clean);
-      cut = λ clean a b d ss it.
-          let before = was.cut (early clean) a b d ss it in
-          let after = put.cut clean a b d _ before in
-          subst (λ cells. Holds new.now a b (map cell_row cells) d) (sym (without_more (to_z w64 (of_z w64 c.args.version)) c.args.gone.now c.loop-change.change-index c.change-item.result ss c.loop-change-test.true c.change-item.is)) after;
+      cut = λ clean a b o d ss it.
+          let before = was.cut (early clean) a b o d ss it in
+          let after = put.cut clean a b o d _ before in
+          subst (HasCells new.now c.args.tables.now a b o d) (sym (without_more (to_z w64 (of_z w64 c.args.version)) c.args.gone.now c.loop-change.change-index c.change-item.result ss c.loop-change-test.true c.change-item.is)) after;
     }
 
 pub returns-clause-cut : goal.returns-clause-cut
-returns-clause-cut g c clean a b d ss it =
+returns-clause-cut g c clean a b o d ss it =
     let now = state g.S.Store c.loop-change.tx.conn.now in
-    subst (λ cs. Holds now.now a b (map cell_row (without_all c.args.version cs ss)) d) (take_all _ _ c.loop-change-test.false)
-    (simp (to_z-of_z w64 c.args.version c.ranges.version) at (c.loop-change.invariant.cut clean a b d ss it))
+    subst (λ cs. HasCells now.now c.args.tables.now a b o d (without_all c.args.version cs ss)) (take_all _ _ c.loop-change-test.false)
+    (simp (to_z-of_z w64 c.args.version c.ranges.version) at (c.loop-change.invariant.cut clean a b o d ss it))

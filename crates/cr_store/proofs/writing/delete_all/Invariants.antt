@@ -1,11 +1,10 @@
-use Rattle.std.proofs.Common.{◌≡◌, List, map, take}
+use Rattle.std.proofs.Common.{◌≡◌, List, take}
 use Rattle.sqlite.specs.Order.{Row}
 use Rattle.sqlite.specs.State.{HasCleanDisk, KeepsCommit, Survives}
 use Rattle.sqlite.specs.Held.{state}
 use Rattle.cr_lattice.specs.declared.stamped.Stamped.{Stamped}
 use Rattle.cr_store.specs.Plan.{without_all}
-use Rattle.cr_store.specs.Rows.{cell_row}
-use Rattle.cr_store.specs.Shows.{Holds}
+use Rattle.cr_store.specs.Shows.{HasCells}
 use Rattle.cr_store.proofs.writing.delete_all.Given as goal
 
 abbrev pub invariant-loop-change : goal.invariant-loop-change
@@ -17,5 +16,5 @@ invariant-loop-change g l =
       survives : Survives old now (λ _. ⊥);
       inside : HasCleanDisk now → l.tx.conn.now.in_transaction ≡ l.fn.tx.conn.now.in_transaction;
       kept : HasCleanDisk now → KeepsCommit old now;
-      cut : HasCleanDisk now → (a : List Row) (b : List Row) (d : List Row) (ss : List Stamped) → Holds old.now a b (map cell_row ss) d → Holds now.now a b (map cell_row (without_all l.fn.version (take l.change-index l.gone) ss)) d;
+      cut : HasCleanDisk now → (a : List Row) (b : List Row) (o : List Row) (d : List Row) (ss : List Stamped) → HasCells old.now l.tables a b o d ss → HasCells now.now l.tables a b o d (without_all l.fn.version (take l.change-index l.gone) ss);
     }

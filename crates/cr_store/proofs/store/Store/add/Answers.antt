@@ -26,9 +26,12 @@ returns-in-Ok-clause-defines g c clean =
     let bytes = c.deref-3.ensures.value ∙ c.in_ok-bytes.ensures in
     let row = row_is (1 + length known.tables.items) made c.as_str.result.now _ _ c.deref-3.result.now c.as_str.ensures.value ordinal crr bytes in
     let early : IsClean g.S.Store c.self.inside.conn = record { clean = c.add_table.ensures.clean clean.clean; is_open = c.add_table.ensures.was_open clean.clean clean.is_open } in
-    let put = c.in-Ok.ensures.put clean.clean _ _ _ _ (c.self.invariant.shows early) in
-    let shown = shows_table now.now (holding_of old.now known) made _ row put in
-    let is = tables_set old.now now.now known c.add.new.tables (with_table known.tables.items c.args.def.now c.args.is_replicated) tables shown in
+    let sound = c.self.invariant.sound early in
+    let fresh = rw (← c.self.view_is) at c.requires.is_new in
+    let new = sound_with_table (holding_of old.now known) c.args.def.now c.args.is_replicated sound (fresh early) (wants_defaults c.args.is_replicated _ c.requires.defaults) in
+    let put = c.in-Ok.ensures.put clean.clean _ _ _ _ _ (c.self.invariant.shows early) in
+    let shown = shows_table now.now (holding_of old.now known) made _ row sound put in
+    let is = tables_set old.now now.now known c.add.new.tables (with_table known.tables.items c.args.def.now c.args.is_replicated) tables new shown in
     rw (← c.self.view_is) is
 
 pub returns-in-Ok-clause-sound : goal.returns-in-Ok-clause-sound
@@ -45,11 +48,13 @@ returns-in-Ok-clause-sound g c clean =
     let bytes = c.deref-3.ensures.value ∙ c.in_ok-bytes.ensures in
     let row = row_is (1 + length known.tables.items) made c.as_str.result.now _ _ c.deref-3.result.now c.as_str.ensures.value ordinal crr bytes in
     let early : IsClean g.S.Store c.self.inside.conn = record { clean = c.add_table.ensures.clean clean.clean; is_open = c.add_table.ensures.was_open clean.clean clean.is_open } in
-    let put = c.in-Ok.ensures.put clean.clean _ _ _ _ (c.self.invariant.shows early) in
-    let shown = shows_table now.now (holding_of old.now known) made _ row put in
-    let is = tables_set old.now now.now known c.add.new.tables (with_table known.tables.items c.args.def.now c.args.is_replicated) tables shown in
-    let new = rw (← c.self.view_is) at c.requires.is_new in
-    subst IsSound (sym is) (sound_with_table (holding_of old.now known) c.args.def.now c.args.is_replicated (c.self.invariant.sound early) (new early) (wants_defaults c.args.is_replicated _ c.requires.defaults))
+    let sound = c.self.invariant.sound early in
+    let fresh = rw (← c.self.view_is) at c.requires.is_new in
+    let new = sound_with_table (holding_of old.now known) c.args.def.now c.args.is_replicated sound (fresh early) (wants_defaults c.args.is_replicated _ c.requires.defaults) in
+    let put = c.in-Ok.ensures.put clean.clean _ _ _ _ _ (c.self.invariant.shows early) in
+    let shown = shows_table now.now (holding_of old.now known) made _ row sound put in
+    let is = tables_set old.now now.now known c.add.new.tables (with_table known.tables.items c.args.def.now c.args.is_replicated) tables new shown in
+    subst IsSound (sym is) new
 
 pub invariant_of-self : goal.invariant_of-self
 invariant_of-self g c =
@@ -68,15 +73,20 @@ invariant_of-self g c =
       auto = c.add_table.ensures.auto;
       shows = λ clean.
           let early : IsClean g.S.Store c.self.inside.conn = record { clean = c.add_table.ensures.clean clean.clean; is_open = c.add_table.ensures.was_open clean.clean clean.is_open } in
-          let put = c.in-Ok.ensures.put clean.clean _ _ _ _ (c.self.invariant.shows early) in
-          let shown = shows_table now.now (holding_of old.now known) made _ row put in
-          let is = tables_set old.now now.now known c.add.new.tables (with_table known.tables.items c.args.def.now c.args.is_replicated) tables shown in
+          let sound = c.self.invariant.sound early in
+          let fresh = rw (← c.self.view_is) at c.requires.is_new in
+          let new = sound_with_table (holding_of old.now known) c.args.def.now c.args.is_replicated sound (fresh early) (wants_defaults c.args.is_replicated _ c.requires.defaults) in
+          let put = c.in-Ok.ensures.put clean.clean _ _ _ _ _ (c.self.invariant.shows early) in
+          let shown = shows_table now.now (holding_of old.now known) made _ row sound put in
+          let is = tables_set old.now now.now known c.add.new.tables (with_table known.tables.items c.args.def.now c.args.is_replicated) tables new shown in
           subst (Shows now.now) (sym is) shown;
       sound = λ clean.
           let early : IsClean g.S.Store c.self.inside.conn = record { clean = c.add_table.ensures.clean clean.clean; is_open = c.add_table.ensures.was_open clean.clean clean.is_open } in
-          let put = c.in-Ok.ensures.put clean.clean _ _ _ _ (c.self.invariant.shows early) in
-          let shown = shows_table now.now (holding_of old.now known) made _ row put in
-          let is = tables_set old.now now.now known c.add.new.tables (with_table known.tables.items c.args.def.now c.args.is_replicated) tables shown in
-          let new = rw (← c.self.view_is) at c.requires.is_new in
-          subst IsSound (sym is) (sound_with_table (holding_of old.now known) c.args.def.now c.args.is_replicated (c.self.invariant.sound early) (new early) (wants_defaults c.args.is_replicated _ c.requires.defaults));
+          let sound = c.self.invariant.sound early in
+          let fresh = rw (← c.self.view_is) at c.requires.is_new in
+          let new = sound_with_table (holding_of old.now known) c.args.def.now c.args.is_replicated sound (fresh early) (wants_defaults c.args.is_replicated _ c.requires.defaults) in
+          let put = c.in-Ok.ensures.put clean.clean _ _ _ _ _ (c.self.invariant.shows early) in
+          let shown = shows_table now.now (holding_of old.now known) made _ row sound put in
+          let is = tables_set old.now now.now known c.add.new.tables (with_table known.tables.items c.args.def.now c.args.is_replicated) tables new shown in
+          subst IsSound (sym is) new;
     }

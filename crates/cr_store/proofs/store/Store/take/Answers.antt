@@ -13,7 +13,7 @@ invariant_of-self g c =
     let was : IsClean g.S.Store c.self.inside.conn = record { clean = c.commit.ensures.clean clean.clean; is_open = c.commit.ensures.was_open clean.clean clean.is_open } in
     let sound = c.self.invariant.sound was in
     taken (state g.S.Store c.self.inside.conn).now (state g.S.Store c.commit.new.conn).now c.self.inside.known c.args.changes.now c.args.peer c.in-Ok.outcome _ (to_z-of_z fits)
-    sound (well was) c.requires.from_0 (c.in-Ok.ensures.done clean.clean clean.is_open (c.self.invariant.shows was) sound)) in
+    sound (well was) c.requires.from_0 (c.in-Ok.ensures.done clean.clean clean.is_open (c.self.invariant.shows was) sound (well was))) in
     record { auto = c.commit.ensures.mode; shows = λ clean. (all clean).shows; sound = λ clean. (all clean).sound }
 
 pub returns-in-Ok-clause-sound : goal.returns-in-Ok-clause-sound
@@ -23,7 +23,7 @@ returns-in-Ok-clause-sound g c = λ clean.
     let was : IsClean g.S.Store c.self.inside.conn = record { clean = c.commit.ensures.clean clean.clean; is_open = c.commit.ensures.was_open clean.clean clean.is_open } in
     let sound = c.self.invariant.sound was in
     (taken (state g.S.Store c.self.inside.conn).now (state g.S.Store c.commit.new.conn).now c.self.inside.known c.args.changes.now c.args.peer c.in-Ok.outcome _ (to_z-of_z fits)
-    sound (well was) c.requires.from_0 (c.in-Ok.ensures.done clean.clean clean.is_open (c.self.invariant.shows was) sound)).sound
+    sound (well was) c.requires.from_0 (c.in-Ok.ensures.done clean.clean clean.is_open (c.self.invariant.shows was) sound (well was))).sound
 
 pub returns-in-Ok-clause-commits : goal.returns-in-Ok-clause-commits
 returns-in-Ok-clause-commits g c = λ clean.
@@ -32,5 +32,5 @@ returns-in-Ok-clause-commits g c = λ clean.
     let was : IsClean g.S.Store c.self.inside.conn = record { clean = c.commit.ensures.clean clean.clean; is_open = c.commit.ensures.was_open clean.clean clean.is_open } in
     let sound = c.self.invariant.sound was in
     let all = taken (state g.S.Store c.self.inside.conn).now (state g.S.Store c.commit.new.conn).now c.self.inside.known c.args.changes.now c.args.peer c.in-Ok.outcome _ (to_z-of_z fits)
-    sound (well was) c.requires.from_0 (c.in-Ok.ensures.done clean.clean clean.is_open (c.self.invariant.shows was) sound) in
+    sound (well was) c.requires.from_0 (c.in-Ok.ensures.done clean.clean clean.is_open (c.self.invariant.shows was) sound (well was)) in
     rw (← c.self.view_is) (all.is, all.done.changed, all.done.past)

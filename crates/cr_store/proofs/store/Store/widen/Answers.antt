@@ -7,8 +7,9 @@ use Rattle.cr_layout.specs.Definition.{definition}
 use Rattle.cr_store.specs.Shows.{Shows}
 use Rattle.cr_store.specs.Words.{AreWidened}
 use Rattle.cr_store.specs.Kept.{IsClean, holding_of}
+use Rattle.cr_store.proofs.OrdinalLemmas.{ordinal_added}
 use Rattle.cr_store.proofs.StoreHolding.{tables_set}
-use Rattle.cr_store.proofs.StoreTables.{nothing_added, are_widened}
+use Rattle.cr_store.proofs.StoreTables.{nothing_added, are_widened, shows_tables}
 use Rattle.cr_store.proofs.store.Store.widen.Goals as goal
 
 pub returns-in-None-clause-defines : goal.returns-in-None-clause-defines
@@ -32,14 +33,20 @@ invariant_of-self g c =
       auto = c.redefine.ensures.auto;
       shows = λ clean.
           let early : IsClean g.S.Store c.self.inside.conn = record { clean = c.redefine.ensures.clean clean.clean; is_open = c.redefine.ensures.was_open clean.clean clean.is_open } in
-          let shown = c.in-Ok.ensures.set clean.clean _ _ _ c.args.column.now known.tables.items (widened early) (c.self.invariant.shows early) in
-          subst (Shows now.now) (sym (tables_set old.now now.now known c.in_ok-tables.tables (with_added c.args.name.now c.args.column.now known.tables.items) tables shown)) shown;
+          let sound = c.self.invariant.sound early in
+          let fresh = rw (← c.self.view_is) at c.requires in
+          let new = sound_with_added (holding_of old.now known) c.args.name.now c.args.column.now sound (fresh early) in
+          let shown = shows_tables now.now (holding_of old.now known) (with_added c.args.name.now c.args.column.now known.tables.items) sound (λ name _. ordinal_added known.tables.items c.args.name.now c.args.column.now name)
+          (c.in-Ok.ensures.set clean.clean _ _ _ _ c.args.column.now known.tables.items (widened early) (c.self.invariant.shows early)) in
+          subst (Shows now.now) (sym (tables_set old.now now.now known c.in_ok-tables.tables (with_added c.args.name.now c.args.column.now known.tables.items) tables new shown)) shown;
       sound = λ clean.
           let early : IsClean g.S.Store c.self.inside.conn = record { clean = c.redefine.ensures.clean clean.clean; is_open = c.redefine.ensures.was_open clean.clean clean.is_open } in
-          let shown = c.in-Ok.ensures.set clean.clean _ _ _ c.args.column.now known.tables.items (widened early) (c.self.invariant.shows early) in
-          let new = rw (← c.self.view_is) at c.requires in
-          subst IsSound (sym (tables_set old.now now.now known c.in_ok-tables.tables (with_added c.args.name.now c.args.column.now known.tables.items) tables shown))
-          (sound_with_added (holding_of old.now known) c.args.name.now c.args.column.now (c.self.invariant.sound early) (new early));
+          let sound = c.self.invariant.sound early in
+          let fresh = rw (← c.self.view_is) at c.requires in
+          let new = sound_with_added (holding_of old.now known) c.args.name.now c.args.column.now sound (fresh early) in
+          let shown = shows_tables now.now (holding_of old.now known) (with_added c.args.name.now c.args.column.now known.tables.items) sound (λ name _. ordinal_added known.tables.items c.args.name.now c.args.column.now name)
+          (c.in-Ok.ensures.set clean.clean _ _ _ _ c.args.column.now known.tables.items (widened early) (c.self.invariant.shows early)) in
+          subst IsSound (sym (tables_set old.now now.now known c.in_ok-tables.tables (with_added c.args.name.now c.args.column.now known.tables.items) tables new shown)) new;
     }
 
 pub returns-in-Ok-clause-sound : goal.returns-in-Ok-clause-sound
@@ -55,5 +62,9 @@ returns-in-Ok-clause-defines g c clean =
     let bytes = c.deref-3.ensures.value ∙ c.in_ok-bytes.ensures ∙ ap definition c.in_ok-wider.ensures in
     let early : IsClean g.S.Store c.self.inside.conn = record { clean = c.redefine.ensures.clean clean.clean; is_open = c.redefine.ensures.was_open clean.clean clean.is_open } in
     let widened = are_widened c.args.name.now c.args.column.now c.deref-3.result.now known.tables.items c.in-Some.table.now (c.self.invariant.sound early).names (sym found) bytes in
-    let shown = c.in-Ok.ensures.set clean.clean _ _ _ c.args.column.now known.tables.items widened (c.self.invariant.shows early) in
-    rw (← c.self.view_is) (tables_set old.now now.now known c.in_ok-tables.tables (with_added c.args.name.now c.args.column.now known.tables.items) tables shown)
+    let sound = c.self.invariant.sound early in
+    let fresh = rw (← c.self.view_is) at c.requires in
+    let new = sound_with_added (holding_of old.now known) c.args.name.now c.args.column.now sound (fresh early) in
+    let shown = shows_tables now.now (holding_of old.now known) (with_added c.args.name.now c.args.column.now known.tables.items) sound (λ name _. ordinal_added known.tables.items c.args.name.now c.args.column.now name)
+    (c.in-Ok.ensures.set clean.clean _ _ _ _ c.args.column.now known.tables.items widened (c.self.invariant.shows early)) in
+    rw (← c.self.view_is) (tables_set old.now now.now known c.in_ok-tables.tables (with_added c.args.name.now c.args.column.now known.tables.items) tables new shown)

@@ -1,0 +1,182 @@
+//! A store of format 1, as SQL writes it, and what it becomes.
+
+ghost use Rattle.std.specs.Prelude.{IsTrue};
+
+use cr_cells::store::{Cells, CellsError, StoreFault};
+use cr_store::store::Store;
+use cr_told::reading::{A, B, T, definition};
+use cr_value::value::Value;
+use sqlite::types::ValueRef;
+use sqlite::{Alter, Connection, FileStore, Files, Options};
+use sqlite_disk::{Crash, Disk, Fuse, Memory};
+use std::alloc::Global;
+use std::test::Fail;
+
+const TABLES: &str = "CREATE TABLE cr_meta(name TEXT PRIMARY KEY, val);
+     CREATE TABLE cr_schema(name TEXT PRIMARY KEY, ordinal INTEGER, crr INTEGER, def BLOB);
+     CREATE TABLE cr_cell(tbl TEXT, pk BLOB, cid TEXT, cl INTEGER, ver INTEGER, val, site BLOB, dbv INTEGER, seq INTEGER, PRIMARY KEY(tbl, pk, cid));
+     CREATE TABLE cr_peer(site BLOB PRIMARY KEY, seen INTEGER);";
+
+const ROWS: &str =
+    "INSERT INTO cr_meta VALUES('format', 1), ('site', X'0A0A0A0A0A0A0A0A0A0A0A0A0A0A0A0A'), ('db_version', 4);
+     INSERT INTO cr_cell VALUES('t', X'01010000000000000001', 'name', 1, 1, 'x', X'0B0B0B0B0B0B0B0B0B0B0B0B0B0B0B0B', 3, 0);
+     INSERT INTO cr_cell VALUES('t', X'01010000000000000002', 'name', 1, 2, NULL, X'0B0B0B0B0B0B0B0B0B0B0B0B0B0B0B0B', 4, 1);
+     INSERT INTO cr_peer VALUES(X'0B0B0B0B0B0B0B0B0B0B0B0B0B0B0B0B', 9);";
+
+const NAMED: &str =
+    "INSERT INTO cr_cell VALUES('t', X'01010000000000000003', 'name', 1, 1, 'y', X'0B0B0B0B0B0B0B0B0B0B0B0B0B0B0B0B', 3, 5)";
+
+// Makes a store of format 1: site A, table t(id, name), two cells of site B, and the mark of B.
+fn fill<S: Alter>(alloc: Global, conn: &mut Connection<S>) -> Result<(), Fail> {
+    let def = definition(alloc, "t", T)?;
+    let bytes = cr_layout::definition::definition(alloc, &def)?;
+    conn.execute_batch(TABLES)?;
+    conn.execute(
+        "INSERT INTO cr_schema VALUES('t', 1, 1, ?1)",
+        &[ValueRef::Blob(&bytes)],
+    )?;
+    conn.execute_batch(ROWS)?;
+    Ok(())
+}
+
+// Whether the store is that of `fill`.
+fn is_whole<C: Cells>(alloc: Global, store: &mut C) -> Result<bool, Fail> {
+    let tables = store.tables(alloc)?;
+    let cells = store.since(alloc, 0)?;
+    let [first, second] = &*cells else {
+        return Ok(false);
+    };
+    let is_first = first.version == 3 && first.seq == 0 && first.change.cid.as_str() == "name";
+    let is_second = second.version == 4 && second.seq == 1 && second.change.col_version == 2;
+    Ok(
+        tables.len() == 1
+            && is_first
+            && is_second
+            && first.change.table.as_str() == "t"
+            && second.change.val == Value::Null
+            && second.change.site == B
+            && store.site() == A
+            && store.db_version() == 4
+            && store.seen(alloc, B)? == 9,
+    )
+}
+
+fn number<S: Alter>(conn: &mut Connection<S>, sql: &str) -> Result<i64, Fail> {
+    Ok(conn.query_row(sql, &[])?.get(0)?)
+}
+
+fn opened<S: Alter + Drop>(alloc: Global, conn: Connection<S>) -> Result<Store<S>, Fail> {
+    match Store::open(alloc, conn) {
+        Ok(store) => Ok(store),
+        Err((error, _)) => Err(Fail::from(error)),
+    }
+}
+
+fn connected<D: Disk + Drop>(
+    alloc: Global,
+    files: Files<D>,
+) -> Result<Connection<FileStore<D>>, Fail>
+    requires log { IsTrue (D.Disk.is_usable files.log) }
+    requires db { IsTrue (D.Disk.is_usable files.db) }
+{
+    match Connection::open_files(alloc, files, Options::new(0)) {
+        Ok(conn) => Ok(conn),
+        Err((error, _)) => Err(Fail::from(error)),
+    }
+}
+
+// Whether a store that was made of format 1 is damaged by a statement.
+fn is_damaged_by(alloc: Global, sql: &str) -> Result<bool, Fail> {
+    let mut conn = Connection::open_in_memory(alloc)?;
+    fill(alloc, &mut conn)?;
+    let mut conn = opened(alloc, conn)?.into_connection();
+    conn.execute(sql, &[])?;
+    Ok(match Store::open(alloc, conn) {
+        Ok(_) => false,
+        Err((error, _)) => error == CellsError::Store(StoreFault::Damaged),
+    })
+}
+
+#[test]
+fn a_store_of_format_1_becomes_one_of_format_2(rt: HostRuntime) -> Result<(), Fail> {
+    let alloc = rt.alloc();
+    let mut conn = Connection::open_in_memory(alloc)?;
+    fill(alloc, &mut conn)?;
+    let mut store = opened(alloc, conn)?;
+    assert!(rt; is_whole(alloc, &mut store)?);
+    let mut conn = store.into_connection();
+    assert_eq!(rt;
+        number(&mut conn, "SELECT val FROM cr_meta WHERE name = 'format'")?,
+        2
+    );
+    assert_eq!(rt; number(&mut conn, "SELECT count(*) FROM cr_cell")?, 0);
+    assert_eq!(rt;
+        number(&mut conn, "SELECT count(*) FROM cr_cell2 WHERE tab = 1")?,
+        2
+    );
+    assert!(rt; is_whole(alloc, &mut opened(alloc, conn)?)?);
+    assert!(rt; !is_damaged_by(alloc, "UPDATE cr_peer SET seen = 8")?);
+    assert!(rt; is_damaged_by(alloc, NAMED)?);
+    assert!(rt; is_damaged_by(alloc, "UPDATE cr_cell2 SET tab = 2 WHERE seq = 1")?);
+    assert!(rt; is_damaged_by(alloc, "UPDATE cr_meta SET val = 3 WHERE name = 'format'")?);
+    assert!(rt; is_damaged_by(alloc, "UPDATE cr_meta SET val = 1 WHERE name = 'format'")?);
+    Ok(())
+}
+
+// The files of a store of format 1, closed.
+fn first_files(alloc: Global) -> Result<Files<Memory>, Fail> {
+    let files = Files {
+        log: Memory::new(alloc),
+        db: Memory::new(alloc),
+    };
+    let mut conn = connected(alloc, files)?;
+    fill(alloc, &mut conn)?;
+    match conn.close_files() {
+        Ok(files) => Ok(files),
+        Err((error, _)) => Err(Fail::from(error)),
+    }
+}
+
+// What is left of the files where they stop after so many calls while the store is opened, and whether they did.
+fn stopped(alloc: Global, log: u64, db: u64) -> Result<(Files<Fuse<Memory>>, bool), Fail> {
+    let files = first_files(alloc)?;
+    let files = Files {
+        log: Fuse::new(files.log, log),
+        db: Fuse::new(files.db, db),
+    };
+    Ok(
+        match Connection::open_files(alloc, files, Options::new(0)) {
+            Ok(conn) => match Store::open(alloc, conn) {
+                Ok(store) => (store.into_connection().into_store().close(), false),
+                Err((_, conn)) => (conn.into_store().close(), true),
+            },
+            Err((_, left)) => (left.into_files(), true),
+        },
+    )
+}
+
+// Whether the store is whole when it is opened again, and whether it was stopped before.
+fn is_whole_after(alloc: Global, log: u64, db: u64) -> Result<(bool, bool), Fail> {
+    let (mut files, was_stopped) = stopped(alloc, log, db)?;
+    files.log.crash();
+    files.db.crash();
+    let mut store = opened(alloc, connected(alloc, files)?)?;
+    Ok((is_whole(alloc, &mut store)?, was_stopped))
+}
+
+#[test]
+fn a_change_of_format_that_is_stopped_is_made_at_the_next_open(
+    rt: HostRuntime,
+) -> Result<(), Fail> {
+    let alloc = rt.alloc();
+    for calls in 0..300 {
+        let (log_is_whole, log_stopped) = is_whole_after(alloc, calls, u64::MAX)?;
+        let (db_is_whole, db_stopped) = is_whole_after(alloc, u64::MAX, calls)?;
+        assert!(rt; log_is_whole && db_is_whole, "at {calls}");
+        if !log_stopped && !db_stopped {
+            assert!(rt; calls > 10, "at {calls}");
+            return Ok(());
+        }
+    }
+    Err(Fail::from("always stopped"))
+}
