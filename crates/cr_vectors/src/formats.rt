@@ -137,12 +137,24 @@ fn first_files(alloc: Global) -> Result<Files<Memory>, Fail> {
     }
 }
 
-// What is left of the files where they stop after so many calls while the store is opened, and whether they did.
-fn stopped(alloc: Global, log: u64, db: u64) -> Result<(Files<Fuse<Memory>>, bool), Fail> {
-    let files = first_files(alloc)?;
+// A file of the same bytes, which stops after so many calls.
+fn fused(alloc: Global, file: &Memory, calls: u64) -> Result<Fuse<Memory>, Fail> {
+    let mut copy = Memory::new(alloc);
+    copy.write_at(0, file.bytes())?;
+    copy.sync()?;
+    Ok(Fuse::new(copy, calls))
+}
+
+// What is left of a store's files where each stops after so many calls while the store is opened, and whether they did.
+fn stopped(
+    alloc: Global,
+    files: &Files<Memory>,
+    log: u64,
+    db: u64,
+) -> Result<(Files<Fuse<Memory>>, bool), Fail> {
     let files = Files {
-        log: Fuse::new(files.log, log),
-        db: Fuse::new(files.db, db),
+        log: fused(alloc, &files.log, log)?,
+        db: fused(alloc, &files.db, db)?,
     };
     Ok(
         match Connection::open_files(alloc, files, Options::new(0)) {
@@ -156,27 +168,37 @@ fn stopped(alloc: Global, log: u64, db: u64) -> Result<(Files<Fuse<Memory>>, boo
 }
 
 // Whether the store is whole when it is opened again, and whether it was stopped before.
-fn is_whole_after(alloc: Global, log: u64, db: u64) -> Result<(bool, bool), Fail> {
-    let (mut files, was_stopped) = stopped(alloc, log, db)?;
+fn is_whole_after(
+    alloc: Global,
+    files: &Files<Memory>,
+    log: u64,
+    db: u64,
+) -> Result<(bool, bool), Fail> {
+    let (mut files, was_stopped) = stopped(alloc, files, log, db)?;
     files.log.crash();
     files.db.crash();
     let mut store = opened(alloc, connected(alloc, files)?)?;
     Ok((is_whole(alloc, &mut store)?, was_stopped))
 }
 
+// Whether the store is whole after a stop.
+fn is_made_anew(alloc: Global, files: &Files<Memory>, log: u64, db: u64) -> Result<bool, Fail> {
+    let (is_whole, was_stopped) = is_whole_after(alloc, files, log, db)?;
+    Ok(is_whole && was_stopped)
+}
+
+// Opening takes 34 calls of the log and 37 of the database, of which the last are those of the change.
 #[test]
 fn a_change_of_format_that_is_stopped_is_made_at_the_next_open(
     rt: HostRuntime,
 ) -> Result<(), Fail> {
     let alloc = rt.alloc();
-    for calls in 0..300 {
-        let (log_is_whole, log_stopped) = is_whole_after(alloc, calls, u64::MAX)?;
-        let (db_is_whole, db_stopped) = is_whole_after(alloc, u64::MAX, calls)?;
-        assert!(rt; log_is_whole && db_is_whole, "at {calls}");
-        if !log_stopped && !db_stopped {
-            assert!(rt; calls > 10, "at {calls}");
-            return Ok(());
-        }
+    let files = first_files(alloc)?;
+    for calls in [22, 26, 28, 30, 32, 33] {
+        assert!(rt; is_made_anew(alloc, &files, calls, u64::MAX)?, "at {calls}");
     }
-    Err(Fail::from("always stopped"))
+    for calls in [20, 36] {
+        assert!(rt; is_made_anew(alloc, &files, u64::MAX, calls)?, "at {calls}");
+    }
+    Ok(())
 }
