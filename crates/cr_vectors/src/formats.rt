@@ -1,14 +1,11 @@
 //! A store of format 1, as SQL writes it, and what it becomes.
 
-ghost use Rattle.std.specs.Prelude.{IsTrue};
-
 use cr_cells::store::{Cells, CellsError, StoreFault};
 use cr_store::store::Store;
 use cr_told::reading::{A, B, T, definition};
 use cr_value::value::Value;
 use sqlite::types::ValueRef;
-use sqlite::{Alter, Connection, FileStore, Files, Options};
-use sqlite_disk::{Crash, Disk, Fuse, Memory};
+use sqlite::{Alter, Connection};
 use std::alloc::Global;
 use std::test::Fail;
 
@@ -72,19 +69,6 @@ fn opened<S: Alter + Drop>(alloc: Global, conn: Connection<S>) -> Result<Store<S
     }
 }
 
-fn connected<D: Disk + Drop>(
-    alloc: Global,
-    files: Files<D>,
-) -> Result<Connection<FileStore<D>>, Fail>
-    requires log { IsTrue (D.Disk.is_usable files.log) }
-    requires db { IsTrue (D.Disk.is_usable files.db) }
-{
-    match Connection::open_files(alloc, files, Options::new(0)) {
-        Ok(conn) => Ok(conn),
-        Err((error, _)) => Err(Fail::from(error)),
-    }
-}
-
 // Whether a store that was made of format 1 is damaged by a statement.
 fn is_damaged_by(alloc: Global, sql: &str) -> Result<bool, Fail> {
     let mut conn = Connection::open_in_memory(alloc)?;
@@ -120,85 +104,5 @@ fn a_store_of_format_1_becomes_one_of_format_2(rt: HostRuntime) -> Result<(), Fa
     assert!(rt; is_damaged_by(alloc, "UPDATE cr_cell2 SET tab = 2 WHERE seq = 1")?);
     assert!(rt; is_damaged_by(alloc, "UPDATE cr_meta SET val = 3 WHERE name = 'format'")?);
     assert!(rt; is_damaged_by(alloc, "UPDATE cr_meta SET val = 1 WHERE name = 'format'")?);
-    Ok(())
-}
-
-// The files of a store of format 1, closed.
-fn first_files(alloc: Global) -> Result<Files<Memory>, Fail> {
-    let files = Files {
-        log: Memory::new(alloc),
-        db: Memory::new(alloc),
-    };
-    let mut conn = connected(alloc, files)?;
-    fill(alloc, &mut conn)?;
-    match conn.close_files() {
-        Ok(files) => Ok(files),
-        Err((error, _)) => Err(Fail::from(error)),
-    }
-}
-
-// A file of the same bytes, which stops after so many calls.
-fn fused(alloc: Global, file: &Memory, calls: u64) -> Result<Fuse<Memory>, Fail> {
-    let mut copy = Memory::new(alloc);
-    copy.write_at(0, file.bytes())?;
-    copy.sync()?;
-    Ok(Fuse::new(copy, calls))
-}
-
-// What is left of a store's files where each stops after so many calls while the store is opened, and whether they did.
-fn stopped(
-    alloc: Global,
-    files: &Files<Memory>,
-    log: u64,
-    db: u64,
-) -> Result<(Files<Fuse<Memory>>, bool), Fail> {
-    let files = Files {
-        log: fused(alloc, &files.log, log)?,
-        db: fused(alloc, &files.db, db)?,
-    };
-    Ok(
-        match Connection::open_files(alloc, files, Options::new(0)) {
-            Ok(conn) => match Store::open(alloc, conn) {
-                Ok(store) => (store.into_connection().into_store().close(), false),
-                Err((_, conn)) => (conn.into_store().close(), true),
-            },
-            Err((_, left)) => (left.into_files(), true),
-        },
-    )
-}
-
-// Whether the store is whole when it is opened again, and whether it was stopped before.
-fn is_whole_after(
-    alloc: Global,
-    files: &Files<Memory>,
-    log: u64,
-    db: u64,
-) -> Result<(bool, bool), Fail> {
-    let (mut files, was_stopped) = stopped(alloc, files, log, db)?;
-    files.log.crash();
-    files.db.crash();
-    let mut store = opened(alloc, connected(alloc, files)?)?;
-    Ok((is_whole(alloc, &mut store)?, was_stopped))
-}
-
-// Whether the store is whole after a stop.
-fn is_made_anew(alloc: Global, files: &Files<Memory>, log: u64, db: u64) -> Result<bool, Fail> {
-    let (is_whole, was_stopped) = is_whole_after(alloc, files, log, db)?;
-    Ok(is_whole && was_stopped)
-}
-
-// Opening takes 34 calls of the log and 37 of the database, of which the last are those of the change.
-#[test]
-fn a_change_of_format_that_is_stopped_is_made_at_the_next_open(
-    rt: HostRuntime,
-) -> Result<(), Fail> {
-    let alloc = rt.alloc();
-    let files = first_files(alloc)?;
-    for calls in [22, 26, 28, 30, 32, 33] {
-        assert!(rt; is_made_anew(alloc, &files, calls, u64::MAX)?, "at {calls}");
-    }
-    for calls in [20, 36] {
-        assert!(rt; is_made_anew(alloc, &files, u64::MAX, calls)?, "at {calls}");
-    }
     Ok(())
 }
