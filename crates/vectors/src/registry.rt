@@ -63,56 +63,6 @@ fn was_added(added: Result<(), AddFault>) -> Result<bool, AllocError> {
     }
 }
 
-fn add_half(
-    alloc: Global,
-    registry: &mut Registry<Demo>,
-    name: &str,
-    arity: i32,
-    number: u32,
-) -> Result<bool, AllocError>
-    requires { ⟦<Registry<Demo> as Functions>⟧.is_faithful registry.old }
-    ensures { ⟦<Registry<Demo> as Functions>⟧.is_faithful registry.new }
-{
-    let call: ScalarFn = Box::new(alloc, move |args: &[Value]| half(alloc, args))?;
-    was_added(registry.add_scalar(name, arity, number, call))
-}
-
-fn add_xorall(
-    alloc: Global,
-    registry: &mut Registry<Demo>,
-    name: &str,
-    arity: i32,
-) -> Result<bool, AllocError>
-    requires { ⟦<Registry<Demo> as Functions>⟧.is_faithful registry.old }
-    ensures { ⟦<Registry<Demo> as Functions>⟧.is_faithful registry.new }
-{
-    let step: StepFn = Box::new(
-        alloc,
-        move |held: &Value, row: &[Value]| xorall_step(alloc, held, row),
-    )?;
-    let finish: FinishFn = Box::new(alloc, move |held: &Value| xorall_finish(alloc, held))?;
-    was_added(registry.add_aggregate(name, arity, 1, step, finish))
-}
-
-fn add_bylen(alloc: Global, registry: &mut Registry<Demo>, name: &str) -> Result<bool, AllocError>
-    requires { ⟦<Registry<Demo> as Functions>⟧.is_faithful registry.old }
-    ensures { ⟦<Registry<Demo> as Functions>⟧.is_faithful registry.new }
-{
-    let order: OrderFn = Box::new(alloc, |a: &str, b: &str| bylen(a, b))?;
-    was_added(registry.add_collation(name, 2, order))
-}
-
-fn fill(alloc: Global, registry: &mut Registry<Demo>) -> Result<bool, AllocError>
-    requires { ⟦<Registry<Demo> as Functions>⟧.is_faithful registry.old }
-    ensures { ⟦<Registry<Demo> as Functions>⟧.is_faithful registry.new }
-{
-    add_half(alloc, registry, "f", -1, 7)?;
-    add_half(alloc, registry, "f", 1, 8)?;
-    add_half(alloc, registry, "half", 1, 0)?;
-    add_xorall(alloc, registry, "xorall", 1)?;
-    add_bylen(alloc, registry, "bylen")
-}
-
 // ---- what is told
 
 fn told_function(
@@ -191,25 +141,25 @@ fn removed(alloc: Global, registry: &mut Registry<Demo>, given: &str) -> Result<
     Ok(format!(in alloc; "{first}, {second}, {left}")?)
 }
 
-// Whether an entry of a name and a count is added.
-fn is_added(
-    alloc: Global,
-    registry: &mut Registry<Demo>,
-    call: &str,
-    given: &str,
-) -> Result<bool, ToldError>
-    requires { ⟦<Registry<Demo> as Functions>⟧.is_faithful registry.old }
-{
+// Whether a new registry takes an entry of a name, and a count where there is one.
+fn is_added(alloc: Global, call: &str, given: &str) -> Result<bool, ToldError> {
+    let mut registry: Registry<Demo> = Registry::new(alloc);
     if call == "adds_collation" {
-        return Ok(add_bylen(alloc, registry, given)?);
+        let order: OrderFn = Box::new(alloc, |a: &str, b: &str| bylen(a, b))?;
+        return Ok(was_added(registry.add_collation(given, 2, order))?);
     }
     let (name, arity) = given.rsplit_once(' ').ok_or(ToldError::Form)?;
     let arity = arity.parse().map_err(|_| ToldError::Form)?;
     if call == "adds_scalar" {
-        Ok(add_half(alloc, registry, name, arity, 9)?)
-    } else {
-        Ok(add_xorall(alloc, registry, name, arity)?)
+        let scalar: ScalarFn = Box::new(alloc, move |args: &[Value]| half(alloc, args))?;
+        return Ok(was_added(registry.add_scalar(name, arity, 9, scalar))?);
     }
+    let step: StepFn = Box::new(
+        alloc,
+        move |held: &Value, row: &[Value]| xorall_step(alloc, held, row),
+    )?;
+    let finish: FinishFn = Box::new(alloc, move |held: &Value| xorall_finish(alloc, held))?;
+    Ok(was_added(registry.add_aggregate(name, arity, 1, step, finish))?)
 }
 
 fn answered(
@@ -233,25 +183,56 @@ fn answered(
     }
 }
 
-/// What a call answers; `None` where it isn't one of these.
-pub(crate) fn answer(alloc: Global, call: &str, given: &str) -> Result<Option<String>, ToldError> {
-    let mut registry: Registry<Demo> = Registry::new(alloc);
-    fill(alloc, &mut registry)?;
-    Ok(Some(match call {
+// What a call of the registry answers that has these entries.
+fn told(
+    alloc: Global,
+    registry: &mut Registry<Demo>,
+    call: &str,
+    given: &str,
+) -> Result<String, ToldError>
+    requires { ⟦<Registry<Demo> as Functions>⟧.is_faithful registry.old }
+{
+    match call {
         "function" => {
             let (name, count) = name_and_count(given)?;
-            told_function(alloc, &registry, name, count)?
+            Ok(told_function(alloc, registry, name, count)?)
         }
-        "removed" => removed(alloc, &mut registry, given)?,
+        "removed" => removed(alloc, registry, given),
+        _ => answered(alloc, registry, call, given),
+    }
+}
+
+fn told_of_demo(alloc: Global, call: &str, given: &str) -> Result<String, ToldError> {
+    let mut registry: Registry<Demo> = Registry::new(alloc);
+    let any: ScalarFn = Box::new(alloc, move |args: &[Value]| half(alloc, args))?;
+    was_added(registry.add_scalar("f", -1, 7, any))?;
+    let one: ScalarFn = Box::new(alloc, move |args: &[Value]| half(alloc, args))?;
+    was_added(registry.add_scalar("f", 1, 8, one))?;
+    let scalar: ScalarFn = Box::new(alloc, move |args: &[Value]| half(alloc, args))?;
+    was_added(registry.add_scalar("half", 1, 0, scalar))?;
+    let step: StepFn = Box::new(
+        alloc,
+        move |held: &Value, row: &[Value]| xorall_step(alloc, held, row),
+    )?;
+    let finish: FinishFn = Box::new(alloc, move |held: &Value| xorall_finish(alloc, held))?;
+    was_added(registry.add_aggregate("xorall", 1, 1, step, finish))?;
+    let order: OrderFn = Box::new(alloc, |a: &str, b: &str| bylen(a, b))?;
+    was_added(registry.add_collation("bylen", 2, order))?;
+    told(alloc, &mut registry, call, given)
+}
+
+/// What a call answers; `None` where it isn't one of these.
+pub(crate) fn answer(alloc: Global, call: &str, given: &str) -> Result<Option<String>, ToldError> {
+    Ok(Some(match call {
         "adds_scalar" | "adds_aggregate" | "adds_collation" => {
-            format!(in alloc; "{}", is_added(alloc, &mut registry, call, given)?)?
-        }
-        "calls" | "folds" | "steps" | "finishes" | "compares" => {
-            answered(alloc, &registry, call, given)?
+            format!(in alloc; "{}", is_added(alloc, call, given)?)?
         }
         "built_in" => {
             let (name, count) = name_and_count(given)?;
             String::from_str(alloc, told_built_in(name, count))?
+        }
+        "function" | "removed" | "calls" | "folds" | "steps" | "finishes" | "compares" => {
+            told_of_demo(alloc, call, given)?
         }
         _ => return Ok(None),
     }))
