@@ -15,9 +15,9 @@ use Rattle.cr_tree.specs.declared.symbol.Mark.{Mark}
 use Rattle.cr_tree.specs.declared.symbol.Symbol.{Symbol}
 use Rattle.cr_tree.specs.declared.symbol.Symbol.TheVariants as k
 use Rattle.cr_cells.specs.Tables.{is_folded}
-use Rattle.cr_symbols.specs.Marks.{marked, words, signs, outside_word}
-use Rattle.cr_symbols.specs.Spelling.{spelling, inside, undoubled, number, hex_digits}
-use Rattle.cr_symbols.specs.Symbols.{text_of, name_symbol, word_symbol, ident_symbol, bits_symbol, bounded, decimal_symbol, int_symbol, text_symbol, decoded, blob_symbol, param, param_symbol, sign_symbol, symbol, symbol_of, greatest_of, symbols_of}
+use Rattle.cr_lex.specs.Marks.{marked, words, signs, outside_word}
+use Rattle.cr_lex.specs.Spelling.{spelling, inside, undoubled, number, hex_digits}
+use Rattle.cr_lex.specs.Symbols.{text_of, name_symbol, word_symbol, ident_symbol, bits_symbol, bounded, decimal_symbol, int_symbol, text_symbol, decoded, blob_symbol, param, param_symbol, sign_symbol, symbol, symbol_of, greatest_of, symbols_of}
 
 abbrev pub all : (Symbol → Type 0) → List Symbol → Type 0
 all P [] = Unit {0}

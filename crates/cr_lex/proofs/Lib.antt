@@ -8,3 +8,8 @@ pub mod Theory
 pub mod Places
 pub mod Unique
 pub mod Boundaries
+pub mod Undoubling
+pub mod Numerals
+pub mod Texts
+pub mod Turns
+pub mod Keywords

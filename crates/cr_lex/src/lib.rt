@@ -1,8 +1,12 @@
-//! The tokens of SQL texts.
+//! The tokens of SQL texts, and the symbols that the grammar sees of them.
 #![tactic(auto)]
 
 pub mod laws;
+mod marks;
 mod number;
+pub mod outside;
 mod runs;
 pub mod scan;
+mod spelling;
+pub mod symbols;
 pub mod token;

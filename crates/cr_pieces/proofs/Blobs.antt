@@ -12,7 +12,7 @@ use Rattle.cr_lex.specs.Tokens.{Each}
 use Rattle.cr_lex.specs.Reading.{blob_token, token_at}
 use Rattle.cr_lex.proofs.Parts.{both, other_than, run_exact, take_front}
 use Rattle.cr_tree.specs.declared.symbol.Symbol.TheVariants as k
-use Rattle.cr_symbols.specs.Symbols.{symbol, decoded}
+use Rattle.cr_lex.specs.Symbols.{symbol, decoded}
 use Rattle.cr_pieces.specs.Pieces.{IsPiece}
 use Rattle.cr_pieces.specs.Known.{blob}
 use Rattle.cr_pieces.proofs.Follows.{no_blank_at}

@@ -14,8 +14,8 @@ use Rattle.cr_lex.specs.Reading.{first_is, hex_len, exponent_len, point_len, man
 use Rattle.cr_lex.proofs.Parts.{told, both, other_than, same, run_exact, stops_at, drop_front}
 use Rattle.cr_lex.proofs.Classes.{not_one_of}
 use Rattle.cr_tree.specs.declared.symbol.Symbol.TheVariants as k
-use Rattle.cr_symbols.specs.Spelling.{is_numeral, number, hex_digits}
-use Rattle.cr_symbols.specs.Symbols.{symbol}
+use Rattle.cr_lex.specs.Spelling.{is_numeral, number, hex_digits}
+use Rattle.cr_lex.specs.Symbols.{symbol}
 use Rattle.cr_pieces.specs.Pieces.{IsPiece}
 use Rattle.cr_pieces.specs.Known as known
 use Rattle.cr_pieces.proofs.Follows.{begins_blank, neither, no_blank_at, passed_over, stops}

@@ -7,7 +7,7 @@ use Rattle.std.specs.Char.{is_ascii_digit}
 use Rattle.std.specs.Fmt.{decimal, signed_decimal}
 use Rattle.cr_lex.proofs.Parts.{both, other_than}
 use Rattle.cr_tree.specs.declared.symbol.Mark.TheVariants as m
-use Rattle.cr_symbols.specs.Marks.{signs}
+use Rattle.cr_lex.specs.Marks.{signs}
 use Rattle.cr_pieces.specs.Pieces.{may_follow}
 use Rattle.cr_pieces.specs.Spelled.{Spells}
 use Rattle.cr_pieces.specs.Known.{sign, number, after_sign, after_number, integer}

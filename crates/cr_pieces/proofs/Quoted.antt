@@ -8,8 +8,8 @@ use Rattle.cr_lex.specs.Tokens.{doubled, is_legal}
 use Rattle.cr_lex.specs.Reading.{first_is, closing, legal, closed_token, quoted_token, token_at}
 use Rattle.cr_lex.proofs.Parts.{told, both, same, take_front}
 use Rattle.cr_tree.specs.declared.symbol.Symbol.TheVariants as k
-use Rattle.cr_symbols.specs.Symbols.{symbol}
-use Rattle.cr_symbols.proofs.Quotes.{come_off}
+use Rattle.cr_lex.specs.Symbols.{symbol}
+use Rattle.cr_lex.proofs.Undoubling.{come_off}
 use Rattle.cr_pieces.specs.Pieces.{IsPiece}
 use Rattle.cr_pieces.specs.Known.{quoted, name, string}
 use Rattle.cr_pieces.proofs.Follows.{stops, no_blank_at}

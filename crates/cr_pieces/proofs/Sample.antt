@@ -11,7 +11,7 @@ use Rattle.cr_lex.proofs.Parts.{both}
 use Rattle.hex.specs.Hex.{IsBytes, encode_with}
 use Rattle.cr_lex.specs.Tokens.{doubled}
 use Rattle.cr_tree.specs.declared.symbol.Mark.TheVariants as m
-use Rattle.cr_symbols.specs.Marks.{words, signs}
+use Rattle.cr_lex.specs.Marks.{words, signs}
 use Rattle.cr_pieces.specs.Pieces.{text, AreWritten}
 use Rattle.cr_pieces.specs.Sample.{sample}
 use Rattle.cr_pieces.proofs.Quoted.{name_piece, string_piece}

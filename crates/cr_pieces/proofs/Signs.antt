@@ -8,7 +8,7 @@ use Rattle.cr_lex.specs.Reading.{first_is, sign_token, token_at, blank_len}
 use Rattle.cr_lex.proofs.Parts.{both}
 use Rattle.cr_lex.proofs.Classes.{sign_is, pair_is}
 use Rattle.cr_tree.specs.declared.symbol.Mark.{Mark}
-use Rattle.cr_symbols.specs.Marks.{marked, signs}
+use Rattle.cr_lex.specs.Marks.{marked, signs}
 use Rattle.cr_pieces.specs.Pieces.{may_follow, IsPiece}
 use Rattle.cr_pieces.specs.Known.{after_sign, sign}
 use Rattle.cr_pieces.proofs.Follows.{neither, not_true, passes}

@@ -4,7 +4,7 @@ use Rattle.std.specs.Prelude.{IsTrue}
 use Rattle.cr_lex.specs.declared.token.Token.{Token}
 use Rattle.cr_lex.specs.Tokens.{IsTokens}
 use Rattle.cr_tree.specs.declared.symbol.Symbol.{Symbol}
-use Rattle.cr_symbols.specs.Symbols.{symbols_of}
+use Rattle.cr_lex.specs.Symbols.{symbols_of}
 use Rattle.cr_pieces.specs.Pieces.{Piece, text, symbols, may_follow, IsPiece, may_end}
 use Rattle.cr_pieces.specs.Spelled.{Spells}
 use Rattle.cr_pieces.proofs.Written.{read_one_way, text_joined, symbols_joined, written_joined, may_end_joined, spaced_is, spaced_ends}

@@ -8,7 +8,7 @@ use Rattle.std.proofs.lemmas.Bool.Decides.{nat_tests}
 use Rattle.cr_lex.specs.Texts.{is_start}
 use Rattle.cr_lex.proofs.Parts.{told, both}
 use Rattle.cr_tree.specs.declared.symbol.Mark.{Mark}
-use Rattle.cr_symbols.specs.Marks.{marked}
+use Rattle.cr_lex.specs.Marks.{marked}
 use Rattle.cr_pieces.proofs.Follows.{not_true}
 
 among : (test good : List ℕ → Bool) (table : List (List ℕ × Mark)) (mark : Mark) → list_all (λ e. good e.0) table ≡ true → lookup test table ≡ Some mark

@@ -12,8 +12,8 @@ use Rattle.cr_lex.proofs.Parts.{both, other_than, run_exact}
 use Rattle.cr_lex.proofs.Classes.{start_no_digit}
 use Rattle.cr_tree.specs.declared.symbol.Mark.{Mark}
 use Rattle.cr_tree.specs.declared.symbol.Symbol.TheVariants as k
-use Rattle.cr_symbols.specs.Marks.{marked, words}
-use Rattle.cr_symbols.specs.Symbols.{symbol}
+use Rattle.cr_lex.specs.Marks.{marked, words}
+use Rattle.cr_lex.specs.Symbols.{symbol}
 use Rattle.cr_pieces.specs.Pieces.{IsPiece}
 use Rattle.cr_pieces.specs.Known.{word}
 use Rattle.cr_pieces.proofs.Follows.{begins_blank, no_blank_at, passed_over, stops}

@@ -13,8 +13,8 @@ use Rattle.cr_lex.proofs.Numbers.{some_length}
 use Rattle.cr_lex.proofs.Places.{gap_more, gap_done, next_token}
 use Rattle.cr_lex.proofs.Unique.{one_list}
 use Rattle.cr_tree.specs.declared.symbol.Symbol.{Symbol}
-use Rattle.cr_symbols.specs.Spelling.{spelling}
-use Rattle.cr_symbols.specs.Symbols.{symbol, symbol_of, greatest_of, symbols_of}
+use Rattle.cr_lex.specs.Spelling.{spelling}
+use Rattle.cr_lex.specs.Symbols.{symbol, symbol_of, greatest_of, symbols_of}
 use Rattle.cr_pieces.specs.Pieces.{Piece, written, text, symbols, start, token, tokens, may_follow, IsPiece, AreWritten, may_end, spaced}
 
 drop_again : (l : List ℕ) (a b : ℕ) → drop b (drop a l) ≡ drop (a + b) l

@@ -8,8 +8,8 @@ use Rattle.cr_lex.specs.declared.token.Token.{Token}
 use Rattle.cr_lex.specs.Tokens.{IsTokens, is_legal}
 use Rattle.cr_tree.specs.declared.symbol.Mark.{Mark}
 use Rattle.cr_tree.specs.declared.symbol.Symbol.{Symbol}
-use Rattle.cr_symbols.specs.Marks.{marked, words, signs}
-use Rattle.cr_symbols.specs.Symbols.{symbols_of}
+use Rattle.cr_lex.specs.Marks.{marked, words, signs}
+use Rattle.cr_lex.specs.Symbols.{symbols_of}
 use Rattle.cr_pieces.specs.Pieces.{Piece, text, symbols, tokens, IsPiece, AreWritten}
 use Rattle.cr_pieces.specs.Spelled.{Spells}
 use Rattle.cr_pieces.specs.Known.{name, string, word, sign, number, blob, param, after_number, integer}

@@ -4,7 +4,7 @@ use Rattle.cr_lex.specs.declared.token.TokenKind.{TokenKind}
 use Rattle.cr_lex.specs.declared.token.Token.{Token}
 use Rattle.cr_lex.specs.Reading.{token_at, blank_len}
 use Rattle.cr_tree.specs.declared.symbol.Symbol.{Symbol}
-use Rattle.cr_symbols.specs.Symbols as s
+use Rattle.cr_lex.specs.Symbols as s
 
 -- A token as it is written: whether a space stands before it, its kind, its bytes, the symbol that it has, and which bytes
 -- may stand right behind it.

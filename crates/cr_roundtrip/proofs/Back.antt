@@ -5,7 +5,7 @@ use Rattle.cr_lex.specs.declared.token.Token.{Token}
 use Rattle.cr_lex.specs.Tokens.{IsTokens}
 use Rattle.cr_tree.specs.declared.symbol.Symbol.{Symbol}
 use Rattle.cr_tree.specs.Judging.{IsRead}
-use Rattle.cr_symbols.specs.Symbols.{symbols_of}
+use Rattle.cr_lex.specs.Symbols.{symbols_of}
 use Rattle.cr_tree.specs.declared.statement.Statement.{Statement}
 use Rattle.cr_statement.specs.Statements as grammar
 use Rattle.cr_pieces.specs.Pieces.{Piece, text, symbols, AreWritten}

@@ -10,7 +10,7 @@ use Rattle.cr_tree.specs.declared.symbol.Symbol.{Symbol}
 use Rattle.cr_tree.specs.declared.symbol.Symbol.TheVariants as k
 use Rattle.cr_tree.specs.declared.expr.Expr.{Expr}
 use Rattle.cr_tree.specs.Grammar.{Operator, Or, And, Equal, DoubleEqual, Unequal, BangEqual, Is, IsNot, Like, NotLike, Less, AtMost, Greater, AtLeast, Plus, Minus, Star, Slash, Percent, Bars, Test, IsNull, NotNull, NotNullApart, Phrase, Leaf, Negative, Name, Dotted, NotOf, PlusOf, MinusOf, With, Inside, CallNone, Call, CountAll, Cast, Case, Tail, Infix, Tested, Collated, Among, Between, Phrases, One, And_more, Arms, Arm, And_arms, Perhaps, Absent, Present, spelled, spelled_tail, spelled_all, spelled_arms, spelled_perhaps, operator_words, not_words, names_words, count_name, leaf, IsProper, IsProperTail, AreProper, AreProperArms, IsProperPerhaps}
-use Rattle.cr_symbols.specs.Marks.{words, signs}
+use Rattle.cr_lex.specs.Marks.{words, signs}
 use Rattle.cr_pieces.specs.Pieces.{Piece, text, IsPiece, AreWritten, may_follow}
 use Rattle.cr_pieces.specs.Known.{name, string, blob, word, sign, number, param, after_sign}
 use Rattle.cr_pieces.proofs.Follows.{all_follow}

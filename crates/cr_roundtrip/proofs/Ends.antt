@@ -5,10 +5,10 @@ use Rattle.std.proofs.lemmas.Slice.Eq.{bytes_eq-Decides}
 use Rattle.cr_lex.specs.declared.token.Token.{Token}
 use Rattle.cr_lex.specs.declared.token.TokenKind.{TokenKind}
 use Rattle.cr_lex.specs.declared.token.TokenKind.TheVariants as t
-use Rattle.cr_symbols.specs.Marks.{signs}
-use Rattle.cr_symbols.specs.Spelling.{spelling}
-use Rattle.cr_symbols.specs.Outside.{is_op}
-use Rattle.cr_symbols.specs.Symbols.{sign_symbol, symbol, symbol_of, greatest_of, symbols_of}
+use Rattle.cr_lex.specs.Marks.{signs}
+use Rattle.cr_lex.specs.Spelling.{spelling}
+use Rattle.cr_lex.specs.Outside.{is_op}
+use Rattle.cr_lex.specs.Symbols.{sign_symbol, symbol, symbol_of, greatest_of, symbols_of}
 use Rattle.cr_sql.specs.Sql.{is_semicolon, statement_tokens}
 use Rattle.cr_roundtrip.specs.Printed.{All}
 use Rattle.cr_roundtrip.proofs.Known.{IsKnown}

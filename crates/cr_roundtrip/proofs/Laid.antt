@@ -8,7 +8,7 @@ use Rattle.cr_tree.specs.declared.symbol.Mark.TheVariants as m
 use Rattle.cr_tree.specs.declared.symbol.Symbol.{Symbol}
 use Rattle.cr_tree.specs.declared.symbol.Symbol.TheVariants as k
 use Rattle.cr_tree.specs.Language.{Language, expr}
-use Rattle.cr_symbols.specs.Marks.{marked, words, signs}
+use Rattle.cr_lex.specs.Marks.{marked, words, signs}
 use Rattle.cr_statement.specs.Languages.{◌◁◌, ◌▷◌, ◌⊗◌, ◌⟨$⟩◌, ◌∣◌, Either, One, Other, either_fits, by_either, option_fits, option_words, option_value, all_fit, all_words, maybe, many, up_to, commas, mark, name}
 use Rattle.cr_pieces.specs.Pieces.{Piece, text, symbols}
 use Rattle.cr_pieces.specs.Known.{word, sign}

@@ -10,7 +10,7 @@ use Rattle.cr_tree.specs.declared.symbol.Symbol.{Symbol}
 use Rattle.cr_tree.specs.declared.symbol.Symbol.TheVariants as k
 use Rattle.cr_tree.specs.Grammar.{spelled}
 use Rattle.cr_tree.specs.Language.{expr}
-use Rattle.cr_symbols.specs.Marks.{words, signs}
+use Rattle.cr_lex.specs.Marks.{words, signs}
 use Rattle.cr_tree.specs.declared.statement.Join.{Join}
 use Rattle.cr_tree.specs.declared.statement.JoinKind.{JoinKind}
 use Rattle.cr_tree.specs.declared.statement.JoinKind.TheVariants as j

@@ -21,9 +21,9 @@ use Rattle.cr_lex.proofs.Parts.{both, other_than}
 use Rattle.cr_tree.specs.declared.symbol.Mark.{Mark}
 use Rattle.cr_tree.specs.declared.symbol.Symbol.{Symbol}
 use Rattle.cr_tree.specs.declared.symbol.Symbol.TheVariants as k
-use Rattle.cr_symbols.specs.Marks.{marked, words, signs, outside_word}
-use Rattle.cr_symbols.specs.Spelling.{spelling, inside, undoubled, number, hex_digits}
-use Rattle.cr_symbols.specs.Symbols.{text_of, name_symbol, word_symbol, ident_symbol, bits_symbol, bounded, decimal_symbol, int_symbol, decoded, blob_symbol, param, given_param, param_symbol, sign_symbol, symbol, symbol_of, greatest_of, symbols_of}
+use Rattle.cr_lex.specs.Marks.{marked, words, signs, outside_word}
+use Rattle.cr_lex.specs.Spelling.{spelling, inside, undoubled, number, hex_digits}
+use Rattle.cr_lex.specs.Symbols.{text_of, name_symbol, word_symbol, ident_symbol, bits_symbol, bounded, decimal_symbol, int_symbol, decoded, blob_symbol, param, given_param, param_symbol, sign_symbol, symbol, symbol_of, greatest_of, symbols_of}
 use Rattle.cr_roundtrip.specs.Printed.{All, IsSeen, InRange}
 
 -- ---- without U+0000

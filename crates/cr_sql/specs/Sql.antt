@@ -4,9 +4,9 @@ use Rattle.std.specs.List.{take_while}
 use Rattle.std.specs.Option.{option_map_or}
 use Rattle.std.specs.Str.{bytes_eq}
 use Rattle.cr_lex.specs.declared.token.Token.{Token}
-use Rattle.cr_symbols.specs.Spelling.{spelling}
-use Rattle.cr_symbols.specs.Symbols.{symbols_of}
-use Rattle.cr_symbols.specs.Outside.{is_op, outside_of}
+use Rattle.cr_lex.specs.Spelling.{spelling}
+use Rattle.cr_lex.specs.Symbols.{symbols_of}
+use Rattle.cr_lex.specs.Outside.{is_op, outside_of}
 use Rattle.cr_tree.specs.declared.limits.LimitKind.{LimitKind}
 use Rattle.cr_tree.specs.declared.limits.TheConstants.{LIMITS}
 use Rattle.cr_tree.specs.declared.symbol.Symbol.{Symbol}

@@ -3,7 +3,7 @@
 ghost use Rattle.std.specs.Prelude.{◌≡◌, ◌≢◌, ◌≤◌, ℕ, List, not, length, IfOk};
 ghost use Rattle.std.specs.Borrow.{Bor};
 ghost use Rattle.std.specs.List.{prefix_len};
-ghost use Rattle.cr_symbols.specs.Spelling.{spelling};
+ghost use Rattle.cr_lex.specs.Spelling.{spelling};
 ghost use Rattle.cr_tree.specs.declared.limits.LimitKind.{LimitKind};
 ghost use Rattle.cr_tree.specs.Judging.{MeetsLimit};
 ghost use Rattle.cr_statement.specs.Statements as language;
@@ -14,8 +14,8 @@ ghost use Rattle.cr_sql.specs.Sql.{place_of, refused, says, told, answers};
 use crate::error::SqlError;
 use cr_lex::token::{Token, TokenKind};
 use cr_parse::error::ParseError;
-use cr_symbols::outside::outside;
-use cr_symbols::symbols::symbols;
+use cr_lex::outside::outside;
+use cr_lex::symbols::symbols;
 use cr_tree::statement::Statement;
 use std::alloc::Global;
 

@@ -7,10 +7,10 @@
 //! | `outside` | a place and a text | the word by which the token at the place is out of this SQL, or `none` |
 //! | `stray` | a token's kind and bytes, and a text | the symbol of that token, which need not be one of the text |
 
+use cr_lex::outside::outside;
 use cr_lex::scan::tokens;
+use cr_lex::symbols::symbols;
 use cr_lex::token::{LexError, Token, TokenKind};
-use cr_symbols::outside::outside;
-use cr_symbols::symbols::symbols;
 use cr_told::error::ToldError;
 use cr_tree::symbol::Symbol;
 use std::alloc::{AllocError, Global};

@@ -1,7 +1,7 @@
 use Rattle.std.proofs.Common.{◌≡◌, not, length, sym, ap, subst}
 use Rattle.std.specs.List.{prefix_len}
 use Rattle.cr_tree.specs.Judging.{IsRead}
-use Rattle.cr_symbols.specs.Symbols.{symbols_of}
+use Rattle.cr_lex.specs.Symbols.{symbols_of}
 use Rattle.cr_statement.specs.Statements as grammar
 use Rattle.cr_sql.specs.Sql.{is_semicolon, statement_symbols, statement_tokens}
 use Rattle.cr_print.specs.Layout as layout

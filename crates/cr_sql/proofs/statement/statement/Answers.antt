@@ -1,5 +1,5 @@
 use Rattle.std.proofs.Common.{◌≡◌, ap, sym, ◌∙◌, subst}
-use Rattle.cr_symbols.specs.Symbols.{symbols_of}
+use Rattle.cr_lex.specs.Symbols.{symbols_of}
 use Rattle.cr_tree.specs.Judging.{IsRead, IsBadPlace}
 use Rattle.cr_statement.specs.Statements as language
 use Rattle.cr_sql.specs.Sql.{statement_symbols}

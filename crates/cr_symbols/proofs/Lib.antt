@@ -1,5 +1,0 @@
-pub mod Quotes
-pub mod Numbers
-pub mod Texts
-pub mod Turns
-pub mod Keywords

@@ -1,5 +1,0 @@
-use Rattle.cr_symbols.proofs.Keywords.{keywords}
-use Rattle.cr_symbols.proofs.laws.keywords_are_no_names.Goals as goal
-
-pub returns : goal.returns
-returns c = keywords

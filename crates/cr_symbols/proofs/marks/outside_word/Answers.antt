@@ -1,6 +1,0 @@
-use Rattle.cr_symbols.specs.Marks.{outside_words, outside_word}
-use Rattle.cr_symbols.proofs.marks.outside_word.Goals as goal
-
-pub returns : goal.returns
-unfolding outside_words outside_word
-returns c = c.written.ensures

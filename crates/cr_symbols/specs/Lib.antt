@@ -1,5 +1,0 @@
-pub mod Marks
-pub mod Spelling
-pub mod Symbols
-pub mod Outside
-pub mod Laws
