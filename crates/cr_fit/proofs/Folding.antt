@@ -18,9 +18,9 @@ use Rattle.cr_statement.specs.Languages.{One, Other, all_words, option_words}
 use Rattle.cr_statement.specs.Statements as grammar
 use Rattle.cr_statement.specs.Whole as whole
 use Rattle.cr_statement.proofs.Whole.{statement_of}
-use Rattle.cr_sql.specs.Sql.{told, judged, statement_tokens, statement_symbols}
-use Rattle.cr_sql.specs.Sql as sql
-use Rattle.cr_sql.specs.Scripts.{next_at, behind, semicolons}
+use Rattle.cr_statement.specs.Sql.{told, judged, statement_tokens, statement_symbols}
+use Rattle.cr_statement.specs.Sql as sql
+use Rattle.cr_statement.specs.Scripts.{next_at, behind, semicolons}
 use Rattle.cr_cells.specs.Tables.{is_folded, has_folded_names}
 use Rattle.cr_resolve.specs.Creates.{definition, column_def, collation_after}
 use Rattle.cr_fit.specs.Folded.{IsFoldedColumn, DefinesFolded, NamesAreFolded}

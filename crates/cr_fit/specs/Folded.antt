@@ -7,7 +7,7 @@ use Rattle.cr_tree.specs.declared.statement.Statement.{Statement}
 use Rattle.cr_tree.specs.declared.statement.Statement.TheVariants as s
 use Rattle.cr_cells.specs.Tables.{is_folded, has_folded_names}
 use Rattle.cr_resolve.specs.Creates.{definition, column_def}
-use Rattle.cr_sql.specs.Scripts.{next}
+use Rattle.cr_statement.specs.Scripts.{next}
 
 -- a column's name and that of its collation
 abbrev pub IsFoldedColumn : ColumnDef → Type 0

@@ -32,9 +32,9 @@ use Rattle.cr_resolve.specs.declared.refusal.Outside.TheVariants as outside
 use Rattle.cr_resolve.specs.Known.{Known}
 use Rattle.cr_resolve.specs.Resolve.{marked, resolved}
 use Rattle.cr_resolve.specs.Parameters.{fits}
-use Rattle.cr_sql.specs.Sql.{Refusal as Unread, is_semicolon, told, judged}
-use Rattle.cr_sql.specs.Sql as read
-use Rattle.cr_sql.specs.Scripts as scripts
+use Rattle.cr_statement.specs.Sql.{Refusal as Unread, is_semicolon, told, judged}
+use Rattle.cr_statement.specs.Sql as read
+use Rattle.cr_statement.specs.Scripts as scripts
 use Rattle.cr_world.specs.declared.refusal.Refusal.{Refusal}
 use Rattle.cr_world.specs.declared.refusal.Refusal.TheVariants as refusal
 use Rattle.cr_world.specs.declared.refusal.OutOfProfile.{OutOfProfile}

@@ -9,7 +9,7 @@ use Rattle.cr_lex.specs.Marks.{signs}
 use Rattle.cr_lex.specs.Spelling.{spelling}
 use Rattle.cr_lex.specs.Outside.{is_op}
 use Rattle.cr_lex.specs.Symbols.{sign_symbol, symbol, symbol_of, greatest_of, symbols_of}
-use Rattle.cr_sql.specs.Sql.{is_semicolon, statement_tokens}
+use Rattle.cr_statement.specs.Sql.{is_semicolon, statement_tokens}
 use Rattle.cr_roundtrip.specs.Printed.{All}
 use Rattle.cr_roundtrip.proofs.Known.{IsKnown}
 

@@ -4,7 +4,7 @@ use Rattle.cr_lex.specs.declared.token.Token.{Token}
 use Rattle.cr_lex.specs.Tokens.{IsTokens}
 use Rattle.cr_tree.specs.Grammar.{Phrase, spelled, tree, IsProper, height, opened, most_commas}
 use Rattle.cr_tree.specs.declared.statement.Statement.{Statement}
-use Rattle.cr_sql.specs.Sql.{IsStatement}
+use Rattle.cr_statement.specs.Sql.{IsStatement}
 use Rattle.cr_print.specs.Layout as layout
 use Rattle.cr_roundtrip.specs.Printed.{printed, All, IsSeen}
 

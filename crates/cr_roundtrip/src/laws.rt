@@ -8,8 +8,8 @@ pub fn printed_is_a_phrase()
     ensures { PrintedIsPhrase }
 {}
 
-/// What `print` gives for a statement that `statement` of `cr_sql` gave reads back: whatever tokens the text has, they are
-/// one statement to their end, with the same tree.
+/// What `print` gives for a statement that was read from a source's tokens reads back: whatever tokens the text has, they
+/// are one statement to their end, with the same tree.
 pub fn printed_reads_back()
     ensures { PrintedReadsBack }
 {}

@@ -10,10 +10,10 @@ use Rattle.cr_lex.specs.Tokens.{IsTokens}
 use Rattle.cr_lex.proofs.Unique.{one_list}
 use Rattle.cr_tree.specs.declared.statement.Statement.{Statement}
 use Rattle.cr_meaning.specs.View.{Ordered}
-use Rattle.cr_sql.specs.declared.error.SqlError.{SqlError}
-use Rattle.cr_sql.specs.declared.error.SqlError.TheVariants as sql
-use Rattle.cr_sql.specs.Sql.{Refusal as Unread, is_semicolon, judged, says, told}
-use Rattle.cr_sql.specs.Scripts as scripts
+use Rattle.cr_statement.specs.declared.error.SqlError.{SqlError}
+use Rattle.cr_statement.specs.declared.error.SqlError.TheVariants as sql
+use Rattle.cr_statement.specs.Sql.{Refusal as Unread, is_semicolon, judged, says, told}
+use Rattle.cr_statement.specs.Scripts as scripts
 use Rattle.cr_world.specs.declared.command.Reply.{Reply}
 use Rattle.cr_world.specs.declared.command.Reply.TheVariants.{Done}
 use Rattle.cr_world.specs.declared.refusal.Refusal.{Refusal}

@@ -9,10 +9,10 @@ use Rattle.cr_lex.proofs.Unique.{one_list}
 use Rattle.std.proofs.lemmas.Bool.{le-ltb, lt-ltb}
 use Rattle.cr_tree.specs.declared.statement.Statement.{Statement}
 use Rattle.cr_meaning.specs.View.{Ordered}
-use Rattle.cr_sql.specs.declared.error.SqlError.{SqlError}
-use Rattle.cr_sql.specs.declared.error.SqlError.TheVariants as sql
-use Rattle.cr_sql.specs.Sql.{says}
-use Rattle.cr_sql.specs.Scripts as scripts
+use Rattle.cr_statement.specs.declared.error.SqlError.{SqlError}
+use Rattle.cr_statement.specs.declared.error.SqlError.TheVariants as sql
+use Rattle.cr_statement.specs.Sql.{says}
+use Rattle.cr_statement.specs.Scripts as scripts
 use Rattle.cr_cells.specs.Holding.{Holding}
 use Rattle.cr_fit.specs.Folded.{DefinesFolded}
 use Rattle.cr_fit.proofs.Folding.{are_names_folded}

@@ -9,8 +9,8 @@ use Rattle.cr_lex.specs.declared.token.Token.{Token}
 use Rattle.cr_tree.specs.declared.statement.Statement.{Statement}
 use Rattle.cr_parse.specs.declared.error.ParseError.{ParseError}
 use Rattle.cr_parse.specs.declared.error.ParseError.TheVariants as p
-use Rattle.cr_sql.specs.Sql.{Refusal as Unread, is_semicolon, statement_tokens, told, judged}
-use Rattle.cr_sql.specs.Scripts as scripts
+use Rattle.cr_statement.specs.Sql.{Refusal as Unread, is_semicolon, statement_tokens, told, judged}
+use Rattle.cr_statement.specs.Scripts as scripts
 use Rattle.cr_world.specs.declared.command.Reply.{Reply}
 use Rattle.cr_world.specs.declared.refusal.Refusal.{Refusal}
 use Rattle.cr_world.specs.declared.refusal.Refusal.TheVariants.{Memory}

@@ -1,8 +1,8 @@
 //! Scripts: their statements in order, up to the first that is refused.
 
 ghost use Rattle.std.specs.Prelude.{◌≡◌, ◌⊎◌, ◌≤◌, IfOk, IfSome, drop, length};
-ghost use Rattle.cr_sql.specs.Sql.{says};
-ghost use Rattle.cr_sql.specs.Sql as read;
+ghost use Rattle.cr_statement.specs.Sql.{says};
+ghost use Rattle.cr_statement.specs.Sql as read;
 ghost use Rattle.cr_world.specs.declared.refusal.Refusal.TheVariants.{Memory};
 ghost use Rattle.cr_language.specs.Sql.{of_kind, of_unread};
 ghost use Rattle.cr_session.specs.Performing.{is_transaction};
@@ -16,8 +16,8 @@ use cr_host::functions::Functions;
 use cr_lattice::table::Items;
 use cr_lex::scan::tokens;
 use cr_lex::token::{LexError, Token};
-use cr_sql::error::SqlError;
-use cr_sql::script::next_statement;
+use cr_statement::error::SqlError;
+use cr_statement::script::next_statement;
 use cr_tree::limits::LimitKind;
 use cr_tree::statement::Statement;
 use cr_value::text::Text;

@@ -4,7 +4,7 @@ use Rattle.std.specs.List.{list_any}
 use Rattle.std.specs.Option.{option_map_or}
 use Rattle.std.specs.Str.{is_utf8, bytes_eq}
 use Rattle.std.specs.Io.BufRead.{strip_last}
-use Rattle.cr_sql.specs.Sql.{is_semicolon}
+use Rattle.cr_statement.specs.Sql.{is_semicolon}
 use Rattle.cr_language.specs.Texts.{tokens_of}
 use Rattle.cr_world.specs.declared.command.Command.{Command}
 use Rattle.cr_world.specs.declared.command.Command.TheVariants.{Sql}

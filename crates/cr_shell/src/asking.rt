@@ -9,7 +9,7 @@ ghost use Rattle.cr_shell.specs.Asking.{has_token, ends_in_semicolon, has_semico
 use crate::line::command_of;
 use cr_lex::scan::{SCRIPT_LIMIT, tokens};
 use cr_lex::token::Token;
-use cr_sql::statement::is_semicolon;
+use cr_statement::sql::is_semicolon;
 use cr_value::text::Text;
 use cr_world::command::Command;
 use std::alloc::{AllocError, Global};

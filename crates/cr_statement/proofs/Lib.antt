@@ -8,3 +8,4 @@ pub mod Selects
 pub mod Columns
 pub mod Creates
 pub mod Whole
+pub mod Told

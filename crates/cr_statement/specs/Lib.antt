@@ -5,3 +5,5 @@ pub mod Given
 pub mod Queries
 pub mod Creating
 pub mod Whole
+pub mod Sql
+pub mod Scripts

@@ -1,7 +1,7 @@
 //! Refusals as the answers of cases. Want of memory is no answer.
 
 use cr_parse::error::ParseError;
-use cr_sql::error::SqlError;
+use cr_statement::error::SqlError;
 use cr_told::error::ToldError;
 use std::alloc::Global;
 

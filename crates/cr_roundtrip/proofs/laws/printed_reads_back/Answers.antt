@@ -3,7 +3,7 @@ use Rattle.std.specs.List.{prefix_len}
 use Rattle.cr_tree.specs.Judging.{IsRead}
 use Rattle.cr_lex.specs.Symbols.{symbols_of}
 use Rattle.cr_statement.specs.Statements as grammar
-use Rattle.cr_sql.specs.Sql.{is_semicolon, statement_symbols, statement_tokens}
+use Rattle.cr_statement.specs.Sql.{is_semicolon, statement_symbols, statement_tokens}
 use Rattle.cr_print.specs.Layout as layout
 use Rattle.cr_roundtrip.specs.Printed.{All}
 use Rattle.cr_roundtrip.proofs.Back.{read_back}

@@ -8,10 +8,10 @@ use Rattle.cr_parse.specs.declared.error.ParseError.{ParseError}
 use Rattle.cr_parse.specs.declared.error.ParseError.TheVariants as p
 use Rattle.cr_tree.specs.declared.statement.Statement.{Statement}
 use Rattle.cr_statement.specs.Statements as language
-use Rattle.cr_sql.specs.declared.error.SqlError.{SqlError}
-use Rattle.cr_sql.specs.declared.error.SqlError.TheVariants as s
-use Rattle.cr_sql.specs.Sql as d
-use Rattle.cr_sql.specs.Sql.{statement_tokens, statement_symbols, place_of, word_of, told, answers, IsSyntaxAt, IsOutOfProfile}
+use Rattle.cr_statement.specs.declared.error.SqlError.{SqlError}
+use Rattle.cr_statement.specs.declared.error.SqlError.TheVariants as s
+use Rattle.cr_statement.specs.Sql as d
+use Rattle.cr_statement.specs.Sql.{statement_tokens, statement_symbols, place_of, word_of, told, answers, IsSyntaxAt, IsOutOfProfile}
 
 module _ (source : List ℕ) (tokens : List Token) where
   -- memory was wanted in the reading or nowhere

@@ -17,8 +17,8 @@ use Rattle.cr_parse.specs.Judge.{judge}
 use Rattle.cr_tree.specs.declared.statement.Statement.{Statement}
 use Rattle.cr_statement.specs.Statements as language
 use Rattle.cr_statement.specs.Whole as whole
-use Rattle.cr_sql.specs.declared.error.SqlError.{SqlError}
-use Rattle.cr_sql.specs.declared.error.SqlError.TheVariants as s
+use Rattle.cr_statement.specs.declared.error.SqlError.{SqlError}
+use Rattle.cr_statement.specs.declared.error.SqlError.TheVariants as s
 
 -- ---- which tokens
 

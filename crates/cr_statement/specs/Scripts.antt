@@ -4,8 +4,8 @@ use Rattle.std.specs.Prelude.{ℕ, zero, suc, ◌+◌, List, [], ◌∷◌, leng
 use Rattle.std.specs.List.{prefix_len}
 use Rattle.cr_lex.specs.declared.token.Token.{Token}
 use Rattle.cr_tree.specs.declared.statement.Statement.{Statement}
-use Rattle.cr_sql.specs.declared.error.SqlError.{SqlError}
-use Rattle.cr_sql.specs.Sql.{Refusal, is_semicolon, judged, told, says}
+use Rattle.cr_statement.specs.declared.error.SqlError.{SqlError}
+use Rattle.cr_statement.specs.Sql.{Refusal, is_semicolon, judged, told, says}
 
 -- how many `;` stand at the front
 abbrev pub semicolons : List ℕ → List Token → ℕ

@@ -2,9 +2,9 @@ use Rattle.std.proofs.Common.{◌≡◌, ap, sym, ◌∙◌, subst}
 use Rattle.cr_lex.specs.Symbols.{symbols_of}
 use Rattle.cr_tree.specs.Judging.{IsRead, IsBadPlace}
 use Rattle.cr_statement.specs.Statements as language
-use Rattle.cr_sql.specs.Sql.{statement_symbols}
-use Rattle.cr_sql.proofs.Told.{told_only, told_syntax, told_outside}
-use Rattle.cr_sql.proofs.statement.statement.Goals as goal
+use Rattle.cr_statement.specs.Sql.{statement_symbols}
+use Rattle.cr_statement.proofs.Told.{told_only, told_syntax, told_outside}
+use Rattle.cr_statement.proofs.sql.statement.Goals as goal
 
 pub returns-clause-only : goal.returns-clause-only
 returns-clause-only c x n (r, e) m =

@@ -18,7 +18,7 @@ pub enum SqlError {
 
 impl From<AllocError> for SqlError {
     ghost use Rattle.std.specs.Prelude.{◌≡◌};
-    ghost use Rattle.cr_sql.specs.declared.error.SqlError.TheVariants.{Memory};
+    ghost use Rattle.cr_statement.specs.declared.error.SqlError.TheVariants.{Memory};
 
     ghost from_gives = { λ _ e. e ≡ Memory };
 
@@ -29,7 +29,7 @@ impl From<AllocError> for SqlError {
 
 impl<T: Drop> From<AllocFailed<T>> for SqlError {
     ghost use Rattle.std.specs.Prelude.{◌≡◌};
-    ghost use Rattle.cr_sql.specs.declared.error.SqlError.TheVariants.{Memory};
+    ghost use Rattle.cr_statement.specs.declared.error.SqlError.TheVariants.{Memory};
 
     ghost from_gives = { λ _ e. e ≡ Memory };
 

@@ -1,4 +1,4 @@
-//! Statements of scripts.
+//! The statement at the front of a source's tokens.
 
 ghost use Rattle.std.specs.Prelude.{◌≡◌, ◌≢◌, ◌≤◌, ℕ, List, not, length, IfOk};
 ghost use Rattle.std.specs.Borrow.{Bor};
@@ -8,14 +8,14 @@ ghost use Rattle.cr_tree.specs.declared.limits.LimitKind.{LimitKind};
 ghost use Rattle.cr_tree.specs.Judging.{MeetsLimit};
 ghost use Rattle.cr_statement.specs.Statements as language;
 ghost use Rattle.cr_tree.specs.declared.statement.Statement.{Statement};
-ghost use Rattle.cr_sql.specs.Sql.{is_semicolon, statement_tokens, statement_symbols, judged, IsStatement, IsSyntaxAt, IsOutOfProfile};
-ghost use Rattle.cr_sql.specs.Sql.{place_of, refused, says, told, answers};
+ghost use Rattle.cr_statement.specs.Sql.{is_semicolon, statement_tokens, statement_symbols, judged, IsStatement, IsSyntaxAt, IsOutOfProfile};
+ghost use Rattle.cr_statement.specs.Sql.{place_of, refused, says, told, answers};
 
 use crate::error::SqlError;
-use cr_lex::token::{Token, TokenKind};
-use cr_parse::error::ParseError;
 use cr_lex::outside::outside;
 use cr_lex::symbols::symbols;
+use cr_lex::token::{Token, TokenKind};
+use cr_parse::error::ParseError;
 use cr_tree::statement::Statement;
 use std::alloc::Global;
 
@@ -113,9 +113,5 @@ pub fn statement(
     ensures answer { result ≢ Err SqlError.Memory → answers result ≡ told source.now tokens.now (judged source.now tokens.now) }
 {
     let symbols = symbols(alloc, source, statement_tokens(source, tokens))?;
-    answer(
-        source,
-        tokens,
-        cr_statement::statement::statement(alloc, &symbols),
-    )
+    answer(source, tokens, crate::statement::statement(alloc, &symbols))
 }

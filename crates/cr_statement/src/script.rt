@@ -1,10 +1,10 @@
 //! Scripts, statement by statement.
 
 ghost use Rattle.std.specs.Prelude.{◌≡◌, ◌≢◌, ◌≤◌, length};
-ghost use Rattle.cr_sql.specs.Scripts.{semicolons, next, says_next};
+ghost use Rattle.cr_statement.specs.Scripts.{semicolons, next, says_next};
 
 use crate::error::SqlError;
-use crate::statement::{is_semicolon, statement};
+use crate::sql::{is_semicolon, statement};
 use cr_lex::token::Token;
 use cr_tree::statement::Statement;
 use std::alloc::Global;

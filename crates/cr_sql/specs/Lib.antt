@@ -1,2 +1,0 @@
-pub mod Sql
-pub mod Scripts
