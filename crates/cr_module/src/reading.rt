@@ -1,0 +1,45 @@
+//! The rows of a module as one list.
+
+ghost use Rattle.std.specs.Prelude.{◌≡◌, ◌++◌, false, IfOk, OnOk, take, length};
+ghost use Rattle.cr_bags.specs.Bags.{SameBag};
+ghost use Rattle.cr_module.specs.Lawful.{first_row, is_at_end};
+
+use crate::module::{Cursor, Module};
+use cr_lattice::table::{Items, Row};
+use std::alloc::{AllocError, Global};
+
+// The row on which a reading stands.
+fn read_row(
+    alloc: Global,
+    listed: &dyn Module,
+    cursor: &Cursor,
+    width: usize,
+) -> Result<Row, AllocError>
+    requires there { is_at_end (left listed.now cursor.now) ≡ false }
+    requires wide { length (first_row (left listed.now cursor.now)) ≡ width }
+    ensures { IfOk result (λ row. row ≡ first_row (left listed.now cursor.now)) }
+{
+    let mut values = Vec::new(alloc);
+    for at in 0..width {
+        values.push(listed.column(alloc, cursor, at)?)?;
+    }
+    Ok(Items::new(values))
+}
+
+/// All rows of a module, in the order in which it gives them where no constraint is passed.
+///
+/// # Errors
+/// Want of memory, of the module or for the rows.
+pub fn rows_of(alloc: Global, listed: &dyn Module) -> Result<Items<Row>, AllocError>
+    ensures { IfOk result (λ rows. SameBag rows (rows_of listed.now)) }
+{
+    let width = listed.columns().len();
+    let choice = listed.best_index(alloc, &[], &[])?;
+    let mut cursor = listed.filter(alloc, choice.index, &[])?;
+    let mut rows = Vec::new(alloc);
+    while !listed.eof(&cursor) {
+        rows.push(read_row(alloc, listed, &cursor, width)?)?;
+        listed.next(alloc, &mut cursor)?;
+    }
+    Ok(Items::new(rows))
+}
