@@ -9,3 +9,6 @@ pub mod Orders
 pub mod Keys
 pub mod ByClass
 pub mod Selected
+pub mod Sought
+pub mod LeftOut
+pub mod Indexed

@@ -26,11 +26,11 @@ filter_filter p q (x ∷ xs) =
       | false ↦ filter_filter p q xs
     ]
 
-filter_agree : {X : Type 0} (p q : X → Bool) → ((x : X) → p x ≡ q x) → (xs : List X) → filter p xs ≡ filter q xs
+pub filter_agree : {X : Type 0} (p q : X → Bool) → ((x : X) → p x ≡ q x) → (xs : List X) → filter p xs ≡ filter q xs
 filter_agree p q h [] = refl
 filter_agree p q h (x ∷ xs) = λ i. cond (h x i) (x ∷ filter_agree p q h xs i) (filter_agree p q h xs i)
 
-none_pass : {X : Type 0} (xs : List X) → filter (λ (x : X). false) xs ≡ []
+pub none_pass : {X : Type 0} (xs : List X) → filter (λ (x : X). false) xs ≡ []
 none_pass [] = refl
 none_pass (x ∷ xs) = none_pass xs
 
@@ -58,7 +58,7 @@ neither_less Less = refl
 neither_less Equal = refl
 neither_less Greater = refl
 
-filter-map : {X Y : Type 0} (p : Y → Bool) (f : X → Y) (xs : List X) → map f (filter (λ x. p (f x)) xs) ≡ filter p (map f xs)
+pub filter-map : {X Y : Type 0} (p : Y → Bool) (f : X → Y) (xs : List X) → map f (filter (λ x. p (f x)) xs) ≡ filter p (map f xs)
 filter-map p f [] = refl
 filter-map p f (x ∷ xs) =
     elim (p (f x)) as (λ b. map f (cond b (x ∷ filter (λ x. p (f x)) xs) (filter (λ x. p (f x)) xs)) ≡ cond b (f x ∷ filter p (map f xs)) (filter p (map f xs))) [

@@ -19,6 +19,7 @@ use Rattle.cr_exec.specs.Tails.{with_quiet_first}
 use Rattle.cr_meaning.specs.Meaning.{meaning}
 use Rattle.cr_exec.specs.Combinations.{tail, left_with}
 use Rattle.cr_exec.specs.Answers.{Stage, Faults, IsBoth, Adds, behind}
+use Rattle.cr_exec.specs.Groups.{row_there}
 use Rattle.cr_exec.proofs.Stages.{Gives, gives_all, faults_on, both_on, faults_after, both_after}
 use Rattle.cr_exec.proofs.Loops.{behind_nil, behind_none, gather_fails}
 
@@ -35,9 +36,13 @@ unkept m terms c h = ap (λ o. joins (option_map (λ b. cond b (single c) []) o)
 
 -- ---- the rows of one table
 
-pub those_singly : (p : Row → Option Bool) (c : Row) (rows : List Row) → gather (λ r. those p (single (c ++ r))) rows ≡ those p (with_rows c rows)
+those_singly : (p : Row → Option Bool) (c : Row) (rows : List Row) → gather (λ r. those p (single (c ++ r))) rows ≡ those p (with_rows c rows)
 those_singly p c [] = refl
 those_singly p c (r ∷ rows) = (λ i. joins (joins-nil_right (option_map (λ b. cond b (single (c ++ r)) []) (p (c ++ r))) i) (those_singly p c rows i))
+
+-- the same of rows that are referred to
+pub those_there : (p : Row → Option Bool) (c : Row) (rows : List (Bor Row)) → gather (λ r. those p (single (c ++ row_there r))) rows ≡ those p (with_rows c (map row_there rows))
+those_there p c rows = sym (gather-map row_there (λ r. those p (single (c ++ r))) rows) ∙ those_singly p c (map row_there rows)
 
 -- ---- padding
 
@@ -138,20 +143,22 @@ module _ (host : Host) (params : List Value) where
 
   -- ---- one row after another
 
-  module _ (terms : List Ordered) (js : List Joined) (tables : List (List Row)) (c : Row) (rows : List Row) (first : List Row) where
-    abbrev each_row : Meaning Ordered → Row → Option (List Row)
-    each_row m r = tail m terms js tables (c ++ r)
+  module _ (terms : List Ordered) (js : List Joined) (tables : List (List Row)) (c : Row) (rows : List (Bor Row)) (first : List Row) where
+    abbrev each_row : Meaning Ordered → Bor Row → Option (List Row)
+    each_row m r = tail m terms js tables (c ++ r.now)
 
     abbrev all_rows : Stage (List Row)
-    all_rows m = behind first (gather (tail m terms js tables) (with_rows c rows))
+    all_rows m = behind first (gather (tail m terms js tables) (with_rows c (map row_there rows)))
 
     pub each_starts : Gives host params (λ m. behind first (gather (each_row m) rows)) all_rows
-    each_starts = gives_all host params (λ m. behind first (gather (each_row m) rows)) all_rows (λ most. ap (behind first) (sym (gather-map (λ r. c ++ r) (tail (meaning most host params) terms js tables) rows)))
+    each_starts =
+        gives_all host params (λ m. behind first (gather (each_row m) rows)) all_rows
+        (λ most. (let f = tail (meaning most host params) terms js tables in ap (behind first) (sym (gather-map (λ r. c ++ r) f (map row_there rows) ∙ gather-map row_there (λ r. f (c ++ r)) rows))))
 
-    pub each_fails : (i : ℕ) (x : Row) (old : List Row) (e : EvalFault) → i < length rows → x ≡ get_or rows i x → Faults host params (λ m. each_row m x) e
-        → Gives host params (λ m. behind old (gather (each_row m) (drop i rows))) all_rows → Faults host params (λ m. gather (tail m terms js tables) (with_rows c rows)) e
+    pub each_fails : (i : ℕ) (x : Bor Row) (old : List Row) (e : EvalFault) → i < length rows → x ≡ get_or rows i x → Faults host params (λ m. each_row m x) e
+        → Gives host params (λ m. behind old (gather (each_row m) (drop i rows))) all_rows → Faults host params (λ m. gather (tail m terms js tables) (with_rows c (map row_there rows))) e
     each_fails i x old e h is f g =
-        faults_on host params all_rows (λ m. gather (tail m terms js tables) (with_rows c rows)) e (λ most k. behind_none first _ k)
+        faults_on host params all_rows (λ m. gather (tail m terms js tables) (with_rows c (map row_there rows))) e (λ most k. behind_none first _ k)
         (gather_fails host params each_row all_rows rows i x old e h is f g)
 
   -- ---- a query's FROM and WHERE

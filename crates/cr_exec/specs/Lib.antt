@@ -6,3 +6,5 @@ pub mod Combinations
 pub mod Shows
 pub mod Comparisons
 pub mod Groups
+pub mod Equalities
+pub mod LookUps

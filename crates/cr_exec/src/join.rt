@@ -7,8 +7,12 @@ ghost use Rattle.cr_meaning.specs.View as view;
 ghost use Rattle.cr_exec.specs.Answers.{Answers, Adds};
 ghost use Rattle.cr_exec.specs.Scopes.{there};
 ghost use Rattle.cr_exec.specs.Combinations.{values, tail, left_with};
+ghost use Rattle.cr_exec.specs.Groups.{row_there};
+ghost use Rattle.cr_exec.specs.LookUps.{AreSound, IsQuietFirst, join_of, rows_of};
 
+use crate::index::references;
 use crate::push::push;
+use crate::source::{Source, sources_of};
 use crate::terms::{terms_of, with_quiet_first};
 use crate::value::{Scope, is_so_in};
 use cr_expr::given::Hosted;
@@ -152,6 +156,29 @@ pub fn matching<F: Functions>(
     requires { F.is_faithful functions.now }
     ensures { Answers (⟦<F as Hosted>⟧.means functions.now) params.now result (λ v. v.items) (λ m. those (all_true m (map there terms.now)) (with_rows combination.now rows.now)) }
 {
+    let rows = references(alloc, rows)?;
+    matching_of(
+        alloc,
+        terms,
+        combination,
+        rows.as_slice(),
+        functions,
+        params,
+    )
+}
+
+// The same of rows that are referred to.
+fn matching_of<F: Functions>(
+    alloc: Global,
+    terms: &[&Expr],
+    combination: &[Value],
+    rows: &[&Row],
+    functions: &F,
+    params: &[Value],
+) -> Result<Vec<Row>, EvalFault>
+    requires { F.is_faithful functions.now }
+    ensures { Answers (⟦<F as Hosted>⟧.means functions.now) params.now result (λ v. v.items) (λ m. those (all_true m (map there terms.now)) (with_rows combination.now (map row_there rows.now))) }
+{
     let mut out = Vec::new(alloc);
     for row in rows {
         let more = longer(alloc, combination, row)?;
@@ -200,16 +227,16 @@ fn or_padded(
 fn left_joined<F: Functions>(
     alloc: Global,
     join: &Joined,
-    rows: &[Row],
+    rows: &[&Row],
     combination: &[Value],
     functions: &F,
     params: &[Value],
 ) -> Result<Vec<Row>, EvalFault>
     requires { F.is_faithful functions.now }
-    ensures { Answers (⟦<F as Hosted>⟧.means functions.now) params.now result (λ v. v.items) (λ m. left_with m join.now rows.now combination.now) }
+    ensures { Answers (⟦<F as Hosted>⟧.means functions.now) params.now result (λ v. v.items) (λ m. left_with m join.now (map row_there rows.now) combination.now) }
 {
     let terms = with_quiet_first(alloc, join.on.as_slice())?;
-    let matched = matching(
+    let matched = matching_of(
         alloc,
         terms.as_slice(),
         combination,
@@ -228,43 +255,32 @@ fn join_rest<F: Functions>(
     alloc: Global,
     out: &mut Vec<Row>,
     terms: &[&Expr],
-    joined: &[Joined],
-    tables: &[Items<Row>],
+    sources: &[Source<'_>],
     combination: &[Value],
     functions: &F,
     params: &[Value],
 ) -> Result<(), EvalFault>
-    requires { F.is_faithful functions.now }
-    ensures { Adds (⟦<F as Hosted>⟧.means functions.now) params.now (λ m. tail m (map there terms.now) joined.now tables.now combination.now) out.old.items out.new.items result }
+    requires faithful { F.is_faithful functions.now }
+    requires quiet_first { IsQuietFirst (map there terms.now) }
+    requires sound { AreSound (⟦<F as Hosted>⟧.means functions.now) (map there terms.now) sources.now }
+    ensures { Adds (⟦<F as Hosted>⟧.means functions.now) params.now (λ m. tail m (map there terms.now) (map join_of sources.now) (map rows_of sources.now) combination.now) out.old.items out.new.items result }
 {
-    let Some((join, joined)) = joined.split_first() else {
+    let Some((source, later)) = sources.split_first() else {
         return keep(alloc, out, terms, combination, functions, params);
     };
-    let Some((rows, tables)) = tables.split_first() else {
-        return keep(alloc, out, terms, combination, functions, params);
-    };
-    if join.is_left {
-        let matched = left_joined(alloc, join, rows.as_slice(), combination, functions, params)?;
-        let rows = matched.as_slice();
-        return join_each(
-            alloc,
-            out,
-            terms,
-            joined,
-            tables,
-            &[],
-            rows,
-            functions,
-            params,
-        );
+    let wanted = source.wanted(alloc, combination, params)?;
+    let rows = source.rows_with(&wanted);
+    if source.join.is_left {
+        let made = left_joined(alloc, source.join, rows, combination, functions, params)?;
+        let made = references(alloc, made.as_slice())?;
+        let rows = made.as_slice();
+        return join_each(alloc, out, terms, later, &[], rows, functions, params);
     }
-    let rows = rows.as_slice();
     join_each(
         alloc,
         out,
         terms,
-        joined,
-        tables,
+        later,
         combination,
         rows,
         functions,
@@ -272,21 +288,22 @@ fn join_rest<F: Functions>(
     )
 }
 
-// The same for the combinations of one with each row of a table.
+// The same for the combinations of one with each of some rows of a table.
 #[cycle(join)]
 fn join_each<F: Functions>(
     alloc: Global,
     out: &mut Vec<Row>,
     terms: &[&Expr],
-    joined: &[Joined],
-    tables: &[Items<Row>],
+    sources: &[Source<'_>],
     combination: &[Value],
-    rows: &[Row],
+    rows: &[&Row],
     functions: &F,
     params: &[Value],
 ) -> Result<(), EvalFault>
-    requires { F.is_faithful functions.now }
-    ensures { Adds (⟦<F as Hosted>⟧.means functions.now) params.now (λ m. gather (tail m (map there terms.now) joined.now tables.now) (with_rows combination.now rows.now)) out.old.items out.new.items result }
+    requires faithful { F.is_faithful functions.now }
+    requires quiet_first { IsQuietFirst (map there terms.now) }
+    requires sound { AreSound (⟦<F as Hosted>⟧.means functions.now) (map there terms.now) sources.now }
+    ensures { Adds (⟦<F as Hosted>⟧.means functions.now) params.now (λ m. gather (tail m (map there terms.now) (map join_of sources.now) (map rows_of sources.now)) (with_rows combination.now (map row_there rows.now))) out.old.items out.new.items result }
 {
     for row in rows {
         let more = longer(alloc, combination, row)?;
@@ -294,8 +311,7 @@ fn join_each<F: Functions>(
             alloc,
             out,
             terms,
-            joined,
-            tables,
+            sources,
             more.as_slice(),
             functions,
             params,
@@ -320,14 +336,15 @@ pub fn joined<F: Functions>(
     ensures { Answers (⟦<F as Hosted>⟧.means functions.now) params.now result (λ v. v.items) (λ m. joined m (view.query query.now) tables.now) }
 {
     let terms = terms_of(alloc, query)?;
-    let mut out = Vec::new(alloc);
+    let terms = terms.as_slice();
     let joined = query.joined.as_slice();
+    let sources = sources_of(alloc, 0, terms, joined, tables, functions)?;
+    let mut out = Vec::new(alloc);
     join_rest(
         alloc,
         &mut out,
-        terms.as_slice(),
-        joined,
-        tables,
+        terms,
+        sources.as_slice(),
         &[],
         functions,
         params,

@@ -4,12 +4,15 @@
 
 pub mod compare;
 pub mod distinct;
+mod equality;
 pub mod group;
 pub mod grouped;
+mod index;
 pub mod join;
 pub mod order;
 mod push;
 pub mod select;
 pub mod show;
+mod source;
 pub mod terms;
 pub mod value;

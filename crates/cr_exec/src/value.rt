@@ -48,7 +48,7 @@ pub(crate) fn value_at<'a>(values: &'a [Value], at: usize) -> Operand<'a>
 
 // The value of a column, a literal or a parameter, possibly under COLLATE; none of another expression.
 #[tactic(auto, using(cr_expr::proofs::Nodes::one_node))]
-fn plain_value<'a>(expr: &'a Expr, given: &Given<'a>) -> Option<Operand<'a>>
+pub(crate) fn plain_value<'a>(expr: &'a Expr, given: &Given<'a>) -> Option<Operand<'a>>
     ensures { MatchOption result (plain expr.now ≡ false) (λ v. (host : Host) → HasValue plain (setting None host given.now) expr.now v) }
 {
     match expr {
