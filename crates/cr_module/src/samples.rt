@@ -1,6 +1,6 @@
 //! A module that a host may register.
 
-ghost use Rattle.std.specs.Prelude.{◌≡◌, ◌++◌, [], length, map, OnOk};
+ghost use Rattle.std.specs.Prelude.{◌≡◌, ◌++◌, ◌∷◌, [], length, map, IfOk, OnOk};
 ghost use Rattle.cr_bags.specs.Bags.{single};
 ghost use Rattle.cr_module.specs.Lawful.{AreWide, value_at};
 
@@ -21,12 +21,19 @@ pub struct Listed {
 
 impl Listed {
     /// A module of this column and these rows of one value each, which takes rows or not.
+    ///
+    /// # Errors
+    /// Want of memory.
     pub fn new(
         alloc: Global,
         column: ColumnDef,
         values: Vec<Value>,
         takes_rows: bool,
-    ) -> Result<Listed, AllocError> {
+    ) -> Result<Listed, AllocError>
+        ensures columns { IfOk result (λ m. ⟦<Listed as Module>⟧.columns_of m ≡ column ∷ []) }
+        ensures rows { IfOk result (λ m. ⟦<Listed as Module>⟧.rows_of m ≡ map single values.items) }
+        ensures takes { IfOk result (λ m. m.takes_rows ≡ takes_rows) }
+    {
         let mut columns = Vec::new(alloc);
         columns.push(column)?;
         Ok(Listed {
