@@ -7,6 +7,6 @@ mod number;
 pub mod outside;
 mod runs;
 pub mod scan;
-mod spelling;
+pub mod spelling;
 pub mod symbols;
 pub mod token;

@@ -9,7 +9,8 @@ ghost use Rattle.cr_lex.specs.Spelling.{spelling, inside, undoubled, is_numeral,
 use crate::token::Token;
 use std::alloc::{AllocError, Global};
 
-/// The bytes of a token; those of them that are in the source, if it ends before.
+/// The bytes of a source that a token is, from `from` up to `to`: those of them that the source has, if it ends before;
+/// none where `to` stands before `from`.
 pub fn spelling<'a>(source: &'a [u8], token: &Token) -> &'a [u8]
     ensures { result.now ≡ spelling source.now token.now }
 {
@@ -19,7 +20,7 @@ pub fn spelling<'a>(source: &'a [u8], token: &Token) -> &'a [u8]
 }
 
 /// What follows an opening of so many bytes, but for the last byte, which closes it.
-pub fn inside(bytes: &[u8], opening: usize) -> &[u8]
+pub(crate) fn inside(bytes: &[u8], opening: usize) -> &[u8]
     ensures { result.now ≡ inside opening bytes.now }
 {
     let rest = &bytes[opening.min(bytes.len())..];
@@ -27,7 +28,7 @@ pub fn inside(bytes: &[u8], opening: usize) -> &[u8]
 }
 
 /// With each doubled quote once.
-pub fn undoubled(alloc: Global, bytes: &[u8], quote: u8) -> Result<Vec<u8>, AllocError>
+pub(crate) fn undoubled(alloc: Global, bytes: &[u8], quote: u8) -> Result<Vec<u8>, AllocError>
     ensures { IfOk result (λ v. v.items ≡ undoubled quote bytes.now) }
 {
     let mut once = Vec::new(alloc);
@@ -69,7 +70,7 @@ fn is_numeral(digits: &[u8], radix: u32) -> bool
 
 /// The number that digits spell, or `u64::MAX` if it is greater.
 #[tactic(auto, unfolding(crate::specs::Spelling::number))]
-pub fn number(digits: &[u8], radix: u32) -> Option<u64>
+pub(crate) fn number(digits: &[u8], radix: u32) -> Option<u64>
     requires least { 2 ≤ radix }
     requires most { radix ≤ 36 }
     ensures { result ≡ option_map (λ n. min n u64.MAX) (number radix digits.now) }
@@ -85,7 +86,7 @@ pub fn number(digits: &[u8], radix: u32) -> Option<u64>
 
 /// What follows `0x`.
 #[tactic(auto, unfolding(crate::specs::Spelling::hex_digits))]
-pub fn hex_digits(bytes: &[u8]) -> Option<&[u8]>
+pub(crate) fn hex_digits(bytes: &[u8]) -> Option<&[u8]>
     ensures { option_copied result ≡ hex_digits bytes.now }
 {
     match bytes {

@@ -25,6 +25,7 @@ fn limited(alloc: Global, tokens: &mut Cursor<'_>) -> Result<(Expr, u8), Fault>
     expr(alloc, tokens, LIMITS, 1)
 }
 
+// What the executable reading judges.
 #[tactic(auto, using(crate::proofs::Refusals::told_then), unfolding(cr_tree::specs::Reading::whole))]
 fn read(alloc: Global, symbols: &[Symbol]) -> Result<Expr, ParseError>
     ensures { result ≢ Err ParseError.Memory → result ≡ judge symbols.now (spec.whole LIMITS symbols.now) }
@@ -58,8 +59,6 @@ pub fn expression(alloc: Global, symbols: &[Symbol]) -> Result<Expr, ParseError>
     ensures only { (x : trees.Expr) → IsRead language.expr symbols.now x → result ≢ Err ParseError.Memory → result ≡ Ok x }
     ensures syntax { (n : ℕ) → result ≡ Err (ParseError.Syntax n) → IsBadPlace language.expr symbols.now n }
     ensures limit { (which : LimitKind) → result ≡ Err (ParseError.Limit which) → MeetsLimit which language.expr symbols.now }
-    // What is met first from the left decides.
-    ensures reading { result ≢ Err ParseError.Memory → result ≡ judge symbols.now (spec.whole LIMITS symbols.now) }
 {
     read(alloc, symbols)
 }

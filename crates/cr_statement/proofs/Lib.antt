@@ -9,3 +9,4 @@ pub mod Columns
 pub mod Creates
 pub mod Whole
 pub mod Told
+pub mod Nexts

@@ -7,3 +7,4 @@ pub mod Creating
 pub mod Whole
 pub mod Sql
 pub mod Scripts
+pub mod Laws

@@ -3,29 +3,21 @@
 ghost use Rattle.std.specs.Prelude.{◌≡◌, ◌≢◌, ◌≤◌, ℕ, List, not, length, IfOk};
 ghost use Rattle.std.specs.Borrow.{Bor};
 ghost use Rattle.std.specs.List.{prefix_len};
-ghost use Rattle.cr_lex.specs.Spelling.{spelling};
 ghost use Rattle.cr_tree.specs.declared.limits.LimitKind.{LimitKind};
 ghost use Rattle.cr_tree.specs.Judging.{MeetsLimit};
 ghost use Rattle.cr_statement.specs.Statements as language;
 ghost use Rattle.cr_tree.specs.declared.statement.Statement.{Statement};
-ghost use Rattle.cr_statement.specs.Sql.{is_semicolon, statement_tokens, statement_symbols, judged, IsStatement, IsSyntaxAt, IsOutOfProfile};
+ghost use Rattle.cr_statement.specs.Sql.{is_semicolon, statement_tokens, statement_symbols, IsStatement, IsSyntaxAt, IsOutOfProfile};
 ghost use Rattle.cr_statement.specs.Sql.{place_of, refused, says, told, answers};
 
 use crate::error::SqlError;
 use cr_lex::outside::outside;
+use cr_lex::spelling::spelling;
 use cr_lex::symbols::symbols;
 use cr_lex::token::{Token, TokenKind};
 use cr_parse::error::ParseError;
 use cr_tree::statement::Statement;
 use std::alloc::Global;
-
-fn spelling<'a>(source: &'a [u8], token: &Token) -> &'a [u8]
-    ensures { result.now ≡ spelling source.now token.now }
-{
-    let to = token.to.min(source.len());
-    let from = token.from.min(to);
-    &source[from..to]
-}
 
 /// Whether the token is the sign `;`.
 pub fn is_semicolon(source: &[u8], token: &Token) -> bool
@@ -109,8 +101,6 @@ pub fn statement(
     ensures syntax { (at : ℕ) → result ≡ Err (SqlError.Syntax at) → IsSyntaxAt source.now tokens.now at }
     ensures outside { (word : Bor (List ℕ)) → result ≡ Err (SqlError.OutOfProfile word) → IsOutOfProfile source.now tokens.now word.now }
     ensures limit { (which : LimitKind) → result ≡ Err (SqlError.Limit which) → MeetsLimit which language.statement (statement_symbols source.now tokens.now) }
-    // What is met first from the left decides.
-    ensures answer { result ≢ Err SqlError.Memory → answers result ≡ told source.now tokens.now (judged source.now tokens.now) }
 {
     let symbols = symbols(alloc, source, statement_tokens(source, tokens))?;
     answer(source, tokens, crate::statement::statement(alloc, &symbols))

@@ -115,6 +115,7 @@ fn any(alloc: Global, tokens: &mut Cursor<'_>) -> Result<Statement, Fault>
     command(alloc, tokens)
 }
 
+// What the executable reading judges.
 #[tactic(auto, using(cr_parse::proofs::Refusals::told))]
 fn read(alloc: Global, symbols: &[Symbol]) -> Result<Statement, ParseError>
     ensures { result ≢ Err ParseError.Memory → result ≡ judge symbols.now (whole.statement LIMITS symbols.now) }
@@ -149,8 +150,6 @@ pub fn statement(alloc: Global, symbols: &[Symbol]) -> Result<Statement, ParseEr
     ensures only { (x : trees.Statement) → IsRead language.statement symbols.now x → result ≢ Err ParseError.Memory → result ≡ Ok x }
     ensures syntax { (n : ℕ) → result ≡ Err (ParseError.Syntax n) → IsBadPlace language.statement symbols.now n }
     ensures limit { (which : LimitKind) → result ≡ Err (ParseError.Limit which) → MeetsLimit which language.statement symbols.now }
-    // What is met first from the left decides.
-    ensures reading { result ≢ Err ParseError.Memory → result ≡ judge symbols.now (whole.statement LIMITS symbols.now) }
 {
     read(alloc, symbols)
 }
