@@ -1,20 +1,18 @@
 //! Terms that are true only where a column has one value.
 
-ghost use Rattle.std.specs.Prelude.{◌≡◌, ◌↔◌, false, IsTrue, IfOk, MatchOption};
+ghost use Rattle.std.specs.Prelude.{◌≡◌, false, IfOk, MatchOption};
 ghost use Rattle.std.specs.Option.{option_map};
 ghost use Rattle.cr_term.specs.Terms.{plain};
-ghost use Rattle.cr_exec.specs.Equalities.{OrdersBytes, equality, is_known, left_takes, own_place, right_takes, side, sought};
+ghost use Rattle.cr_exec.specs.Equalities.{equality, is_known, left_takes, own_place, right_takes, side, sought};
 ghost use Rattle.cr_exec.specs.LookUps.{Wants};
 
 use crate::value::plain_value;
 use cr_expr::given::{Given, Hosted};
-use cr_host::function::FoundCollation;
 use cr_host::functions::Functions;
 use cr_lattice::profile::BINARY;
 use cr_term::expr::Expr;
 use cr_term::operator::{Adjusted, Comparison};
 use cr_value::affinity::Affinity;
-use cr_value::collation::Collation;
 use cr_value::order::same_bytes;
 use cr_value::value::Value;
 use std::alloc::{AllocError, Global};
@@ -26,16 +24,6 @@ pub(crate) struct Equality<'a> {
     pub(crate) place: usize,
     pub(crate) wanted: &'a Expr,
     pub(crate) takes: Option<Affinity>,
-}
-
-/// Whether the collation `binary` is the order of bytes: then texts that it ties are the same.
-pub(crate) fn compares_bytes<F: Functions>(functions: &F) -> bool
-    ensures { IsTrue result ↔ OrdersBytes (⟦<F as Hosted>⟧.means functions.now) }
-{
-    matches!(
-        functions.find_collation(BINARY),
-        Some(FoundCollation::BuiltIn(Collation::Binary))
-    )
 }
 
 // The place of a column in the rows of a table whose columns begin at `start` of a combination.

@@ -139,36 +139,9 @@ fn keep<F: Functions>(
     Ok(())
 }
 
-/// The combinations of one with the rows of a table, on which all terms are true: of no values, the rows on which they
-/// are. The first term that is not true ends the test of a combination, so the terms come with the quiet ones first.
-///
-/// # Errors
-/// The fault of a term that is tested and has no value, and `NotANumber` where it has one that is no number; `TooBig` where a
-/// value on the way is over 1,000,000 bytes; `Memory`.
-pub fn matching<F: Functions>(
-    alloc: Global,
-    terms: &[&Expr],
-    combination: &[Value],
-    rows: &[Row],
-    functions: &F,
-    params: &[Value],
-) -> Result<Vec<Row>, EvalFault>
-    requires { F.is_faithful functions.now }
-    ensures { Answers (⟦<F as Hosted>⟧.means functions.now) params.now result (λ v. v.items) (λ m. those (all_true m (map there terms.now)) (with_rows combination.now rows.now)) }
-{
-    let rows = references(alloc, rows)?;
-    matching_of(
-        alloc,
-        terms,
-        combination,
-        rows.as_slice(),
-        functions,
-        params,
-    )
-}
-
-// The same of rows that are referred to.
-fn matching_of<F: Functions>(
+// The combinations of one with the rows of a table, on which all terms are true: of no values, the rows on which they are.
+// The first term that is not true ends the test of a combination, so the terms come with the quiet ones first.
+fn matching<F: Functions>(
     alloc: Global,
     terms: &[&Expr],
     combination: &[Value],
@@ -236,7 +209,7 @@ fn left_joined<F: Functions>(
     ensures { Answers (⟦<F as Hosted>⟧.means functions.now) params.now result (λ v. v.items) (λ m. left_with m join.now (map row_there rows.now) combination.now) }
 {
     let terms = with_quiet_first(alloc, join.on.as_slice())?;
-    let matched = matching_of(
+    let matched = matching(
         alloc,
         terms.as_slice(),
         combination,
@@ -324,7 +297,8 @@ fn join_each<F: Functions>(
 /// gives NULLs for the columns of its table where no row of it matches.
 ///
 /// # Errors
-/// As those of `matching`.
+/// The fault of a term that is tested and has no value, and `NotANumber` where it has one that is no number; `TooBig` where a
+/// value on the way is over 1,000,000 bytes; `Memory`.
 pub fn joined<F: Functions>(
     alloc: Global,
     query: &Query,

@@ -2,6 +2,7 @@
 //! show, and which of that stands in the answer, in which order.
 #![tactic(auto)]
 
+pub mod binary;
 pub mod compare;
 pub mod distinct;
 mod equality;

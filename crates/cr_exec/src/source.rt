@@ -8,7 +8,8 @@ ghost use Rattle.cr_exec.specs.Groups.{row_there};
 ghost use Rattle.cr_exec.specs.LookUps.{AreSound, IsIndexOf, IsLookUpOf, IsSound, IsWanted, asked, is_left, joined_rows, rows_of, rows_with};
 ghost use Rattle.cr_exec.specs.Scopes.{there};
 
-use crate::equality::{Equality, compares_bytes, equality_of, wanted_value};
+use crate::binary::compares_bytes;
+use crate::equality::{Equality, equality_of, wanted_value};
 use crate::index::{Index, references};
 use crate::terms::with_quiet_first;
 use cr_expr::given::Hosted;

@@ -16,7 +16,8 @@ use Rattle.cr_query.proofs.PlanLaws.{step, joined_one}
 use Rattle.cr_meaning.specs.View.{Ordered}
 use Rattle.cr_meaning.specs.View as view
 use Rattle.cr_meaning.specs.Meaning.{meaning}
-use Rattle.cr_sought.specs.Sought.{sought_key, OrdersBytes}
+use Rattle.cr_exec.specs.Equalities.{OrdersBytes}
+use Rattle.cr_sought.specs.Sought.{sought_key}
 use Rattle.cr_sought.specs.Laws.{of_key, AnswersByKey}
 use Rattle.cr_sought.proofs.Keys.{key_or_differs}
 use Rattle.cr_sought.proofs.Pins.{rejects}

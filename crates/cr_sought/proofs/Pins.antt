@@ -42,7 +42,8 @@ use Rattle.cr_meaning.specs.View.{Ordered}
 use Rattle.cr_meaning.specs.View as view
 use Rattle.cr_meaning.specs.Meaning as queries
 use Rattle.cr_meaning.proofs.Limits.{safe}
-use Rattle.cr_sought.specs.Sought.{no_arm, column_layer, column_under, constant_layer, constant, is_column, on_left, on_right, pin_in, pin, pinned, OrdersBytes}
+use Rattle.cr_exec.specs.Equalities.{OrdersBytes}
+use Rattle.cr_sought.specs.Sought.{no_arm, column_layer, column_under, constant_layer, constant, is_column, on_left, on_right, pin_in, pin, pinned}
 use Rattle.cr_sought.proofs.Keys.{Differs}
 
 -- ---- what operands are

@@ -29,7 +29,8 @@ use Rattle.cr_world.specs.declared.refusal.Refusal.TheVariants as refusal
 use Rattle.cr_touched.specs.Inserts.{Verdict, verdict}
 use Rattle.cr_touched.specs.Shown.{AreKeptOf}
 use Rattle.cr_changed.specs.Changed.{Changes, Leads}
-use Rattle.cr_sought.specs.Sought.{sought_key, is_of_key, is_to_key, OrdersBytes}
+use Rattle.cr_exec.specs.Equalities.{OrdersBytes}
+use Rattle.cr_sought.specs.Sought.{sought_key, is_of_key, is_to_key}
 use Rattle.cr_sought.specs.Laws.{of_key}
 use Rattle.cr_sought.specs.Writes.{DeletesByKey, UpdatesByKey}
 use Rattle.cr_sought.proofs.Answers.{other_rejects}

@@ -15,7 +15,8 @@ use Rattle.cr_meaning.specs.View as view
 use Rattle.cr_meaning.specs.Meaning.{meaning}
 use Rattle.cr_touched.specs.Parts.{part}
 use Rattle.cr_touched.specs.Shown.{AreKeptOf}
-use Rattle.cr_sought.specs.Sought.{sought_key, OrdersBytes}
+use Rattle.cr_exec.specs.Equalities.{OrdersBytes}
+use Rattle.cr_sought.specs.Sought.{sought_key}
 
 -- what is kept of one key of a table
 abbrev pub of_key : TableDef → List ℕ → List Change → List Change

@@ -3,7 +3,6 @@
 use Rattle.std.specs.Prelude.{◌≡◌, ℕ, ◌-◌, ◌==◌, Bool, false, not, ◌&&◌, nat_lt, nat_le, cond, List, [], ◌∷◌, length, get_or, slice_get, Option, Some, None}
 use Rattle.std.specs.List.{list_any, position}
 use Rattle.std.specs.Option.{option_and_then, option_map, option_map_or, option_or}
-use Rattle.std.specs.declared.cmp.Ordering.TheVariants.{Equal as Tied}
 use Rattle.cr_value.specs.declared.value.Value.{Value}
 use Rattle.cr_value.specs.declared.value.Value.TheVariants.{Null}
 use Rattle.cr_value.specs.Affinity.{applied}
@@ -22,7 +21,6 @@ use Rattle.cr_term.specs.declared.query.Assignment.{Assignment}
 use Rattle.cr_term.specs.declared.query.Update.{Update}
 use Rattle.cr_term.specs.Operands.{binary}
 use Rattle.cr_term.specs.Same.{Layer}
-use Rattle.cr_scalar.specs.Host.{Host}
 use Rattle.cr_scalar.specs.Numbers.{is_null}
 use Rattle.cr_bags.specs.Bags.{gather, single}
 
@@ -121,9 +119,3 @@ is_to_key def a = is_of_key def a.column
 -- an UPDATE gives a value to a key column of its table
 abbrev pub assigns_key : Update → Bool
 assigns_key w = list_any (is_to_key w.relation.definition) w.assignments
-
--- ---- the collation BINARY
-
--- texts of equal rank under the collation `binary` are the same
-abbrev pub OrdersBytes : Host → Type 0
-OrdersBytes host = (s t : List ℕ) → host.order binary s t ≡ Tied → s ≡ t

@@ -17,7 +17,8 @@ use Rattle.cr_exec.specs.Answers.{Stage}
 use Rattle.cr_world.specs.declared.refusal.Refusal.{Refusal}
 use Rattle.cr_touched.specs.Shown.{AreKeptOf}
 use Rattle.cr_changed.specs.Changed.{Changes}
-use Rattle.cr_sought.specs.Sought.{sought_key, assigns_key, OrdersBytes}
+use Rattle.cr_exec.specs.Equalities.{OrdersBytes}
+use Rattle.cr_sought.specs.Sought.{sought_key, assigns_key}
 use Rattle.cr_sought.specs.Laws.{of_key}
 
 -- the rows that a write wants of its table where this is kept

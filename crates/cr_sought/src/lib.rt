@@ -3,5 +3,4 @@
 
 pub mod key;
 pub mod laws;
-pub mod orders;
 mod pin;

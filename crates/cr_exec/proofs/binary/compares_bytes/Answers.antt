@@ -5,7 +5,7 @@ use Rattle.cr_value.specs.OrderLaws.{bytes_exact}
 use Rattle.cr_host.specs.Registry.{found_order}
 use Rattle.cr_host.specs.declared.function.FoundCollation.TheVariants.{BuiltIn}
 use Rattle.cr_term.specs.Operands.{binary}
-use Rattle.cr_exec.proofs.equality.compares_bytes.Goals as goal
+use Rattle.cr_exec.proofs.binary.compares_bytes.Goals as goal
 
 pub returns-in-Some-BuiltIn-Binary : goal.returns-in-Some-BuiltIn-Binary
 returns-in-Some-BuiltIn-Binary g c =

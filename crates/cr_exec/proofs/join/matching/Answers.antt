@@ -8,7 +8,7 @@ use Rattle.cr_exec.specs.Groups.{row_there}
 use Rattle.cr_exec.specs.Scopes.{there}
 use Rattle.cr_exec.proofs.Loops.{starts, gather_next}
 use Rattle.cr_exec.proofs.Tails.{those_there}
-use Rattle.cr_exec.proofs.join.matching_of.Goals as goal
+use Rattle.cr_exec.proofs.join.matching.Goals as goal
 
 pub loop-row-init : goal.loop-row-init
 loop-row-init g c =

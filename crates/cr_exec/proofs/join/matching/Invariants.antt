@@ -6,7 +6,7 @@ use Rattle.cr_exec.specs.Answers.{behind}
 use Rattle.cr_exec.specs.Groups.{row_there}
 use Rattle.cr_exec.specs.Scopes.{there}
 use Rattle.cr_exec.proofs.Stages.{Gives}
-use Rattle.cr_exec.proofs.join.matching_of.Given as goal
+use Rattle.cr_exec.proofs.join.matching.Given as goal
 
 abbrev pub invariant-loop-row : goal.invariant-loop-row
 invariant-loop-row g l =

@@ -1,7 +1,7 @@
 //! Whether texts are compared byte by byte.
 
 ghost use Rattle.std.specs.Prelude.{◌↔◌, IsTrue};
-ghost use Rattle.cr_sought.specs.Sought.{OrdersBytes};
+ghost use Rattle.cr_exec.specs.Equalities.{OrdersBytes};
 
 use cr_expr::given::Hosted;
 use cr_host::function::FoundCollation;
