@@ -7,6 +7,7 @@ use Rattle.cr_lattice.specs.declared.change.Change.{Change}
 use Rattle.cr_lattice.specs.declared.stamped.Stamped.{Stamped}
 use Rattle.cr_lattice.specs.declared.table.Table.{Table}
 use Rattle.cr_lattice.specs.Change.{change_cmp}
+use Rattle.cr_lattice.specs.Check.{same_bytes}
 use Rattle.cr_lattice.specs.Keep.{keep}
 use Rattle.cr_lattice.specs.Rows.{is_of_row}
 use Rattle.cr_lattice.specs.Sets.{set_of}
@@ -53,6 +54,14 @@ since cells version = set_of stamp_cmp (filter (λ s. int_lt version s.version) 
 -- the cells of one row, in the order of changes
 unfoldable pub cells_of : List Stamped → List ℕ → List ℕ → List Stamped
 cells_of cells table pk = filter (λ s. is_of_row table pk s.change) cells
+
+-- c is of the table
+abbrev pub is_of_table : List ℕ → Change → Bool
+is_of_table table c = same_bytes c.table table
+
+-- the cells of one table, in the order of changes
+unfoldable pub cells_of_table : List Stamped → List ℕ → List Stamped
+cells_of_table cells table = filter (λ s. is_of_table table s.change) cells
 
 -- ---- what every store meets
 

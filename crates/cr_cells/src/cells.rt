@@ -9,7 +9,7 @@ ghost use Rattle.cr_lattice.specs.Change.{change_cmp};
 ghost use Rattle.cr_lattice.specs.Keep.{has, keep};
 ghost use Rattle.cr_lattice.specs.Rows.{is_of_row};
 ghost use Rattle.cr_lattice.specs.Sets.{set_of};
-ghost use Rattle.cr_cells.specs.Holding.{changes_of, cell_cmp, stamp_cmp, same_stamp, since, cells_of};
+ghost use Rattle.cr_cells.specs.Holding.{changes_of, cell_cmp, stamp_cmp, same_stamp, since, is_of_table, cells_of, cells_of_table};
 ghost use Rattle.cr_cells.specs.Commit.{stamped};
 ghost use Rattle.cr_cells.specs.Advance.{IsNext, Advances};
 
@@ -91,6 +91,30 @@ pub(crate) fn cells_of(
     let mut out = Vec::new(alloc);
     for cell in cells {
         if is_of_row(cell, table, pk) {
+            out.push(cell.copy(alloc)?)?;
+        }
+    }
+    Ok(out)
+}
+
+fn is_of_table(cell: &Stamped, table: &str) -> bool
+    ensures { result ≡ is_of_table table.now cell.now.change }
+{
+    same_bytes(cell.change.table.as_str().as_bytes(), table.as_bytes())
+}
+
+/// Copies of the cells of one table.
+#[tactic(auto, unfolding(crate::specs::Holding::cells_of_table))]
+pub(crate) fn cells_of_table(
+    alloc: Global,
+    cells: &[Stamped],
+    table: &str,
+) -> Result<Vec<Stamped>, AllocError>
+    ensures { IfOk result (λ v. v.items ≡ cells_of_table cells.now table.now) }
+{
+    let mut out = Vec::new(alloc);
+    for cell in cells {
+        if is_of_table(cell, table) {
             out.push(cell.copy(alloc)?)?;
         }
     }

@@ -3,7 +3,7 @@
 ghost use Rattle.std.specs.Prelude.{◌≡◌, [], pos};
 ghost use Rattle.cr_cells.specs.Holding.{empty_holding};
 
-use crate::cells::{cells_of, since, take_changes};
+use crate::cells::{cells_of, cells_of_table, since, take_changes};
 use crate::marks::{Mark, marks_after, seen_of};
 use crate::store::{Cells, CellsError, NewCells};
 use crate::tables::{add, copies, with_added, with_replicated};
@@ -97,6 +97,10 @@ impl Cells for PlainCells {
         pk: &[u8],
     ) -> Result<Vec<Stamped>, CellsError> {
         Ok(cells_of(alloc, &self.cells, table, pk)?)
+    }
+
+    fn cells_of_table(&mut self, alloc: Global, table: &str) -> Result<Vec<Stamped>, CellsError> {
+        Ok(cells_of_table(alloc, &self.cells, table)?)
     }
 
     fn commit(

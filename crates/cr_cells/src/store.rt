@@ -4,7 +4,7 @@ ghost use Rattle.std.specs.Prelude.{◌≡◌, ◌≤ℤ◌, pos, true, false, I
 ghost use Rattle.std.specs.Option.{ForSome};
 ghost use Rattle.cr_cells.specs.Tables.{IsNewTable, IsNewColumn, has_defaults, is_markable, with_replicated, with_table, with_added, AreWellFormed};
 ghost use Rattle.cr_cells.specs.Marks.{seen_of};
-ghost use Rattle.cr_cells.specs.Holding.{since, cells_of, IsSound, empty_holding};
+ghost use Rattle.cr_cells.specs.Holding.{since, cells_of, cells_of_table, IsSound, empty_holding};
 ghost use Rattle.cr_cells.specs.Calls.{Reads, Defines, Commits, IsRefusal, is_want, UnlessWant};
 
 use cr_lattice::change::{Change, Site};
@@ -162,6 +162,18 @@ pub trait Cells: Drop {
         ensures sound { is_clean self.new → IsSound (holding self.new) }
         ensures reads { is_clean self.new → Reads (holding self.old) (holding self.new) result
             (λ cells. cells.items ≡ cells_of (holding self.old).cells table.now pk.now) };
+
+    /// The cells of one table, by key, then as those of a row.
+    ///
+    /// # Errors
+    /// `Memory`, or `Store(Refused)`.
+    fn cells_of_table(&mut self, alloc: Global, table: &str) -> Result<Vec<Stamped>, CellsError>
+        ensures was_honest { is_honest self.new → is_honest self.old }
+        ensures was_clean { is_clean self.new → is_clean self.old }
+        ensures stays_clean { is_honest self.new → is_clean self.old → UnlessWant is_want result (is_clean self.new) }
+        ensures sound { is_clean self.new → IsSound (holding self.new) }
+        ensures reads { is_clean self.new → Reads (holding self.old) (holding self.new) result
+            (λ cells. cells.items ≡ cells_of_table (holding self.old).cells table.now) };
 
     /// Takes changes, each well formed for a replicated table, and with them the mark of a peer: its site, and its
     /// version, at least 0, up to which its changes were taken. Answers whether a kept change is another than before.

@@ -71,6 +71,10 @@ impl Cells for MemoryCells {
         self.store.cells_of(alloc, table, pk)
     }
 
+    fn cells_of_table(&mut self, alloc: Global, table: &str) -> Result<Vec<Stamped>, CellsError> {
+        self.store.cells_of_table(alloc, table)
+    }
+
     fn commit(
         &mut self,
         alloc: Global,

@@ -3,5 +3,6 @@
 
 pub mod pending;
 mod same;
+mod tables;
 mod touched;
 mod under;

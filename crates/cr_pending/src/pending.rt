@@ -3,16 +3,18 @@
 ghost use Rattle.std.specs.Prelude.{◌≡◌, ◌↔◌, [], IsTrue, IfOk};
 ghost use Rattle.cr_cells.specs.Tables.{AreWellFormed};
 ghost use Rattle.cr_touched.specs.Parts.{is_key_of, part};
+ghost use Rattle.cr_touched.specs.Tables.{of_tables};
 ghost use Rattle.cr_pending.specs.Pending.{Adds, IsOf};
 
 use crate::same::same_tables;
+use crate::tables::of_tables;
 use crate::touched::add_keys;
 use crate::under::under_keys;
 use cr_cells::tables::{check_all, copies};
 use cr_lattice::change::Change;
 use cr_lattice::check::{BadChange, CheckError};
 use cr_lattice::table::Table;
-use cr_value::text::Bytes;
+use cr_value::text::{Bytes, Text};
 use std::alloc::{AllocError, Global};
 use std::collections::BTreeSet;
 use std::marker::Model;
@@ -116,6 +118,14 @@ impl Pending {
         ensures { IfOk result (λ v. v.items ≡ part table.now (is_key_of keys.now) self.now.1) }
     {
         under_keys(alloc, &self.changes, &self.touched, table, keys)
+    }
+
+    /// The changes of some tables, in the order in which they were made. Fails for want of memory alone. It takes a pass over the
+    /// changes.
+    pub fn of_tables(&self, alloc: Global, tables: &[Text]) -> Result<Vec<Change>, AllocError>
+        ensures { IfOk result (λ v. v.items ≡ of_tables tables.now self.now.1) }
+    {
+        of_tables(alloc, &self.changes, tables)
     }
 
     /// Adds changes of these tables behind the others, all or none.

@@ -1,3 +1,4 @@
 pub mod Definitions
 pub mod Shown
 pub mod Pulling
+pub mod Above

@@ -3,7 +3,7 @@
 ghost use Rattle.std.specs.Prelude.{◌≡◌, ◌++◌, IfOk, OnOk};
 ghost use Rattle.cr_cells.specs.Calls.{Reads, is_want, UnlessWant};
 ghost use Rattle.cr_cells.specs.Holding.{changes_of};
-ghost use Rattle.cr_replica.specs.Snapshots.{changes_of_keys};
+ghost use Rattle.cr_replica.specs.Snapshots.{changes_of_keys, changes_of_tables};
 
 use crate::definition::{DefineError, accept};
 use crate::snapshot::{Snapshot, are_in_profile, copied_changes};
@@ -20,7 +20,7 @@ use cr_lattice::rows::rows;
 use cr_lattice::stamped::Stamped;
 use cr_lattice::table::{ColumnDef, Items, Row, TableDef};
 use cr_value::order::same_bytes;
-use cr_value::text::Bytes;
+use cr_value::text::{Bytes, Text};
 use std::alloc::{AllocError, Global};
 use std::marker::Model;
 
@@ -99,7 +99,7 @@ fn changes_of(alloc: Global, cells: Vec<Stamped>) -> Result<Vec<Change>, AllocEr
     cells.into_iter().map(|cell| cell.change).collect(alloc)
 }
 
-// Adds the changes of one row's cells.
+// Adds the changes of cells.
 fn push_changes(
     alloc: Global,
     changes: &mut Vec<Change>,
@@ -129,6 +129,26 @@ fn changes_of_keys<C: Cells>(
     for key in keys {
         let row = cells.cells_of(alloc, table, key.as_slice())?;
         push_changes(alloc, &mut changes, row)?;
+    }
+    Ok(changes)
+}
+
+// The changes of the cells of each table.
+fn changes_of_tables<C: Cells>(
+    alloc: Global,
+    cells: &mut C,
+    tables: &[Text],
+) -> Result<Vec<Change>, CellsError>
+    ensures was_honest { C.is_honest cells.new → C.is_honest cells.old }
+    ensures was_clean { C.is_clean cells.new → C.is_clean cells.old }
+    ensures stays_clean { C.is_honest cells.new → C.is_clean cells.old → UnlessWant is_want result (C.is_clean cells.new) }
+    ensures reads { C.is_clean cells.new → Reads (C.holding cells.old) (C.holding cells.new) result
+        (λ changes. changes.items ≡ changes_of_tables (C.holding cells.old) tables.now) }
+{
+    let mut changes = Vec::new(alloc);
+    for table in tables {
+        let found = cells.cells_of_table(alloc, table.as_str())?;
+        push_changes(alloc, &mut changes, found)?;
     }
     Ok(changes)
 }
@@ -179,7 +199,7 @@ impl<C: Cells> Replica<C> {
     ghost use Rattle.cr_replica.specs.Taking.{Stands, IsReady, Prepares, PreparesPull, CommitsAll, IsOffer};
     ghost use Rattle.cr_replica.specs.Showing.{Shows};
     ghost use Rattle.cr_lattice.specs.Keep.{keep};
-    ghost use Rattle.cr_replica.specs.Snapshots.{HasNamesOf, HasCellsOf, IsOfNames, IsWhole, kept_of_keys};
+    ghost use Rattle.cr_replica.specs.Snapshots.{HasNamesOf, HasCellsOf, IsOfNames, IsWhole, kept_of_keys, kept_of_tables};
 
     /// A replica over the store, which may hold something already.
     pub fn new(cells: C) -> Replica<C>
@@ -441,6 +461,7 @@ impl<C: Cells> Replica<C> {
             version: self.cells.db_version(),
             cells: Items::new(Vec::new(alloc)),
             kept: Items::new(Vec::new(alloc)),
+            modules: Items::new(Vec::new(alloc)),
         })
     }
 
@@ -471,6 +492,7 @@ impl<C: Cells> Replica<C> {
             version: names.version,
             cells: Items::new(cells),
             kept: Items::new(kept),
+            modules: names.modules,
         })
     }
 
@@ -498,6 +520,29 @@ impl<C: Cells> Replica<C> {
         Ok(merge(alloc, &changes, &[])?)
     }
 
+    /// What is kept of some tables, in the order of changes. Reads the cells of these tables and no others.
+    ///
+    /// # Errors
+    /// `Memory`, or `Store(Refused)`.
+    pub fn kept_of_tables(
+        &mut self,
+        alloc: Global,
+        tables: &[Text],
+    ) -> Result<Vec<Change>, CellsError>
+        ensures was_honest { C.is_honest self.new → C.is_honest self.old }
+        ensures was_clean { C.is_clean self.new → C.is_clean self.old }
+        ensures stays_clean { C.is_honest self.new → C.is_clean self.old → UnlessWant is_want result (C.is_clean self.new) }
+        ensures reads { C.is_clean self.new → Reads (C.holding self.old) (C.holding self.new) result
+            (λ kept. kept.items ≡ kept_of_tables (C.holding self.old) tables.now) }
+        ensures kept { IfOk result (λ kept. keep kept.items ≡ kept.items) }
+    {
+        let changes = match changes_of_tables(alloc, &mut self.cells, tables) {
+            Ok(changes) => changes,
+            Err(error) => return Err(error),
+        };
+        Ok(merge(alloc, &changes, &[])?)
+    }
+
     /// The kept changes that are stamped above a version, by version, then by place.
     ///
     /// # Errors
@@ -513,7 +558,8 @@ impl<C: Cells> Replica<C> {
         self.cells.since(alloc, version)
     }
 
-    /// The same changes without their stamps.
+    /// The same changes without their stamps. Where the version is the store's own, as after a pull to which nothing was added,
+    /// the store isn't read.
     ///
     /// # Errors
     /// `Memory`, or `Store(Refused)`.
@@ -525,6 +571,10 @@ impl<C: Cells> Replica<C> {
         ensures reads { C.is_clean self.new → Reads (C.holding self.old) (C.holding self.new) result
             (λ changes. changes.items ≡ changes_of (since (C.holding self.old).cells version)) }
     {
+        // Nothing is stamped above the store's own version, so it is not read for that.
+        if version >= self.cells.db_version() {
+            return Ok(Vec::new(alloc));
+        }
         let cells = match self.changes_since(alloc, version) {
             Ok(cells) => cells,
             Err(error) => return Err(error),

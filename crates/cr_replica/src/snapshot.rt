@@ -7,10 +7,19 @@ ghost use Rattle.cr_replica.specs.Snapshots.{is_in_profile};
 use cr_lattice::change::{Change, Site};
 use cr_lattice::profile::profile;
 use cr_lattice::stamped::Stamped;
-use cr_lattice::table::{Items, Table};
+use cr_lattice::table::{Items, Row, Table, TableDef};
 use std::alloc::{AllocError, Global};
 
-/// What a replica holds at a moment, but for the marks of its peers.
+/// A host's table module at a moment.
+#[derive(Debug, Drop)]
+pub struct Listing {
+    /// What it is called, and its columns.
+    pub definition: TableDef,
+    /// Its rows, none where they were not read.
+    pub rows: Items<Row>,
+}
+
+/// What a replica holds at a moment, but for the marks of its peers, and the table modules that a host has beside it.
 #[derive(Debug, Drop)]
 pub struct Snapshot {
     /// The tables in the order in which they came.
@@ -23,6 +32,8 @@ pub struct Snapshot {
     pub cells: Items<Stamped>,
     /// The kept changes, in the order of changes.
     pub kept: Items<Change>,
+    /// The modules in the order in which they were registered.
+    pub modules: Items<Listing>,
 }
 
 fn is_in_profile(table: &Table) -> bool

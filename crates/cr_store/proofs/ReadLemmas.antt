@@ -19,6 +19,7 @@ use Rattle.cr_value.specs.declared.value.Value.TheVariants as val
 use Rattle.cr_lattice.specs.declared.stamped.Stamped.{Stamped}
 use Rattle.cr_lattice.specs.declared.table.Table.{Table}
 use Rattle.cr_lattice.specs.Rows.{is_of_row}
+use Rattle.cr_cells.specs.Holding.{is_of_table}
 use Rattle.cr_store.specs.Schema.{store_schema}
 use Rattle.cr_store.specs.Rows.{value_of, value_in, cell_row, cell_of}
 use Rattle.cr_store.specs.declared.format.Format.{Format}
@@ -27,8 +28,8 @@ use Rattle.cr_store.specs.Ordinals.{ordinal, IsNamed}
 use Rattle.cr_store.specs.Shows.{HasCells}
 use Rattle.cr_store.specs.Words.{SameCells}
 use Rattle.cr_store.proofs.OrdinalLemmas.{name_back}
-use Rattle.cr_store.proofs.RowTests.{passes_above, passes_row}
-use Rattle.cr_store.proofs.TextLemmas.{names, shows, above, at_row, select_since, since_is, since_plain, since_unlisted, select_row, row_is, row_plain, row_unlisted}
+use Rattle.cr_store.proofs.RowTests.{passes_above, passes_row, passes_table}
+use Rattle.cr_store.proofs.TextLemmas.{names, shows, above, at_row, at_table, select_since, since_is, since_plain, since_unlisted, select_row, row_is, row_plain, row_unlisted, select_table, of_table_is, of_table_plain, of_table_unlisted}
 
 value_back : (v : Value) → value_in (value_of v) ≡ v
 value_back val.Null = refl
@@ -107,6 +108,16 @@ module _ (ts : List Table) where
       rows_kept (passes_all at_row params) (λ s. is_of_row table pk s.change) (old.now.trees 8) ss it.named each rows
       (lists_answered at_row shows [] params (old.now.trees 8) rows (map (cell_row Second ts) ss) _
       (as_cells (passes_all at_row params) (λ s. is_of_row table pk s.change) (old.now.trees 8) ss it.named each) (λ id x k. shown params id ss x k) it.held.cells_are asked)
+
+  pub shows_table : (old new : State) (a b o d : List Row) (ss : List Stamped) (table : List ℕ) (rows : List Row) → HasCells old.now ts a b o d ss
+      → Shown select_table (Int (ordinal ts table) ∷ []) old new rows → SameRows (map (cell_row Second ts) (filter (λ s. is_of_table table s.change) ss)) rows
+  shows_table old new a b o d ss table rows it h =
+      let params : Row = Int (ordinal ts table) ∷ [] in
+      let asked = asks store_schema select_table 8 at_table shows [] names params old new rows of_table_is of_table_plain of_table_unlisted refl it.held.schema h in
+      let each = passes_table ts table in
+      rows_kept (passes_all at_table params) (λ s. is_of_table table s.change) (old.now.trees 8) ss it.named each rows
+      (lists_answered at_table shows [] params (old.now.trees 8) rows (map (cell_row Second ts) ss) _
+      (as_cells (passes_all at_table params) (λ s. is_of_table table s.change) (old.now.trees 8) ss it.named each) (λ id x k. shown params id ss x k) it.held.cells_are asked)
 
 -- what is named stays so
 pub named_filter : (ts : List Table) (test : Stamped → Bool) (ss : List Stamped) → AllByRecursion (IsNamed ts) ss → AllByRecursion (IsNamed ts) (filter test ss)

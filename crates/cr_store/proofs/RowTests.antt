@@ -20,12 +20,13 @@ use Rattle.cr_lattice.specs.declared.stamped.Stamped.{Stamped}
 use Rattle.cr_lattice.specs.declared.table.Table.{Table}
 use Rattle.cr_lattice.specs.Check.{same_bytes}
 use Rattle.cr_lattice.specs.Rows.{is_of_row}
+use Rattle.cr_cells.specs.Holding.{is_of_table}
 use Rattle.cr_store.specs.declared.format.Format.TheVariants.{Second}
 use Rattle.cr_store.specs.Ordinals.{ordinal, has_table, IsNamed}
 use Rattle.cr_store.specs.Rows.{cell_row}
 use Rattle.cr_store.specs.Words.{same_key}
 use Rattle.cr_store.proofs.OrdinalLemmas.{same_ordinal}
-use Rattle.cr_store.proofs.TextLemmas.{at_first, at_key, at_old_key, at_row, above}
+use Rattle.cr_store.proofs.TextLemmas.{at_first, at_key, at_old_key, at_row, at_table, above}
 
 pub same_text : (x y : List ℕ) → is_eq (value_cmp (Text x) (Text y)) ≡ same_bytes x y
 same_text x y = ap is_eq (value_cmp-Text x y)
@@ -84,3 +85,7 @@ module _ (ts : List Table) where
   pub passes_row : (table pk : List ℕ) (id : ℤ) (s : Stamped) → IsNamed ts s → passes_all at_row (Int (ordinal ts table) ∷ Blob pk ∷ []) (Int id ∷ cell_row Second ts s) ≡ is_of_row table pk s.change
   passes_row table pk id s there =
       rw (same_number (ordinal ts s.change.table) (ordinal ts table), equals_is (Blob s.change.pk) (Blob pk) refl, and_true (is_eq (value_cmp (Blob s.change.pk) (Blob pk))), same_table ts s.change.table table there, same_blob s.change.pk pk)
+
+  pub passes_table : (table : List ℕ) (id : ℤ) (s : Stamped) → IsNamed ts s → passes_all at_table (Int (ordinal ts table) ∷ []) (Int id ∷ cell_row Second ts s) ≡ is_of_table table s.change
+  passes_table table id s there =
+      and_true _ ∙ same_number (ordinal ts s.change.table) (ordinal ts table) ∙ same_table ts s.change.table table there

@@ -137,6 +137,9 @@ above = op2 (Compare Gt Binary) (col 1 8) (op1 ToNumeric (col 0 0)) ∷ []
 abbrev pub at_row : List Term
 at_row = equals_number 1 0 ∷ equals 2 1 ∷ []
 
+abbrev pub at_table : List Term
+at_table = equals_number 1 0 ∷ []
+
 abbrev pub shows : List Term
 shows = col 1 1 ∷ col 1 2 ∷ col 1 3 ∷ col 1 4 ∷ col 1 5 ∷ col 1 6 ∷ col 1 7 ∷ col 1 8 ∷ col 1 9 ∷ []
 
@@ -243,6 +246,9 @@ select_since = codes "SELECT tab, pk, cid, cl, ver, val, site, dbv, seq FROM cr_
 abbrev pub select_row : List ℕ
 select_row = codes "SELECT tab, pk, cid, cl, ver, val, site, dbv, seq FROM cr_cell2 WHERE tab = ?1 AND pk = ?2"
 
+abbrev pub select_table : List ℕ
+select_table = codes "SELECT tab, pk, cid, cl, ver, val, site, dbv, seq FROM cr_cell2 WHERE tab = ?1"
+
 pub insert_cell_is : command_of (understood store_schema insert_cell) ≡ Insert 4 (Values given_9 10)
 unfolding understood everything
 insert_cell_is = refl
@@ -290,6 +296,18 @@ row_plain = (refl, refl)
 pub row_unlisted : reads_listing store_schema select_row ≡ false
 unfolding understood everything
 row_unlisted = refl
+
+pub of_table_is : command_of (understood store_schema select_table) ≡ Select (record { lets = []; body = plain_query 8 at_table shows [] }) names
+unfolding understood everything
+of_table_is = refl
+
+pub of_table_plain : IsPlain (understood store_schema select_table)
+unfolding understood everything
+of_table_plain = (refl, refl)
+
+pub of_table_unlisted : reads_listing store_schema select_table ≡ false
+unfolding understood everything
+of_table_unlisted = refl
 
 -- ---- cr_cell
 

@@ -8,7 +8,7 @@ ghost use Rattle.cr_lattice.specs.Rows.{is_of_row};
 ghost use Rattle.std.specs.List.Sorted.{IsStrictlySortedBy};
 ghost use Rattle.cr_lattice.specs.Sets.{set_of};
 ghost use Rattle.cr_lattice.specs.declared.stamped.Stamped.{Stamped};
-ghost use Rattle.cr_cells.specs.Holding.{cell_cmp, stamp_cmp, since, cells_of};
+ghost use Rattle.cr_cells.specs.Holding.{cell_cmp, stamp_cmp, since, is_of_table, cells_of, cells_of_table};
 ghost use Rattle.cr_cells.specs.Calls.{IsRefusal, is_want};
 ghost use Rattle.cr_store.specs.Schema.{store_schema};
 ghost use Rattle.cr_store.specs.Shows.{HasCells};
@@ -31,6 +31,9 @@ const SINCE: &str =
 
 const ROW: &str =
     "SELECT tab, pk, cid, cl, ver, val, site, dbv, seq FROM cr_cell2 WHERE tab = ?1 AND pk = ?2";
+
+const TABLE: &str =
+    "SELECT tab, pk, cid, cl, ver, val, site, dbv, seq FROM cr_cell2 WHERE tab = ?1";
 
 /// The cells that are stamped above a version, in the order of sqlite's rows.
 pub(crate) fn cells_above<S: Alter>(
@@ -74,6 +77,26 @@ pub(crate) fn cells_of_row<'a, S: Alter>(
         ROW,
         &[ValueRef::Int(ordinal(tables, table)), ValueRef::Blob(pk)],
     )?;
+    read_cells(&rows, tables, alloc)
+}
+
+/// The cells of one table, in the order of sqlite's rows.
+pub(crate) fn cells_in_table<S: Alter>(
+    conn: &mut Connection<S>,
+    tables: &[Table],
+    table: &str,
+    alloc: Global,
+) -> Result<Vec<Stamped>, Error>
+    ensures found { HasCleanDisk (state S.Store conn.new) → (a b o d : List Row) → (ss : List Stamped) → HasCells (state S.Store conn.old).now tables.now a b o d ss
+        → IfOk result (λ cells. SameCells (filter (λ s. is_of_table table.now s.change) ss) cells.items) }
+    ensures opened { HasCleanDisk (state S.Store conn.new) → OnOk result (IsTrue (state S.Store conn.new).is_open) }
+    ensures same { HasCleanDisk (state S.Store conn.new) → (state S.Store conn.old).now.schema ≡ store_schema → (state S.Store conn.old).now ≡ (state S.Store conn.old).committed
+        → IsTrue (state S.Store conn.new).is_open → (state S.Store conn.new).now ≡ (state S.Store conn.old).now }
+    ensures was_open { HasCleanDisk (state S.Store conn.new) → IsTrue (state S.Store conn.new).is_open → IsTrue (state S.Store conn.old).is_open }
+    ensures mode { conn.old.in_transaction ≡ false → conn.new.in_transaction ≡ false }
+    ensures clean { HasCleanDisk (state S.Store conn.new) → HasCleanDisk (state S.Store conn.old) }
+{
+    let rows = ask(conn, TABLE, &[ValueRef::Int(ordinal(tables, table))])?;
     read_cells(&rows, tables, alloc)
 }
 
@@ -154,6 +177,29 @@ pub(crate) fn cells_of<'a, S: Alter>(
     ensures clean { HasCleanDisk (state S.Store conn.new) → HasCleanDisk (state S.Store conn.old) }
 {
     match cells_of_row(conn, tables, table, pk, alloc) {
+        Ok(cells) => Ok(by_change(cells)?),
+        Err(error) => Err(refusal(error)),
+    }
+}
+
+/// The cells of one table, in the order of changes.
+pub(crate) fn cells_of_table<S: Alter>(
+    conn: &mut Connection<S>,
+    tables: &[Table],
+    table: &str,
+    alloc: Global,
+) -> Result<Vec<Stamped>, CellsError>
+    ensures found { HasCleanDisk (state S.Store conn.new) → (a b o d : List Row) → (ss : List Stamped) → HasCells (state S.Store conn.old).now tables.now a b o d ss → IsStrictlySortedBy cell_cmp ss
+        → MatchResult result (λ cells. cells.items ≡ cells_of_table ss table.now) IsRefusal }
+    ensures opened { HasCleanDisk (state S.Store conn.new) → OnOk result (IsTrue (state S.Store conn.new).is_open) }
+    ensures wants { IfErr result (λ e. is_want e ≡ true) }
+    ensures same { HasCleanDisk (state S.Store conn.new) → (state S.Store conn.old).now.schema ≡ store_schema → (state S.Store conn.old).now ≡ (state S.Store conn.old).committed
+        → IsTrue (state S.Store conn.new).is_open → (state S.Store conn.new).now ≡ (state S.Store conn.old).now }
+    ensures was_open { HasCleanDisk (state S.Store conn.new) → IsTrue (state S.Store conn.new).is_open → IsTrue (state S.Store conn.old).is_open }
+    ensures mode { conn.old.in_transaction ≡ false → conn.new.in_transaction ≡ false }
+    ensures clean { HasCleanDisk (state S.Store conn.new) → HasCleanDisk (state S.Store conn.old) }
+{
+    match cells_in_table(conn, tables, table, alloc) {
         Ok(cells) => Ok(by_change(cells)?),
         Err(error) => Err(refusal(error)),
     }

@@ -7,7 +7,7 @@ ghost use Rattle.sqlite.specs.Held.{state};
 ghost use Rattle.sqlite.specs.State.{HasCleanDisk};
 ghost use Rattle.cr_rows.specs.Schema.{no_schema};
 ghost use Rattle.cr_cells.specs.Calls.{IsRefusal, Reads, Defines, Commits, is_want, UnlessWant};
-ghost use Rattle.cr_cells.specs.Holding.{empty_holding, IsSound, since, cells_of};
+ghost use Rattle.cr_cells.specs.Holding.{empty_holding, IsSound, since, cells_of, cells_of_table};
 ghost use Rattle.cr_cells.specs.Tables.{AreWellFormed, IsNewTable, IsNewColumn, has_defaults, with_table, with_replicated, with_added, is_markable};
 ghost use Rattle.cr_store.specs.Making.{has_store, IsRefused};
 ghost use Rattle.cr_store.specs.Opening.{IsReadableTable, IsHeldIn, IsHeld, IsOpenError, FailsToOpen};
@@ -20,7 +20,7 @@ use crate::format::Format;
 use crate::known::Known;
 use crate::opening::open_known;
 use crate::ordinals::next_ordinal;
-use crate::reads::{cells_of, since};
+use crate::reads::{cells_of, cells_of_table, since};
 use crate::records::crr_of;
 use crate::rows::refusal;
 use crate::shape::format_of;
@@ -312,6 +312,18 @@ impl<S: Alter> Store<S> {
         cells_of(&mut self.conn, &self.known.tables, table, pk, alloc)
     }
 
+    fn read_table(&mut self, alloc: Global, table: &str) -> Result<Vec<Stamped>, CellsError>
+        ensures was_honest { HasCleanDisk (state S.Store self.new.0) → HasCleanDisk (state S.Store self.old.0) }
+        ensures was_clean { IsClean S.Store self.new.0 → IsClean S.Store self.old.0 }
+        ensures stays_clean { HasCleanDisk (state S.Store self.new.0) → IsClean S.Store self.old.0 → UnlessWant is_want result (IsClean S.Store self.new.0) }
+        ensures sound { IsClean S.Store self.new.0 → IsSound (holding_of (state S.Store self.new.0).now self.new.1) }
+        ensures reads { IsClean S.Store self.new.0 → Reads (holding_of (state S.Store self.old.0).now self.old.1) (holding_of (state S.Store self.new.0).now self.new.1) result
+            (λ cells. cells.items ≡ cells_of_table (holding_of (state S.Store self.old.0).now self.old.1).cells table.now) }
+    {
+        let _ = self.conn.is_autocommit();
+        cells_of_table(&mut self.conn, &self.known.tables, table, alloc)
+    }
+
     fn take(
         &mut self,
         alloc: Global,
@@ -382,6 +394,10 @@ impl<S: Alter + Drop> Cells for Store<S> {
         pk: &[u8],
     ) -> Result<Vec<Stamped>, CellsError> {
         self.read_row(alloc, table, pk)
+    }
+
+    fn cells_of_table(&mut self, alloc: Global, table: &str) -> Result<Vec<Stamped>, CellsError> {
+        self.read_table(alloc, table)
     }
 
     fn commit(

@@ -1,5 +1,6 @@
 pub mod Parts
 pub mod Touches
+pub mod Tables
 pub mod Twice
 pub mod NewlyKept
 pub mod Keys

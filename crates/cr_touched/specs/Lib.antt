@@ -1,4 +1,5 @@
 pub mod Parts
+pub mod Tables
 pub mod Touched
 pub mod Shown
 pub mod Inserts

@@ -1,6 +1,7 @@
 //! Laws of writes that look at the keys that they touch. The contracts are the theorems; nothing runs.
 
 ghost use Rattle.cr_touched.specs.Parts.{PartsAreKept, PartsAreJoined, KeysMakeTheirPart, PartsShowTheirRows};
+ghost use Rattle.cr_touched.specs.Tables.{TablesAreKept, TablesAreJoined, EachMakesThem, TheyShowTheirRows, TheyLeadAlike};
 ghost use Rattle.cr_touched.specs.Touched.{DeltaOfTouchedKeys, KeysByLookUps, NewlyKeptOfTheirRows};
 ghost use Rattle.cr_touched.specs.Shown.{ShownRowsAreSound};
 ghost use Rattle.cr_touched.specs.Inserts.{InsertsLookAtTheirKeys, InsertsMayLookFurther, InsertsAreJudgedAlike, InsertsFaultAlike};
@@ -12,6 +13,16 @@ pub fn parts_are_kept()
     ensures joined { PartsAreJoined }
     ensures made { KeysMakeTheirPart }
     ensures shown { PartsShowTheirRows }
+{}
+
+/// What is kept of some tables is kept like the whole, is what is kept of each table, put together, shows the rows of these
+/// tables, and tells the changes that lead from there to other rows.
+pub fn tables_are_kept()
+    ensures kept { TablesAreKept }
+    ensures joined { TablesAreJoined }
+    ensures made { EachMakesThem }
+    ensures shown { TheyShowTheirRows }
+    ensures led { TheyLeadAlike }
 {}
 
 /// The changes of a write are those of the keys that it touches, from what is kept of those keys.

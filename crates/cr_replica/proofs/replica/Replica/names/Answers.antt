@@ -14,6 +14,7 @@ returns-clause-reads g c = λ clean.
         tables = c.new.ensures ∙ read.answers ∙ ap (λ (inside : _). (g.C.Cells.holding inside).tables) c.self.view_is;
         site = c.site.ensures clean ∙ ap (λ (h : Holding). h.site) (read.same ∙ ap g.C.Cells.holding c.self.view_is);
         version = to_z-of_z {w = w64} {z = c.db_version.result} (search rules) ∙ c.db_version.ensures.version clean ∙ ap (λ (h : Holding). h.version) (read.same ∙ ap g.C.Cells.holding c.self.view_is);
+        no_modules = c.new-7.ensures ∙ c.new-6.ensures.items;
       };
     }
 
@@ -22,4 +23,5 @@ unfolding keep in_order
 returns-clause-whole g c = record {
   tables = ap (list_all is_in_profile) (c.new.ensures ∙ sym c.deref.ensures.value) ∙ sym c.are_in_profile.ensures ∙ search rules;
   kept = ap keep (c.new-5.ensures ∙ c.new-4.ensures.items) ∙ sym (c.new-5.ensures ∙ c.new-4.ensures.items);
+  no_modules = c.new-7.ensures ∙ c.new-6.ensures.items;
 }
