@@ -1,0 +1,185 @@
+//! A store of cells in a file.
+#![tactic(auto)]
+
+ghost use Rattle.std.specs.Prelude.{◌≡◌, IfOk};
+ghost use Rattle.sqlite.specs.Held.{state};
+ghost use Rattle.sqlite.specs.Files.{over_files};
+ghost use Rattle.cr_cells.specs.Holding.{empty_holding};
+ghost use Rattle.cr_store.specs.Opening.{IsHeld};
+
+use cr_cells::store::{Cells, CellsError};
+use cr_lattice::change::{Change, Site};
+use cr_lattice::stamped::Stamped;
+use cr_lattice::table::{ColumnDef, Table, TableDef};
+use cr_store::store::{Store, has_tables};
+use sqlite::{Connection, File, FileStore};
+use std::alloc::Global;
+use std::fs;
+
+/// A store over a database in a file.
+#[derive(Drop)]
+pub struct FileCells {
+    store: Store<FileStore<File>>,
+}
+
+/// Why a file gives no store.
+#[derive(Clone, Copy, Debug, PartialEq, Eq, Drop)]
+pub enum FileFault {
+    /// There is no store, and no site to make one with.
+    NoSite,
+    /// The file can't be opened as a database.
+    Unopened,
+    /// The store refuses, or memory ran out.
+    Cells(CellsError),
+}
+
+impl Cells for FileCells {
+    ghost use Rattle.sqlite.specs.Held.{state};
+    ghost use Rattle.sqlite.specs.State.{HasCleanDisk};
+    ghost use Rattle.sqlite.specs.Files.{over_files};
+    ghost use Rattle.cr_store.specs.Kept.{IsClean, holding_of};
+
+    ghost holding = { λ m. holding_of (state over_files m.store.0).now m.store.1 };
+
+    ghost is_honest = { λ m. HasCleanDisk (state over_files m.store.0) };
+
+    ghost is_clean = { λ m. IsClean over_files m.store.0 };
+
+    fn tables(&mut self, alloc: Global) -> Result<Vec<Table>, CellsError> {
+        self.store.tables(alloc)
+    }
+
+    fn add_table(&mut self, alloc: Global, def: &TableDef) -> Result<(), CellsError> {
+        self.store.add_table(alloc, def)
+    }
+
+    fn mark_crr(&mut self, alloc: Global, name: &str) -> Result<(), CellsError> {
+        self.store.mark_crr(alloc, name)
+    }
+
+    fn add_replicated(&mut self, alloc: Global, def: &TableDef) -> Result<(), CellsError> {
+        self.store.add_replicated(alloc, def)
+    }
+
+    fn add_column(
+        &mut self,
+        alloc: Global,
+        table: &str,
+        column: &ColumnDef,
+    ) -> Result<(), CellsError> {
+        self.store.add_column(alloc, table, column)
+    }
+
+    fn since(&mut self, alloc: Global, version: i64) -> Result<Vec<Stamped>, CellsError> {
+        self.store.since(alloc, version)
+    }
+
+    fn cells_of(
+        &mut self,
+        alloc: Global,
+        table: &str,
+        pk: &[u8],
+    ) -> Result<Vec<Stamped>, CellsError> {
+        self.store.cells_of(alloc, table, pk)
+    }
+
+    fn cells_of_table(&mut self, alloc: Global, table: &str) -> Result<Vec<Stamped>, CellsError> {
+        self.store.cells_of_table(alloc, table)
+    }
+
+    fn commit(
+        &mut self,
+        alloc: Global,
+        changes: &[Change],
+        peer: Option<(Site, i64)>,
+    ) -> Result<bool, CellsError> {
+        self.store.commit(alloc, changes, peer)
+    }
+
+    fn seen(&mut self, alloc: Global, site: Site) -> Result<i64, CellsError> {
+        self.store.seen(alloc, site)
+    }
+
+    fn db_version(&self) -> i64 {
+        self.store.db_version()
+    }
+
+    fn site(&self) -> Site {
+        self.store.site()
+    }
+}
+
+impl FileCells {
+    /// A store of a site that holds nothing, in a database that has nothing.
+    ///
+    /// # Errors
+    /// Those of `Store::create`; then the database is as it was.
+    pub fn create(
+        alloc: Global,
+        conn: Connection<FileStore<File>>,
+        site: Site,
+    ) -> Result<FileCells, CellsError>
+        ensures made { IfOk result (λ m. ⟦<FileCells as Cells>⟧.is_clean m → ⟦<FileCells as Cells>⟧.holding m ≡ empty_holding site) }
+        ensures clean { IfOk result (λ m. ⟦<FileCells as Cells>⟧.is_honest m → ⟦<FileCells as Cells>⟧.is_clean m) }
+    {
+        match Store::create(alloc, conn, site) {
+            Ok(store) => Ok(FileCells { store }),
+            Err((error, _)) => Err(error),
+        }
+    }
+
+    /// The store that a database holds.
+    ///
+    /// # Errors
+    /// Those of `Store::open`; then the database is as it was.
+    pub fn open(alloc: Global, conn: Connection<FileStore<File>>) -> Result<FileCells, CellsError>
+        ensures held { IfOk result (λ m. ⟦<FileCells as Cells>⟧.is_clean m → IsHeld (state over_files conn).now (⟦<FileCells as Cells>⟧.holding m)) }
+        ensures clean { IfOk result (λ m. ⟦<FileCells as Cells>⟧.is_honest m → ⟦<FileCells as Cells>⟧.is_clean m) }
+    {
+        match Store::open(alloc, conn) {
+            Ok(store) => Ok(FileCells { store }),
+            Err((error, _)) => Err(error),
+        }
+    }
+
+    // The store that a database holds, or, where it has none of a store's tables, a new one of the site.
+    fn open_or_create(
+        alloc: Global,
+        conn: Connection<FileStore<File>>,
+        site: Option<Site>,
+    ) -> Result<FileCells, FileFault>
+        ensures { IfOk result (λ m. ⟦<FileCells as Cells>⟧.is_honest m → ⟦<FileCells as Cells>⟧.is_clean m) }
+    {
+        if has_tables(&conn) {
+            return match FileCells::open(alloc, conn) {
+                Ok(cells) => Ok(cells),
+                Err(error) => Err(FileFault::Cells(error)),
+            };
+        }
+        let Some(site) = site else {
+            return Err(FileFault::NoSite);
+        };
+        match FileCells::create(alloc, conn, site) {
+            Ok(cells) => Ok(cells),
+            Err(error) => Err(FileFault::Cells(error)),
+        }
+    }
+
+    /// The store that a file holds. Where it holds none of a store's tables, one of the site is made there; a file that isn't
+    /// there becomes a new database.
+    ///
+    /// # Errors
+    /// `NoSite` where a store is to be made and there is no site; then no file is made. `Unopened` where the file can't be opened
+    /// as a database. `Cells` with what `open` and `create` tell, as where its store is damaged or it holds something else.
+    pub fn in_file(rt: &HostRuntime, path: &str, site: Option<Site>) -> Result<FileCells, FileFault>
+        ensures { IfOk result (λ m. ⟦<FileCells as Cells>⟧.is_honest m → ⟦<FileCells as Cells>⟧.is_clean m) }
+    {
+        if site.is_none() && fs::metadata(rt, path).is_err() {
+            return Err(FileFault::NoSite);
+        }
+        match Connection::open(rt, path) {
+            Ok(conn) => FileCells::open_or_create(rt.alloc(), conn, site),
+            Err(_) => Err(FileFault::Unopened),
+        }
+    }
+}
