@@ -9,15 +9,15 @@ use cr_lattice::table::{Items, Row};
 use std::alloc::{AllocError, Global};
 
 // The row on which a reading stands.
-fn read_row(
+fn read_row<M: Module>(
     alloc: Global,
-    listed: &dyn Module,
+    listed: &M,
     cursor: &Cursor,
     width: usize,
 ) -> Result<Row, AllocError>
-    requires there { is_at_end (left listed.now cursor.now) ≡ false }
-    requires wide { length (first_row (left listed.now cursor.now)) ≡ width }
-    ensures { IfOk result (λ row. row ≡ first_row (left listed.now cursor.now)) }
+    requires there { is_at_end (M.left listed.now cursor.now) ≡ false }
+    requires wide { length (first_row (M.left listed.now cursor.now)) ≡ width }
+    ensures { IfOk result (λ row. row ≡ first_row (M.left listed.now cursor.now)) }
 {
     let mut values = Vec::new(alloc);
     for at in 0..width {
@@ -30,8 +30,8 @@ fn read_row(
 ///
 /// # Errors
 /// Want of memory, of the module or for the rows.
-pub fn rows_of(alloc: Global, listed: &dyn Module) -> Result<Items<Row>, AllocError>
-    ensures { IfOk result (λ rows. SameBag rows (rows_of listed.now)) }
+pub fn rows_of<M: Module>(alloc: Global, listed: &M) -> Result<Items<Row>, AllocError>
+    ensures { IfOk result (λ rows. SameBag rows (M.rows_of listed.now)) }
 {
     let width = listed.columns().len();
     let choice = listed.best_index(alloc, &[], &[])?;

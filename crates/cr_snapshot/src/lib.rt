@@ -1,4 +1,4 @@
-//! What a statement sees of a replica: what it may name, and the rows of tables and of the table of changes.
+//! What a statement sees of a replica: what it may name, and the rows of tables, of the table of changes and of modules.
 #![tactic(auto)]
 
 pub mod catalog;

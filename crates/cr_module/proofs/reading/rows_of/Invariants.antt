@@ -4,8 +4,8 @@ use Rattle.cr_module.proofs.reading.rows_of.Given as goal
 
 abbrev pub invariant-loop-alloc : goal.invariant-loop-alloc
 invariant-loop-alloc g l =
-    let left = (goal.Module-dyn g l.listed.now).left l.listed.now.1 in
+    let left = g.M.Module.left l.listed in
     (l.rows.items ++ left l.cursor ≡ left l.initial.cursor) × AllWide l.width (left l.cursor)
 
 abbrev pub decreases-loop-alloc : goal.decreases-loop-alloc
-decreases-loop-alloc g l = length ((goal.Module-dyn g l.listed.now).left l.listed.now.1 l.cursor)
+decreases-loop-alloc g l = length (g.M.Module.left l.listed l.cursor)

@@ -1,0 +1,175 @@
+//! The modules of a session.
+
+ghost use Rattle.std.specs.Prelude.{◌≡◌, ◌⊎◌, ◌++◌, ◌∷◌, [], true, map, IfErr, IfOk, OnOk, is_some};
+ghost use Rattle.std.specs.Option.{ForSome};
+ghost use Rattle.std.specs.Str.{str_to_ascii_lowercase};
+ghost use Rattle.cr_lattice.specs.Check.{same_bytes};
+ghost use Rattle.cr_lattice.specs.Profile.{is_reserved};
+ghost use Rattle.cr_module.specs.Lawful.{AreWide};
+ghost use Rattle.cr_world.specs.State.{ModuleState};
+ghost use Rattle.cr_world.specs.Causes.{Cause, Free, IsWant, Tells};
+ghost use Rattle.cr_snapshot.specs.Seen.{name_of};
+ghost use Rattle.cr_modules.specs.States.{AreListed, AreRowsOf, IsPlace, Registers, Updates, are_distinct, definition_listed, made, module_in, register_cause};
+
+use crate::registered::{Registered, Stands};
+use cr_cells::tables::table_named;
+use cr_lattice::table::{Items, Row, Table};
+use cr_module::module::Module;
+use cr_replica::snapshot::Listing;
+use cr_term::query::Joined;
+use cr_value::text::Text;
+use cr_world::refusal::Refusal;
+use std::alloc::{AllocError, Global};
+
+/// The modules that a host registered, in the order in which they came. No two have one name.
+#[derive(Drop)]
+pub struct Modules<M: Drop> {
+    list: Vec<Registered<M>>,
+    ghost distinct: { are_distinct (map (λ r. r.name) list.items) ≡ true },
+}
+
+/// How modules stand in a session.
+pub trait StandAll {
+    ghost use Rattle.std.specs.Prelude.{List};
+    ghost use Rattle.cr_world.specs.State.{ModuleState};
+
+    /// Each module's name, columns, rows, and what an update makes of them.
+    ghost states: { Self → List ModuleState };
+}
+
+impl<M: Module> StandAll for Modules<M> {
+    ghost use Rattle.std.specs.Prelude.{map};
+    ghost use Rattle.cr_modules.specs.States.{made};
+
+    ghost states = { λ ms. map (λ r. made r.name (M.columns_of r.host) (M.rows_of r.host) (M.updated r.host)) ms.list.items };
+}
+
+// The place of the module of a name.
+fn place_of<M: Module>(list: &[Registered<M>], name: &str) -> Option<usize>
+    ensures { IsPlace (λ r. same_bytes r.name name.now) list.now result }
+{
+    for at in 0..list.len() {
+        if list[at].is_called(name) {
+            return Some(at);
+        }
+    }
+    None
+}
+
+fn is_reserved(name: &[u8]) -> bool
+    ensures { result ≡ is_reserved name.now }
+{
+    name.is_empty() || name.starts_with(b"sqlite_") || name.starts_with(b"crsql_")
+}
+
+impl<M: Module> Modules<M> {
+    /// No modules.
+    pub fn new(alloc: Global) -> Modules<M>
+        ensures { ⟦<Modules<M> as StandAll>⟧.states result ≡ [] }
+    {
+        Modules {
+            list: Vec::new(alloc),
+        }
+    }
+
+    /// Whether a module has this name.
+    pub fn has(&self, name: &str) -> bool
+        ensures { result ≡ is_some (module_in (⟦<Modules<M> as StandAll>⟧.states self.now) name.now) }
+    {
+        place_of(&self.list, name).is_some()
+    }
+
+    /// What the modules are called and their columns, without their rows.
+    ///
+    /// # Errors
+    /// Want of memory.
+    pub fn definitions(&self, alloc: Global) -> Result<Items<Listing>, AllocError>
+        ensures { IfOk result (λ ls. ls ≡ map definition_listed (⟦<Modules<M> as StandAll>⟧.states self.now)) }
+    {
+        let mut listings = Vec::new(alloc);
+        for registered in &self.list {
+            listings.push(registered.definition(alloc)?)?;
+        }
+        Ok(Items::new(listings))
+    }
+
+    /// What the modules are called and their columns, with the rows of those that a query has among its tables, in the order in
+    /// which they give them.
+    ///
+    /// # Errors
+    /// Want of memory, of a module or for the rows.
+    pub fn listings(&self, alloc: Global, joined: &[Joined]) -> Result<Items<Listing>, AllocError>
+        ensures { IfOk result (AreListed (map name_of joined.now) (⟦<Modules<M> as StandAll>⟧.states self.now)) }
+    {
+        let mut listings = Vec::new(alloc);
+        for registered in &self.list {
+            listings.push(registered.listing(alloc, joined)?)?;
+        }
+        Ok(Items::new(listings))
+    }
+
+    /// The rows of the module of a name, in the order in which it gives them; `None` where no module has it.
+    ///
+    /// # Errors
+    /// Want of memory, of the module or for the rows.
+    pub fn rows_named(&self, alloc: Global, name: &str) -> Result<Option<Items<Row>>, AllocError>
+        ensures { IfOk result (AreRowsOf (module_in (⟦<Modules<M> as StandAll>⟧.states self.now) name.now)) }
+    {
+        match place_of(&self.list, name) {
+            Some(at) => Ok(Some(self.list[at].rows(alloc)?)),
+            None => Ok(None),
+        }
+    }
+
+    /// Hands rows over to the module of a name in one update, each with a value for each column; where no module has the name,
+    /// nothing is done.
+    ///
+    /// # Errors
+    /// `ReadOnly` with the name, what the host says, or `Memory`. Then all modules stand as they were.
+    pub fn update(&mut self, alloc: Global, name: &str, rows: &[Row]) -> Result<(), Refusal>
+        requires { ForSome (module_in (⟦<Modules<M> as StandAll>⟧.states self.old) name.now) (λ m. AreWide m.columns rows.now) }
+        ensures { Updates name.now rows.now (⟦<Modules<M> as StandAll>⟧.states self.old) result (⟦<Modules<M> as StandAll>⟧.states self.new) }
+    {
+        match place_of(&self.list, name) {
+            Some(at) => self.list[at].update(alloc, rows),
+            None => Ok(()),
+        }
+    }
+
+    // Tests that a module may have a name.
+    fn check_name(&self, alloc: Global, tables: &[Table], name: &Text) -> Result<(), Refusal>
+        ensures free { OnOk result (register_cause tables.now (⟦<Modules<M> as StandAll>⟧.states self.now) name.now ≡ Free) }
+        ensures told { IfErr result (λ r. IsWant r ⊎ Tells (register_cause tables.now (⟦<Modules<M> as StandAll>⟧.states self.now) name.now) r) }
+    {
+        if is_reserved(name.as_str().as_bytes()) {
+            return Err(Refusal::BadName(name.copy(alloc)?));
+        }
+        if table_named(tables, name.as_str()).is_some() || self.has(name.as_str()) {
+            return Err(Refusal::TableExists(name.copy(alloc)?));
+        }
+        Ok(())
+    }
+
+    /// Puts a module behind the others, under a name in whatever case, which is kept in ASCII lower case. Its columns are at
+    /// least one, their names in ASCII lower case, each another.
+    ///
+    /// # Errors
+    /// `BadName` where the name is empty or begins as those of the engine's own tables; then `TableExists` where one of these
+    /// tables or a module has it; `Memory`. Then the module is dropped, and all others stand as they were.
+    pub fn register(
+        &mut self,
+        alloc: Global,
+        tables: &[Table],
+        name: &str,
+        host: M,
+    ) -> Result<(), Refusal>
+        ensures { Registers tables.now (⟦<Modules<M> as StandAll>⟧.states self.old) (made (str_to_ascii_lowercase name.now) (M.columns_of host) (M.rows_of host) (M.updated host)) result (⟦<Modules<M> as StandAll>⟧.states self.new) }
+    {
+        let name = Text::new(name.to_ascii_lowercase(alloc)?);
+        self.check_name(alloc, tables, &name)?;
+        match self.list.push(Registered::new(name, host)) {
+            Ok(()) => Ok(()),
+            Err(_) => Err(Refusal::Memory),
+        }
+    }
+}

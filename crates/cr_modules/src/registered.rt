@@ -1,0 +1,149 @@
+//! A host's table module under its name.
+
+ghost use Rattle.std.specs.Prelude.{◌≡◌, ◌⊎◌, map, IfOk};
+ghost use Rattle.cr_bags.specs.Bags.{SameBag};
+ghost use Rattle.cr_module.specs.Lawful.{AreWide};
+ghost use Rattle.cr_world.specs.State.{ModuleState, is_module};
+ghost use Rattle.cr_world.specs.declared.refusal.Refusal.TheVariants as refusal;
+ghost use Rattle.cr_modules.specs.States.{IsListed, UpdatesTo, definition_listed, is_among, made, of_update};
+ghost use Rattle.cr_snapshot.specs.Seen.{name_of};
+
+use cr_lattice::table::{ColumnDef, Items, Row, TableDef};
+use cr_module::module::{Module, UpdateError};
+use cr_module::reading::rows_of;
+use cr_replica::snapshot::Listing;
+use cr_term::query::Joined;
+use cr_value::order::same_bytes;
+use cr_value::text::Text;
+use cr_world::refusal::{EvalFault, Refusal};
+use std::alloc::{AllocError, Global};
+
+/// A module under the name by which statements call it.
+#[derive(Drop)]
+pub struct Registered<M: Drop> {
+    name: Text,
+    host: M,
+}
+
+/// How a module stands in a session.
+pub trait Stands {
+    ghost use Rattle.cr_world.specs.State.{ModuleState};
+
+    /// Its name, its columns, its rows, and what an update makes of them.
+    ghost state: { Self → ModuleState };
+}
+
+impl<M: Module> Stands for Registered<M> {
+    ghost use Rattle.cr_modules.specs.States.{made};
+
+    ghost state = { λ r. made r.name (M.columns_of r.host) (M.rows_of r.host) (M.updated r.host) };
+}
+
+// The refusal that tells why the module of a name takes no rows.
+fn refused(alloc: Global, name: &Text, error: UpdateError) -> Refusal
+    ensures { (result ≡ refusal.Memory) ⊎ (result ≡ of_update name.now error) }
+{
+    match error {
+        UpdateError::ReadOnly => match name.copy(alloc) {
+            Ok(name) => Refusal::ReadOnly(name),
+            Err(_) => Refusal::Memory,
+        },
+        UpdateError::Host(text) => Refusal::Eval(EvalFault::Host(text)),
+        UpdateError::Memory => Refusal::Memory,
+    }
+}
+
+// Definitions of columns, in memory of their own.
+fn copied_columns(alloc: Global, columns: &[ColumnDef]) -> Result<Items<ColumnDef>, AllocError>
+    ensures { IfOk result (λ cs. cs ≡ columns.now) }
+{
+    let mut copies = Vec::new(alloc);
+    for column in columns {
+        copies.push(column.copy(alloc)?)?;
+    }
+    Ok(Items::new(copies))
+}
+
+impl<M: Module> Registered<M> {
+    /// The module under this name.
+    pub(crate) fn new(name: Text, host: M) -> Registered<M>
+        ensures name { result.name ≡ name }
+        ensures stands { ⟦<Registered<M> as Stands>⟧.state result ≡ made name (M.columns_of host) (M.rows_of host) (M.updated host) }
+    {
+        Registered { name, host }
+    }
+
+    /// Whether it has this name.
+    pub(crate) fn is_called(&self, name: &str) -> bool
+        ensures { result ≡ is_module name.now (⟦<Registered<M> as Stands>⟧.state self.now) }
+    {
+        same_bytes(self.name.as_str().as_bytes(), name.as_bytes())
+    }
+
+    /// What it is called and its columns, without its rows.
+    ///
+    /// # Errors
+    /// Want of memory.
+    pub(crate) fn definition(&self, alloc: Global) -> Result<Listing, AllocError>
+        ensures { IfOk result (λ l. l ≡ definition_listed (⟦<Registered<M> as Stands>⟧.state self.now)) }
+    {
+        Ok(Listing {
+            definition: TableDef {
+                name: self.name.copy(alloc)?,
+                columns: copied_columns(alloc, self.host.columns())?,
+            },
+            rows: Items::new(Vec::new(alloc)),
+        })
+    }
+
+    /// Its rows, in the order in which it gives them.
+    ///
+    /// # Errors
+    /// Want of memory, of the module or for the rows.
+    pub(crate) fn rows(&self, alloc: Global) -> Result<Items<Row>, AllocError>
+        ensures { IfOk result (λ rows. SameBag rows (⟦<Registered<M> as Stands>⟧.state self.now).rows) }
+    {
+        rows_of(alloc, &self.host)
+    }
+
+    // Whether a query has its name among those of its tables.
+    fn is_among(&self, joined: &[Joined]) -> bool
+        ensures { result ≡ is_among (map name_of joined.now) self.now.name }
+    {
+        for source in joined {
+            if self.is_called(source.relation.definition.name.as_str()) {
+                return true;
+            }
+        }
+        false
+    }
+
+    /// What it is called and its columns, with its rows where a query has its name.
+    ///
+    /// # Errors
+    /// Want of memory, of the module or for the rows.
+    pub(crate) fn listing(&self, alloc: Global, joined: &[Joined]) -> Result<Listing, AllocError>
+        ensures { IfOk result (IsListed (is_among (map name_of joined.now) self.now.name) (⟦<Registered<M> as Stands>⟧.state self.now)) }
+    {
+        let mut listing = self.definition(alloc)?;
+        if self.is_among(joined) {
+            listing.rows = self.rows(alloc)?;
+        }
+        Ok(listing)
+    }
+
+    /// Hands rows over in one update, each with a value for each column.
+    ///
+    /// # Errors
+    /// `ReadOnly` with its name, what the host says, or `Memory`. Then it stands as it was.
+    pub(crate) fn update(&mut self, alloc: Global, rows: &[Row]) -> Result<(), Refusal>
+        requires { AreWide (⟦<Registered<M> as Stands>⟧.state self.old).columns rows.now }
+        ensures name { self.new.name ≡ self.old.name }
+        ensures updated { UpdatesTo (⟦<Registered<M> as Stands>⟧.state self.old) rows.now result (⟦<Registered<M> as Stands>⟧.state self.new) }
+    {
+        match self.host.update(alloc, rows) {
+            Ok(()) => Ok(()),
+            Err(error) => Err(refused(alloc, &self.name, error)),
+        }
+    }
+}
