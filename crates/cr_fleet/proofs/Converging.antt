@@ -11,7 +11,7 @@ use Rattle.cr_world.specs.Headline.{Converges}
 use Rattle.cr_world.proofs.Running.{run_converges}
 use Rattle.cr_language.specs.Engines.{OrderOf, AreTotal, engine}
 use Rattle.cr_language.proofs.Instance.{is_language}
-use Rattle.cr_session.specs.Speaking.{spoken}
+use Rattle.cr_script.specs.Speaking.{spoken}
 
 module _ (function_of : List ℕ → ℕ → Option Definition) (scalar : ℕ → List Value → Result Value (List ℕ)) (step : ℕ → Value → List Value → Result Value (List ℕ)) (finish : ℕ → Value → Result Value (List ℕ))
     (order_of : OrderOf) (total : AreTotal order_of) (has : List ℕ → Bool) where

@@ -25,7 +25,8 @@ use Rattle.cr_world.specs.Answers.{Answers, IsDone, IsDoneUnless, Pulls}
 use Rattle.cr_world.proofs.Keeping.{pull_keeps}
 use Rattle.cr_fleet.proofs.Honest.{always}
 use Rattle.cr_fleet.specs.Fleets.{FleetOf, AreClean, Shows, Steps, seen, name_and_state, place_in}
-use Rattle.cr_session.specs.Sessions.{TakesAll, host_under, reply_of}
+use Rattle.cr_script.specs.Speaking.{host_under}
+use Rattle.cr_session.specs.Sessions.{TakesAll, reply_of}
 use Rattle.cr_fleet.proofs.Marking.{Moves, moves, same_grows, commit_grows}
 use Rattle.cr_fleet.proofs.Places.{same_at, none_at, stays_at, all_at, all_set, all_before, all_after}
 use Rattle.cr_fleet.proofs.Stepping.{place_same, unused, refused_steps, pull_none, of_used, used_steps, clean_before, unchanged}

@@ -24,7 +24,8 @@ use Rattle.cr_world.specs.Answers.{Answers, IsDone, PullsSince}
 use Rattle.cr_world.proofs.Keeping.{incremental_pull_keeps}
 use Rattle.cr_fleet.proofs.Honest.{always}
 use Rattle.cr_fleet.specs.Fleets.{FleetOf, AreClean, Shows, Steps, IsOffered, name_and_state, place_in}
-use Rattle.cr_session.specs.Sessions.{TakesAll, host_under, reply_of}
+use Rattle.cr_script.specs.Speaking.{host_under}
+use Rattle.cr_session.specs.Sessions.{TakesAll, reply_of}
 use Rattle.cr_fleet.proofs.Marking.{Moves, moves, same_grows, pull_moves}
 use Rattle.cr_fleet.proofs.Places.{none_at, within, some_within, set_there}
 use Rattle.cr_fleet.proofs.Pulling.{apart, one, within_one, taker, peer}

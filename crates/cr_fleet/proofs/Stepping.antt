@@ -26,7 +26,8 @@ use Rattle.cr_world.proofs.Keeping.{kept_more, script_stays}
 use Rattle.cr_fleet.proofs.Honest.{always}
 use Rattle.cr_fleet.specs.declared.fleet.Named.{Named}
 use Rattle.cr_fleet.specs.Fleets.{FleetOf, AreClean, Shows, Steps, seen, name_and_state, place_in}
-use Rattle.cr_session.specs.Sessions.{Does, OwnAnswers, RunsScript, SessionOf, own_after, is_own, host_under}
+use Rattle.cr_script.specs.Speaking.{host_under}
+use Rattle.cr_session.specs.Sessions.{Does, OwnAnswers, RunsScript, SessionOf, own_after, is_own}
 use Rattle.cr_fleet.proofs.Marking.{Moves, moves, own_grows, marks_set}
 use Rattle.cr_fleet.proofs.Places.{pair, map_set, position_map, same_at, none_at, set_at, keeps_set, all_at, all_set, all_before, all_after}
 

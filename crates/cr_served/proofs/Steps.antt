@@ -13,7 +13,8 @@ use Rattle.cr_world.specs.State.{State}
 use Rattle.cr_world.specs.World.{World, Member, Keeps, Closures, host_of, changed_at, changed_in_use, item_at, used}
 use Rattle.cr_world.specs.Answers.{Answers, after, tells_want}
 use Rattle.cr_world.specs.Run.{Run, world_after}
-use Rattle.cr_session.specs.Sessions.{Does, OwnAnswers, own_after, is_own, host_under}
+use Rattle.cr_script.specs.Speaking.{host_under}
+use Rattle.cr_session.specs.Sessions.{Does, OwnAnswers, own_after, is_own}
 use Rattle.cr_fleet.proofs.Stepping.{own_answers, own_leaves, own_keeps}
 use Rattle.cr_served.specs.Alone.{wants_others, unless, IsRefused, ShowsAlone, RanAlone}
 use Rattle.cr_served.specs.AloneLaws.{alone_ran_where}

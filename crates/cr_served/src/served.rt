@@ -7,8 +7,8 @@ use cr_cells::store::{Cells, NewCells};
 use cr_fleet::fleet::Fleet;
 use cr_guard::guarding::Guarding;
 use cr_host::functions::Functions;
+use cr_script::speaking::{Speaking, Watching};
 use cr_session::session::Session;
-use cr_session::speaking::{Speaking, Watching};
 use cr_world::command::{Command, FleetReply};
 use std::alloc::Global;
 

@@ -1,5 +1,5 @@
--- What is seen of one key suffices for a statement whose WHERE tells that key.
-use Rattle.std.proofs.Common.{◌≡◌, inl, inr, ℕ, Bool, true, false, ◌||◌, List, [], ◌∷◌, Option, Some, Result, Ok, Err, refl, sym, ap, subst, ◌∙◌, ◌≤◌, ◌<◌, arith, cond, find, get_or, length, map}
+-- What is seen of one key suffices for a statement whose WHERE tells that key, and else what is seen of the tables that it names.
+use Rattle.std.proofs.Common.{◌≡◌, inl, inr, ℕ, Bool, true, false, ◌||◌, List, [], ◌∷◌, Option, Some, Result, Ok, Err, refl, sym, ap, subst, ◌∙◌, ◌≤◌, ◌<◌, arith, find, get_or, length, map}
 use Rattle.std.specs.Prelude.{if◌then◌else◌}
 use Rattle.cr_value.specs.declared.value.Value.{Value}
 use Rattle.cr_lattice.specs.declared.change.Change.{Change}
@@ -13,7 +13,7 @@ use Rattle.cr_cells.proofs.NewLemmas.{same_is, same_itself}
 use Rattle.cr_cells.specs.declared.store.CellsError.{CellsError}
 use Rattle.cr_cells.specs.Holding.{Holding, IsSound}
 use Rattle.cr_cells.specs.Tables.{IsStored, has_defaults, is_named}
-use Rattle.cr_delta.proofs.Among.{member_has}
+use Rattle.cr_delta.proofs.Among.{Among, member_has}
 use Rattle.cr_term.specs.declared.expr.Expr.{Expr}
 use Rattle.cr_term.specs.declared.query.Delete.{Delete}
 use Rattle.cr_term.specs.declared.query.Joined.{Joined}
@@ -24,12 +24,13 @@ use Rattle.cr_query.specs.Query.{Row, answer}
 use Rattle.cr_meaning.specs.View.{query}
 use Rattle.cr_meaning.specs.Meaning.{meaning}
 use Rattle.cr_replica.specs.declared.snapshot.Snapshot.{Snapshot}
-use Rattle.cr_snapshot.specs.Seen.{IsSeen, name_of, rows_seen}
+use Rattle.cr_snapshot.specs.Seen.{IsSeen, name_of, rows_listed, rows_seen}
 use Rattle.cr_snapshot.proofs.Standing.{named}
 use Rattle.cr_taken.specs.Taken.{AreKept, Replicates, replicated}
 use Rattle.cr_taken.proofs.Members.{found_member}
 use Rattle.cr_taken.proofs.Tables.{in_profile, kept_well_formed}
 use Rattle.cr_touched.specs.Parts.{is_key_of, part}
+use Rattle.cr_touched.specs.Tables.{is_name_of}
 use Rattle.cr_touched.specs.Shown.{AreKeptOf}
 use Rattle.cr_world.specs.declared.refusal.Refusal.{Refusal}
 use Rattle.cr_world.specs.State.{State, changes_name, now, other_rows, row_of, rows_named, rows_or, tables_named}
@@ -39,8 +40,10 @@ use Rattle.cr_sought.specs.Laws.{of_key}
 use Rattle.cr_sought.specs.Writes.{delete_over, update_over}
 use Rattle.cr_sought.proofs.Answers.{answers_by_key}
 use Rattle.cr_sought.proofs.Writes.{deletes_by_key, updates_by_key}
-use Rattle.cr_session.specs.Lookup.{IsLook, IsSeenAt, IsSought, Looks, ShowsDelete, ShowsQuery, ShowsUpdate}
-use Rattle.cr_session.specs.Sessions.{Sees, state_of}
+use Rattle.cr_session.specs.Lookup.{IsLook, IsSeenAt, IsSought, Looks, ShowsDelete, ShowsQuery, ShowsTables, ShowsUpdate, in_order}
+use Rattle.cr_session.specs.Sessions.{state_of}
+use Rattle.cr_session.proofs.ByTable.{delete_of_table, found_passes, is_one_of, is_only, query_of_tables, update_of_table}
+use Rattle.cr_session.proofs.OfTables.{now_unbeaten}
 use Rattle.cr_session.proofs.Seeing.{now_kept}
 use Rattle.cr_session.proofs.Selecting.{tables_are}
 
@@ -58,17 +61,9 @@ or_false false = refl
 one_key : (pk : List ℕ) → is_key_of (pk ∷ []) ≡ same_bytes pk
 one_key pk = λ i x. (or_false (same_bytes x pk) ∙ same_turned x pk) i
 
-found_here : (p : Table → Bool) (s t : Table) (b : Bool) (later : Option Table) → p s ≡ b → cond b (Some s) later ≡ Some t → (later ≡ Some t → p t ≡ true) → p t ≡ true
-found_here p s t true later is e more = let same : s ≡ t = cc in ap p (sym same) ∙ is
-found_here p s t false later is e more = more e
-
-found_passes : (p : Table → Bool) (t : Table) (ts : List Table) → find p ts ≡ Some t → p t ≡ true
-found_passes p t [] e = absurd (let z : ⊥ = cc in z)
-found_passes p t (s ∷ ts) e = found_here p s t (p s) (find p ts) refl e (found_passes p t ts)
-
 -- the rows of what is no table of its own
 abbrev other_rows_seen : Snapshot → List ℕ → List Row
-other_rows_seen s name = if same_bytes changes_name name then map row_of s.cells else []
+other_rows_seen s name = if same_bytes changes_name name then map row_of s.cells else rows_listed s.modules name
 
 -- ---- the table of the name, and what shows of the key
 
@@ -202,20 +197,16 @@ pub looked_at : (means : Means) (params : List Value) (old new : State) (name : 
 looked_at means params old new name terms pk (Ok s) is l = record { same = l.same; looks = inr (pk, is, l.looks) }
 looked_at means params old new name terms pk (Err e) is l = record { same = l.same; looks = l.looks }
 
--- all that shows there
-pub looked_round : (means : Means) (params : List Value) (old new : State) (name : List ℕ) (terms : List Expr) (result : Result Snapshot CellsError)
-    → Sees old new result → Looks (IsLook means params old name terms) old new result
-looked_round means params old new name terms (Ok s) l = record { same = l.same; looks = inl l.sees }
-looked_round means params old new name terms (Err e) l = record { same = l.same; looks = l.sees }
+-- what is seen of the table
+pub looked_in : (means : Means) (params : List Value) (old new : State) (name : List ℕ) (terms : List Expr) (result : Result Snapshot CellsError)
+    → Looks (ShowsTables old (name ∷ [])) old new result → Looks (IsLook means params old name terms) old new result
+looked_in means params old new name terms (Ok s) l = record { same = l.same; looks = inl l.looks }
+looked_in means params old new name terms (Err e) l = record { same = l.same; looks = l.looks }
 
 -- from one of both to what suffices
 pub suffices : (P Q : Snapshot → Type 0) (old new : State) (result : Result Snapshot CellsError) → ((s : Snapshot) → P s → Q s) → Looks P old new result → Looks Q old new result
 suffices P Q old new (Ok s) f l = record { same = l.same; looks = f s l.looks }
 suffices P Q old new (Err e) f l = record { same = l.same; looks = l.looks }
-
-pub sees_enough : (Q : Snapshot → Type 0) (old new : State) (result : Result Snapshot CellsError) → ((s : Snapshot) → IsSeen old s → Q s) → Sees old new result → Looks Q old new result
-sees_enough Q old new (Ok s) f l = record { same = l.same; looks = f s l.sees }
-sees_enough Q old new (Err e) f l = record { same = l.same; looks = l.sees }
 
 -- a list of one
 pub one_of : {X : Type 0} (xs : List X) (x : X) → 1 ≤ length xs → length xs < 2 → x ≡ get_or xs 0 x → xs ≡ x ∷ []
@@ -223,22 +214,46 @@ one_of [] x some few is = absurd (omega (arith, some))
 one_of (y ∷ []) x some few is = λ i. sym is i ∷ []
 one_of (y ∷ z ∷ zs) x some few is = absurd (omega (arith, few))
 
+-- the names of one table are its own
+each_only : (js : List Joined) (j : Joined) (name : List ℕ) → js ≡ j ∷ [] → name ≡ name_of j → (k : Joined) → Among js k → is_name_of (name ∷ []) (name_of k) ≡ true
+each_only js j name one named k m =
+    elim (subst (λ (l : List Joined). Among l k) one m) [ inl here ↦ is_only name (name_of k) (named ∙ ap name_of (sym here)) | inr none ↦ absurd none ]
+
 -- ---- what suffices for a statement, of what is looked for
 
 module _ (means : Means) (params : List Value) (h : Holding) (sound : IsSound h) (pending : Option (List Change)) (s : Snapshot) where
   abbrev here : State
   here = state_of h pending
 
+  -- ---- what is seen of the tables that it names
+
+  query_shown : (tables : List (List ℕ)) (q : Query) → ((j : Joined) → Among q.joined j → is_name_of tables (name_of j) ≡ true) → ShowsTables here tables s → ShowsQuery means params q here s
+  query_shown tables q each (inl (named, is)) = query_seen means params here s is q
+  query_shown tables q each (inr (other, at)) = query_of_tables h pending tables s at means params q other each
+
+  pub query_joined : (q : Query) (js : List Joined) → js ≡ q.joined → ShowsTables here (in_order (map name_of js)) s → ShowsQuery means params q here s
+  query_joined q js same shows = query_shown (in_order (map name_of js)) q (λ j m. is_one_of js j (subst (λ (l : List Joined). Among l j) (sym same) m)) shows
+
+  pub update_shown : (u : Update) (name : List ℕ) → name ≡ u.relation.definition.name → ShowsTables here (name ∷ []) s → ShowsUpdate means params u here s
+  update_shown u name named (inl (all, is)) = update_seen means params here s is u
+  update_shown u name named (inr (other, at)) = update_of_table h pending (name ∷ []) s at means params u (is_only name u.relation.definition.name named) (now_unbeaten h pending sound)
+
+  delete_shown : (d : Delete) (name : List ℕ) → name ≡ d.relation.definition.name → ShowsTables here (name ∷ []) s → ShowsDelete means params d here s
+  delete_shown d name named (inl (all, is)) = delete_seen means params here s is d
+  delete_shown d name named (inr (other, at)) = delete_of_table h pending (name ∷ []) s at means params d (is_only name d.relation.definition.name named) (now_unbeaten h pending sound)
+
+  -- ---- that, or what is seen of one key
+
   pub query_looked : (q : Query) (j : Joined) (name : List ℕ) (terms : List Expr) → q.joined ≡ j ∷ [] → j.is_left ≡ false → name ≡ name_of j → terms ≡ q.filter → IsLook means params here name terms s → ShowsQuery means params q here s
-  query_looked q j name terms one inner named same (inl is) = query_seen means params here s is q
+  query_looked q j name terms one inner named same (inl shows) = query_shown (name ∷ []) q (each_only q.joined j name one named) shows
   query_looked q j name terms one inner named same (inr (pk, sought, at)) = query_by_key means params h sound pending name terms pk sought s at q j one inner (sym named) (sym same)
 
   pub update_looked : (u : Update) (name : List ℕ) (terms : List Expr) → name ≡ u.relation.definition.name → terms ≡ u.filter → assigns_key u ≡ false → Replicates h.tables u.relation.definition
       → IsLook means params here name terms s → ShowsUpdate means params u here s
-  update_looked u name terms named same stays held (inl is) = update_seen means params here s is u
+  update_looked u name terms named same stays held (inl shows) = update_shown u name named shows
   update_looked u name terms named same stays held (inr (pk, sought, at)) = update_by_key means params h sound pending name terms pk sought s at u (sym named) held (sym same) stays
 
   pub delete_looked : (d : Delete) (name : List ℕ) (terms : List Expr) → name ≡ d.relation.definition.name → terms ≡ d.filter → Replicates h.tables d.relation.definition
       → IsLook means params here name terms s → ShowsDelete means params d here s
-  delete_looked d name terms named same held (inl is) = delete_seen means params here s is d
+  delete_looked d name terms named same held (inl shows) = delete_shown d name named shows
   delete_looked d name terms named same held (inr (pk, sought, at)) = delete_by_key means params h sound pending name terms pk sought s at d (sym named) held (sym same)

@@ -1,7 +1,7 @@
 -- A statement is carried out as what it is once its names are resolved.
 use Rattle.std.proofs.Common.{◌≡◌, ◌⊎◌, inl, inr, ℕ, Bool, true, false, ◌&&◌, cond, List, [], Option, Some, None, option_map, Result, Ok, Err, length, refl, sym, ap, subst, ◌∙◌}
 use Rattle.std.specs.Prelude.{not, unwrap_or}
-use Rattle.std.specs.Option.{option_map_or}
+use Rattle.std.specs.Option.{option_and_then, option_map_or}
 use Rattle.cr_value.specs.declared.value.Value.{Value}
 use Rattle.cr_lattice.specs.declared.catalog.Catalog.{Catalog}
 use Rattle.cr_tree.specs.declared.statement.Mode.{Mode}
@@ -13,6 +13,7 @@ use Rattle.cr_term.specs.declared.query.Resolved.TheVariants as r
 use Rattle.cr_host.specs.declared.function.Definition.{Definition}
 use Rattle.cr_scalar.specs.Host.{Host as Means, host as means_of}
 use Rattle.cr_meaning.specs.View.{Ordered}
+use Rattle.cr_query.specs.Query.{Meaning}
 use Rattle.cr_meaning.specs.Meaning.{exact, sized}
 use Rattle.cr_resolve.specs.Parameters.{fits}
 use Rattle.cr_resolve.specs.Known.{Known}
@@ -33,19 +34,19 @@ use Rattle.cr_world.specs.Causes.{Cause, IsWant, Tells, or_else, of_result, wher
 use Rattle.cr_world.specs.Language.{Language}
 use Rattle.cr_world.specs.Resolved.{Resolved}
 use Rattle.cr_world.specs.Resolved as world
-use Rattle.cr_world.specs.State.{State, catalog, in_transaction}
+use Rattle.cr_world.specs.State.{State, ModuleState, catalog, in_transaction}
 use Rattle.cr_world.specs.Statement as statement
-use Rattle.cr_world.specs.Statement.{Host, Answers, stepped, cause_of, later_cause, rows_of, reply_to, left_by, result_ok, evaluated, causes_of, is_memory, ended, ends}
+use Rattle.cr_world.specs.Statement.{Host, Answers, stepped, cause_of, later_cause, rows_of, reply_to, left_by, result_ok, evaluated, causes_of, is_memory, ended, ends, updates_module, ModulesLeave}
 use Rattle.cr_language.specs.Engines.{OrderOf, AreTotal, engine}
 use Rattle.cr_language.specs.Sql.{known as known_in, view, viewed, of_unresolved}
 use Rattle.cr_answer.specs.Allowing.{Allows, IsRefused, known_by}
 use Rattle.cr_resolve.specs.declared.refusal.Refusal.{Refusal as Unresolved}
 use Rattle.cr_world.specs.Refusals.{is_want, of_store}
-use Rattle.cr_session.specs.Performing.{Performs, Performed, Permits, against, is_commit, is_performed, is_transaction, refused}
+use Rattle.cr_session.specs.Performing.{Performs, Performed, PerformsWith, PerformedWith, Permits, against, is_commit, is_performed, is_transaction, refused, with_limit}
 use Rattle.cr_session.specs.Sessions.{Names, SessionOf, clean, honest, standing, state_of}
 use Rattle.cr_session.proofs.Takings.{want_of_store, wanting}
-use Rattle.cr_session.specs.Scripts.{Carries}
-use Rattle.cr_session.specs.Speaking.{spoken}
+use Rattle.cr_script.specs.Scripts.{Carries}
+use Rattle.cr_script.specs.Speaking.{spoken}
 
 same_anyhow : {X : Type 0} (b c : Bool) (x : X) → cond b x (cond c x x) ≡ x
 same_anyhow true c x = refl
@@ -103,6 +104,13 @@ none_of true true = refl
 none_of true false = refl
 none_of false b = refl
 
+-- a refused statement leaves the modules as they are
+refused_modules : (st : State) (v : Resolved Ordered) (g : Refusal) → (refused st v g).modules ≡ st.modules
+refused_modules st v g = ended_or (is_commit v && (in_transaction st && not (is_memory g))) where
+  ended_or : (b : Bool) → (cond b (ended st) st).modules ≡ st.modules
+  ended_or true = refl
+  ended_or false = refl
+
 ended_so : (st end : State) (wants commits opened : Bool) → cond wants st (cond (commits && (opened && true)) end st) ≡ cond (commits && (opened && not wants)) end st
 ended_so st end true true true = refl
 ended_so st end true true false = refl
@@ -126,13 +134,10 @@ rollback_is (s.Alter a) e no_begin no_commit = absurd (let z : ⊥ = cc in z)
 
 -- ---- a statement of any language
 
-module _ {S E : Type 0} (l : Language S E) (host : Host) (h : Holding) (pending : Option (List Change)) (params : List Value) (x : S) where
-  abbrev at : State
-  at = state_of h pending
-
+module _ {S E : Type 0} (l : Language S E) (host : Host) (at : State) (params : List Value) (x : S) where
   -- the reply may be given, and what is left is this
   abbrev pub Replies : Result Reply Refusal → State → Type 0
-  Replies result new = Answers l host at params x result [] × (stepped l host at params x result [] ≡ new)
+  Replies result new = Answers l host at params x result new.modules × (stepped l host at params x result new.modules ≡ new)
 
   -- the cause, by what the statement is resolved to and whether its parameters fit
   abbrev pub early_with : Result (Resolved E) Refusal → Bool → Cause
@@ -190,37 +195,52 @@ commit_same l host st params world.Begin = refl
 commit_same l host st params world.Commit = refl
 commit_same l host st params world.Rollback = refl
 
-module _ (l : Language Statement Ordered) (means : Means) (params : List Value) (host : Host) (h : Holding) (pending : Option (List Change)) (x : Statement) (y : Answered)
-    (e : l.resolved (catalog (state_of h pending)) host.ask x ≡ Ok (view y)) (f : l.fits x (length params) ≡ true) (ex : l.exact params ≡ exact means params) (sz : l.sized params ≡ sized means params) where
-  abbrev st : State
-  st = state_of h pending
+-- without modules, nothing becomes of them
+pub performs_alone : (means : Means) (params : List Value) (host : Host) (st : State) (v : Resolved Ordered) (result : Result Reply Refusal) (h : Holding) (pending : Option (List Change))
+    → st.modules ≡ [] → Performs means params host st v result (state_of h pending) → PerformsWith means params host st v result (state_of h pending)
+performs_alone means params host st v (Ok reply) h pending none p =
+    let rows = unwrap_or (with_limit means params host st v) [] in
+    (p.0, (p.1.0, (subst (λ (ms : List ModuleState). ModulesLeave (updates_module v) rows ms []) (sym none) tt, p.1.1)))
+performs_alone means params host st v (Err f) h pending none p = p
 
+pub performed_alone : {C : Type 0} (means : Means) (params : List Value) (host : Host) (is_honest is_clean : C → Type 0) (holding : C → Holding) (old : SessionOf C) (y : Answered) (result : Result Reply Refusal) (new : SessionOf C)
+    → Performed means params host (honest is_honest) (clean is_clean) (standing holding) old y result new → PerformedWith means params host (honest is_honest) (clean is_clean) (standing holding) old y result new
+performed_alone means params host is_honest is_clean holding old y result new d = record {
+  was_honest = d.was_honest;
+  was_clean = d.was_clean;
+  stays_clean = d.stays_clean;
+  performs = λ clean. performs_alone means params host (standing holding old) (view y) result (holding new.0) new.1 refl (d.performs clean);
+}
+
+module _ (l : Language Statement Ordered) (means : Means) (params : List Value) (host : Host) (st : State) (x : Statement) (y : Answered)
+    (e : l.resolved (catalog st) host.ask x ≡ Ok (view y)) (f : l.fits x (length params) ≡ true) (ex : l.exact params ≡ exact means params) (sz : l.sized params ≡ sized means params) where
   against_is : cause_of l host st params x ≡ against means params host st (view y)
-  against_is = cause_is l host h pending params x (Ok (view y)) true e f ∙ (λ i. first_cause (causes_of host st (view y) (evaluated (ex i) st (view y)) (evaluated (sz i) st (view y))))
+  against_is = cause_is l host st params x (Ok (view y)) true e f ∙ (λ i. first_cause (causes_of host st (view y) (evaluated (ex i) st (view y)) (evaluated (sz i) st (view y))))
 
   -- where it leaves a session that refuses it
-  ends_so : (g : Refusal) → stepped l host st params x (Err g) [] ≡ refused st (view y) g
+  ends_so : (g : Refusal) → statement.left_refused l host st params x g ≡ refused st (view y) g
   ends_so g =
-      (λ i. cond (is_memory g) st (cond (ends_with l host h pending params x (e i) (f i)) (ended st) st))
+      (λ i. cond (is_memory g) st (cond (ends_with l host st params x (e i) (f i)) (ended st) st))
       ∙ ap (λ (b : Bool). cond (is_memory g) st (cond (b && (in_transaction st && true)) (ended st) st)) (commit_same l host st params (view y))
       ∙ ended_so st (ended st) (is_memory g) (is_commit (view y)) (in_transaction st)
 
   -- what it replies and leaves is what it does once its names are resolved
-  pub replies_performed : (result : Result Reply Refusal) (new : State) → Performs means params host st (view y) result new → Replies l host h pending params x result new
+  pub replies_performed : (result : Result Reply Refusal) (new : State) → PerformsWith means params host st (view y) result new → Replies l host st params x result new
   replies_performed (Ok reply) new p = (
     (
       against_is ∙ p.0,
       ap (λ (o : Result (Resolved Ordered) Refusal). option_map (λ r. reply_to r (rows_of l host st params r)) (result_ok o)) e
           ∙ (λ i. Some (reply_to (view y) (unwrap_or (evaluated (sz i) st (view y)) []))) ∙ ap Some (sym p.1.0),
-      tt,
+      subst (λ (o : Result (Resolved Ordered) Refusal). ModulesLeave (option_and_then updates_module (result_ok o)) (option_map_or (rows_of l host st params) (result_ok o) []) st.modules new.modules) (sym e)
+          (subst (λ (m : Meaning Ordered). ModulesLeave (updates_module (view y)) (unwrap_or (evaluated m st (view y)) []) st.modules new.modules) (sym sz) p.1.1.0),
     ),
-    ap (λ (o : Result (Resolved Ordered) Refusal). option_map_or (λ r. left_by st r (rows_of l host st params r) []) (result_ok o) st) e
-        ∙ (λ i. left_by st (view y) (unwrap_or (evaluated (sz i) st (view y)) []) []) ∙ sym p.1.1,
+    ap (λ (o : Result (Resolved Ordered) Refusal). option_map_or (λ r. left_by st r (rows_of l host st params r) new.modules) (result_ok o) st) e
+        ∙ (λ i. left_by st (view y) (unwrap_or (evaluated (sz i) st (view y)) []) new.modules) ∙ sym p.1.1.1,
   )
-  replies_performed (Err g) new p = ((subst (λ (c : Cause). IsWant g ⊎ Tells c g) (sym against_is) p.0, refl), ends_so g ∙ sym p.1)
+  replies_performed (Err g) new p = ((subst (λ (c : Cause). IsWant g ⊎ Tells c g) (sym against_is) p.0, ap (λ (s : State). s.modules) p.1 ∙ refused_modules st (view y) g), ends_so g ∙ sym p.1)
 
 module _ {C : Type 0} (function_of : List ℕ → ℕ → Option Definition) (scalar : ℕ → List Value → Result Value (List ℕ)) (step : ℕ → Value → List Value → Result Value (List ℕ)) (finish : ℕ → Value → Result Value (List ℕ))
-    (order_of : OrderOf) (total : AreTotal order_of) (has named : List ℕ → Bool) (names : has ≡ named) (under : Host) (is_honest is_clean : C → Type 0) (holding : C → Holding) (params : List Value) where
+    (order_of : OrderOf) (total : AreTotal order_of) (has named : List ℕ → Bool) (names : has ≡ named) (under : Host) (is_honest is_clean : C → Type 0) (stands : C → State) (params : List Value) where
   abbrev language : Language Statement Ordered
   language = spoken function_of scalar step finish order_of total has
 
@@ -233,8 +253,8 @@ module _ {C : Type 0} (function_of : List ℕ → ℕ → Option Definition) (sc
   abbrev resolved_by : Statement → Catalog → (List ℕ → Bool) → Result (Resolved Ordered) Refusal
   resolved_by x c f = viewed (resolved (known_at c f) under.ask x)
 
-  abbrev Does : SessionOf C → Statement → Result Reply Refusal → SessionOf C → Type 0
-  Does old x result new = Carries language under (honest is_honest) (clean is_clean) (standing holding) old params x result new
+  abbrev Does : C → Statement → Result Reply Refusal → C → Type 0
+  Does old x result new = Carries language under is_honest is_clean stands old params x result new
 
   -- over the snapshot the statement is what it is in the session
   abbrev pub Agrees : State → Snapshot → Statement → Type 0
@@ -277,36 +297,38 @@ module _ {C : Type 0} (function_of : List ℕ → ℕ → Option Definition) (sc
 
   -- ---- it may not be carried out
 
-  refused_told : (h : Holding) (pending : Option (List Change)) (snap : Snapshot) (x : Statement) (f : Refusal) → Agrees (state_of h pending) snap x
-      → (f ≡ refusal.Memory) ⊎ IsRefused (known_by function_of named order_of snap) under.ask x (length params) f → Replies language under h pending params x (Err f) (state_of h pending)
-  refused_told h pending snap x f agrees (inl memory) = subst (λ (g : Refusal). Replies language under h pending params x (Err g) (state_of h pending)) (sym memory) (wants language under h pending params x)
-  refused_told h pending snap x f agrees (inr (inl u)) =
-      subst (λ (g : Refusal). Replies language under h pending params x (Err g) (state_of h pending)) (sym u.1.1) (not_resolved language under h pending params x (of_unresolved u.0) (agrees ∙ ap viewed u.1.0))
-  refused_told h pending snap x f agrees (inr (inr y)) =
-      subst (λ (g : Refusal). Replies language under h pending params x (Err g) (state_of h pending)) (sym y.1.1.1) (not_fitting language under h pending params x (view y.0) (agrees ∙ ap viewed y.1.0) (counts x ∙ y.1.1.0))
+  refused_told : (st : State) (snap : Snapshot) (x : Statement) (f : Refusal) → Agrees st snap x
+      → (f ≡ refusal.Memory) ⊎ IsRefused (known_by function_of named order_of snap) under.ask x (length params) f → Replies language under st params x (Err f) st
+  refused_told st snap x f agrees (inl memory) = subst (λ (g : Refusal). Replies language under st params x (Err g) st) (sym memory) (wants language under st params x)
+  refused_told st snap x f agrees (inr (inl u)) =
+      subst (λ (g : Refusal). Replies language under st params x (Err g) st) (sym u.1.1) (not_resolved language under st params x (of_unresolved u.0) (agrees ∙ ap viewed u.1.0))
+  refused_told st snap x f agrees (inr (inr y)) =
+      subst (λ (g : Refusal). Replies language under st params x (Err g) st) (sym y.1.1.1) (not_fitting language under st params x (view y.0) (agrees ∙ ap viewed y.1.0) (counts x ∙ y.1.1.0))
 
   -- a statement that may not be carried out is refused, and nothing is changed
-  refused_so : (old new : SessionOf C) (x : Statement) (snap : Snapshot) (f : Refusal)
-      → (is_honest new.0 → is_honest old.0) → (is_clean new.0 → is_clean old.0) → (is_honest new.0 → is_clean old.0 → is_clean new.0) → (is_clean new.0 → Agrees (standing holding old) snap x) → (is_clean new.0 → standing holding new ≡ standing holding old)
+  refused_so : (old new : C) (x : Statement) (snap : Snapshot) (f : Refusal)
+      → (is_honest new → is_honest old) → (is_clean new → is_clean old) → (is_honest new → is_clean old → is_clean new) → (is_clean new → Agrees (stands old) snap x) → (is_clean new → stands new ≡ stands old)
       → Allows (known_by function_of named order_of snap) under.ask x (length params) (Err f) → Does old x (Err f) new
   refused_so old new x snap f honest_was was stays agrees same h = record {
     was_honest = honest_was;
     was_clean = was;
     stays_clean = λ honest clean told. stays honest clean;
-    answers = λ clean. (refused_told (holding old.0) old.1 snap x f (agrees clean) h).0;
-    leaves = λ clean. (refused_told (holding old.0) old.1 snap x f (agrees clean) h).1 ∙ sym (same clean);
-  }
+    answers = λ clean. (replied clean).0;
+    leaves = λ clean. (replied clean).1;
+  } where
+    replied : is_clean new → Replies language under (stands old) params x (Err f) (stands new)
+    replied clean = subst (Replies language under (stands old) params x (Err f)) (sym (same clean)) (refused_told (stands old) snap x f (agrees clean) h)
 
-  pub refuses_allowed : (old new : SessionOf C) (x : Statement) (snap : Snapshot) (f : Refusal)
-      → (is_honest new.0 → is_honest old.0) → (is_clean new.0 → is_clean old.0) → (is_honest new.0 → is_clean old.0 → is_clean new.0) → (is_clean new.0 → Names (standing holding old) (standing holding new) (Ok snap))
+  pub refuses_allowed : (old new : C) (x : Statement) (snap : Snapshot) (f : Refusal)
+      → (is_honest new → is_honest old) → (is_clean new → is_clean old) → (is_honest new → is_clean old → is_clean new) → (is_clean new → Names (stands old) (stands new) (Ok snap))
       → Allows (known_by function_of named order_of snap) under.ask x (length params) (Err f) → Does old x (Err f) new
   refuses_allowed old new x snap f honest_was was stays reads h =
-      refused_so old new x snap f honest_was was stays (λ clean. resolves (standing holding old) snap x (reads clean).names) (λ clean. (reads clean).same) h
+      refused_so old new x snap f honest_was was stays (λ clean. resolves (stands old) snap x (reads clean).names) (λ clean. (reads clean).same) h
 
-  pub refuses_permitted : (old : SessionOf C) (x : Statement) (snap : Snapshot) (f : Refusal) → is_transaction x ≡ true
+  pub refuses_permitted : (old : C) (x : Statement) (snap : Snapshot) (f : Refusal) → is_transaction x ≡ true
       → Allows (known_by function_of named order_of snap) under.ask x (length params) (Err f) → Does old x (Err f) old
   refuses_permitted old x snap f of h =
-      refused_so old old x snap f (λ honest. honest) (λ clean. clean) (λ honest clean. clean) (λ clean. transacts (standing holding old) snap x of) (λ clean. refl) h
+      refused_so old old x snap f (λ honest. honest) (λ clean. clean) (λ honest clean. clean) (λ clean. transacts (stands old) snap x of) (λ clean. refl) h
 
   -- ---- its names can't be read
 
@@ -315,36 +337,36 @@ module _ {C : Type 0} (function_of : List ℕ → ℕ → Option Definition) (sc
   last_by here x other (Ok y) e = commit_same language under here params (view y) ∙ not_commit y (form_is (known_at (catalog here) has) under.ask x y other e)
   last_by here x other (Err u) e = refl
 
-  lasts : (h : Holding) (pending : Option (List Change)) (x : Statement) → is_transaction x ≡ false → Lasts language under h pending params x
-  lasts h pending x other =
-      lasts_other language under h pending params x
-      (ap (λ (o : Result (Resolved Ordered) Refusal). statement.is_commit language under (state_of h pending) params (result_ok o)) (resolved_so (catalog (state_of h pending)) x)
-      ∙ last_by (state_of h pending) x other (resolved (known_at (catalog (state_of h pending)) has) under.ask x) refl)
+  lasts : (st : State) (x : Statement) → is_transaction x ≡ false → Lasts language under st params x
+  lasts st x other =
+      lasts_other language under st params x
+      (ap (λ (o : Result (Resolved Ordered) Refusal). statement.is_commit language under st params (result_ok o)) (resolved_so (catalog st) x)
+      ∙ last_by st x other (resolved (known_at (catalog st) has) under.ask x) refl)
 
-  pub unread_refuses : (old new : SessionOf C) (x : Statement) (e : CellsError) (f : Refusal) → f ≡ of_store e → is_transaction x ≡ false
-      → (is_honest new.0 → is_honest old.0) → (is_clean new.0 → is_clean old.0) → (is_honest new.0 → is_clean old.0 → calls.is_want e ≡ false → is_clean new.0) → (is_clean new.0 → Names (standing holding old) (standing holding new) (Err e)) → Does old x (Err f) new
+  pub unread_refuses : (old new : C) (x : Statement) (e : CellsError) (f : Refusal) → f ≡ of_store e → is_transaction x ≡ false
+      → (is_honest new → is_honest old) → (is_clean new → is_clean old) → (is_honest new → is_clean old → calls.is_want e ≡ false → is_clean new) → (is_clean new → Names (stands old) (stands new) (Err e)) → Does old x (Err f) new
   unread_refuses old new x e f told other honest_was was stays reads = record {
     was_honest = honest_was;
     was_clean = was;
     stays_clean = λ honest clean want. stays honest clean (sym (want_of_store e) ∙ ap is_want (sym told) ∙ want);
     answers = λ clean. (replied clean).0;
-    leaves = λ clean. (replied clean).1 ∙ sym (reads clean).same;
+    leaves = λ clean. (replied clean).1;
   } where
-    replied : is_clean new.0 → Replies language under (holding old.0) old.1 params x (Err f) (standing holding old)
-    replied clean = refused_for language under (holding old.0) old.1 params x f (lasts (holding old.0) old.1 x other) (inl (subst IsWant (sym told) (wanting e (reads clean).names)))
+    replied : is_clean new → Replies language under (stands old) params x (Err f) (stands new)
+    replied clean = subst (Replies language under (stands old) params x (Err f)) (sym (reads clean).same) (refused_for language under (stands old) params x f (lasts (stands old) x other) (inl (subst IsWant (sym told) (wanting e (reads clean).names))))
 
   -- ---- it is carried out as what it is once its names are resolved
 
-  module _ (old middle new : SessionOf C) (x : Statement) (snap : Snapshot) (y : Answered) (result : Result Reply Refusal)
-      (reads : is_clean middle.0 → Names (standing holding old) (standing holding middle) (Ok snap))
-      (allows : Allows (known_by function_of named order_of snap) under.ask x (length params) (Ok y)) (done : Performed means params under (honest is_honest) (clean is_clean) (standing holding) middle y result new) where
-    replied : is_clean new.0 → Replies language under (holding old.0) old.1 params x result (standing holding new)
+  module _ (old middle new : C) (x : Statement) (snap : Snapshot) (y : Answered) (result : Result Reply Refusal)
+      (reads : is_clean middle → Names (stands old) (stands middle) (Ok snap))
+      (allows : Allows (known_by function_of named order_of snap) under.ask x (length params) (Ok y)) (done : PerformedWith means params under is_honest is_clean stands middle y result new) where
+    replied : is_clean new → Replies language under (stands old) params x result (stands new)
     replied clean =
         let first = reads (done.was_clean clean) in
-        replies_performed language means params under (holding old.0) old.1 x y (resolves (standing holding old) snap x first.names ∙ ap viewed allows.0) (counts x ∙ allows.1) exactly limited
-        result (standing holding new) (subst (λ (st : State). Performs means params under st (view y) result (standing holding new)) first.same (done.performs clean))
+        replies_performed language means params under (stands old) x y (resolves (stands old) snap x first.names ∙ ap viewed allows.0) (counts x ∙ allows.1) exactly limited
+        result (stands new) (subst (λ (st : State). PerformsWith means params under st (view y) result (stands new)) first.same (done.performs clean))
 
-    pub carries_performed : (is_honest middle.0 → is_honest old.0) → (is_clean middle.0 → is_clean old.0) → (is_honest middle.0 → is_clean old.0 → is_clean middle.0) → Does old x result new
+    pub carries_performed : (is_honest middle → is_honest old) → (is_clean middle → is_clean old) → (is_honest middle → is_clean old → is_clean middle) → Does old x result new
     carries_performed honest_was was stays = record {
       was_honest = λ honest. honest_was (done.was_honest honest);
       was_clean = λ clean. was (done.was_clean clean);
@@ -354,14 +376,14 @@ module _ {C : Type 0} (function_of : List ℕ → ℕ → Option Definition) (sc
     }
 
   -- a statement that opens or ends a transaction
-  module _ (old new : SessionOf C) (x : Statement) (snap : Snapshot) (z : Answered) (result : Result Reply Refusal) (of : is_transaction x ≡ true)
-      (is : (answers : Questioned) (known : Known) → left_of answers (read known x).made ≡ z) (done : Performed means params under (honest is_honest) (clean is_clean) (standing holding) old z result new) where
-    transacted : Permits (known_by function_of named order_of snap) under.ask x (length params) (Ok tt) → is_clean new.0 → Replies language under (holding old.0) old.1 params x result (standing holding new)
+  module _ (old new : C) (x : Statement) (snap : Snapshot) (z : Answered) (result : Result Reply Refusal) (of : is_transaction x ≡ true)
+      (is : (answers : Questioned) (known : Known) → left_of answers (read known x).made ≡ z) (done : PerformedWith means params under is_honest is_clean stands old z result new) where
+    transacted : Permits (known_by function_of named order_of snap) under.ask x (length params) (Ok tt) → is_clean new → Replies language under (stands old) params x result (stands new)
     transacted permits clean =
         let y : Answered = permits.0 in
         let same : y ≡ z = (judged_left (known_by function_of named order_of snap) under.ask x y permits.1.0).0 ∙ is under.ask (known_by function_of named order_of snap) in
-        replies_performed language means params under (holding old.0) old.1 x z (transacts (standing holding old) snap x of ∙ ap viewed (permits.1.0 ∙ ap Ok same)) (counts x ∙ permits.1.1) exactly limited
-        result (standing holding new) (done.performs clean)
+        replies_performed language means params under (stands old) x z (transacts (stands old) snap x of ∙ ap viewed (permits.1.0 ∙ ap Ok same)) (counts x ∙ permits.1.1) exactly limited
+        result (stands new) (done.performs clean)
 
     pub carries_transacted : Permits (known_by function_of named order_of snap) under.ask x (length params) (Ok tt) → Does old x result new
     carries_transacted permits = record {

@@ -1,5 +1,5 @@
 -- An INSERT into the table of changes.
-use Rattle.std.proofs.Common.{◌≡◌, ◌⊎◌, inl, inr, Bool, true, false, cond, List, [], Option, Some, None, Result, Ok, Err, refl, sym, ap, subst, ◌∙◌}
+use Rattle.std.proofs.Common.{◌≡◌, ◌⊎◌, inl, inr, Bool, true, false, cond, List, [], ◌∷◌, find, map, Option, Some, None, Result, Ok, Err, refl, sym, ap, subst, ◌∙◌}
 use Rattle.std.specs.Prelude.{unwrap_or}
 use Rattle.std.specs.List.{filter_map}
 use Rattle.std.specs.Option.{option_map}
@@ -26,8 +26,9 @@ use Rattle.cr_meaning.proofs.Limits.{refines}
 use Rattle.cr_scalar.specs.declared.fault.EvalFault.{EvalFault}
 use Rattle.cr_exec.specs.Answers.{Faults, IsBoth, Stage}
 use Rattle.cr_taken.proofs.Refined.{rows_refine}
+use Rattle.cr_replica.specs.declared.snapshot.Listing.{Listing}
 use Rattle.cr_replica.specs.declared.snapshot.Snapshot.{Snapshot}
-use Rattle.cr_snapshot.specs.Seen.{IsNamed, catalog_of}
+use Rattle.cr_snapshot.specs.Seen.{IsNamed, catalog_of, definition_of}
 use Rattle.cr_language.specs.Sql.{module_target, target_by, view}
 use Rattle.cr_world.specs.declared.command.Reply.{Reply}
 use Rattle.cr_world.specs.declared.command.Reply.TheVariants.{Done}
@@ -48,19 +49,23 @@ use Rattle.cr_session.proofs.Changing.{added_to, judged_is, never}
 use Rattle.cr_session.proofs.Making.{told_first, untouched}
 use Rattle.cr_session.proofs.Selecting.{fault_told}
 
--- ---- the table of changes is the one module
+-- ---- where no module is listed, the table of changes is the only one
 
 one_module : (d : TableDef) (b : Bool) → cond b (Some changes_definition) None ≡ Some d → d ≡ changes_definition
 one_module d true e = let same : changes_definition ≡ d = cc in sym same
 one_module d false e = absurd (let z : ⊥ = cc in z)
 
-defined_by : (snap : Snapshot) (place : Held) (d : TableDef) → HasHeld (catalog_of snap) d place → is_table place ≡ false → d ≡ changes_definition
-defined_by snap (held.Table at b) d has e = absurd (let z : ⊥ = cc in z)
-defined_by snap (held.Module at) d has e = one_module d (same_bytes changes_definition.name d.name) has.1
+found_one : (d : TableDef) (ls : List Listing) → ls ≡ [] → find (λ (x : TableDef). same_bytes x.name d.name) (changes_definition ∷ map definition_of ls) ≡ Some d → d ≡ changes_definition
+found_one d ls none is =
+    one_module d (same_bytes changes_definition.name d.name) (subst (λ (ls : List Listing). find (λ (x : TableDef). same_bytes x.name d.name) (changes_definition ∷ map definition_of ls) ≡ Some d) none is)
+
+defined_by : (snap : Snapshot) (place : Held) (d : TableDef) → snap.modules ≡ [] → HasHeld (catalog_of snap) d place → is_table place ≡ false → d ≡ changes_definition
+defined_by snap (held.Table at b) d none has e = absurd (let z : ⊥ = cc in z)
+defined_by snap (held.Module at) d none has e = found_one d snap.modules none has.1
 
 -- what is no table is the table of changes
-pub is_changes : (snap : Snapshot) (x : Relation) → HasRelation (catalog_of snap) x → is_table x.held ≡ false → x.definition ≡ changes_definition
-is_changes snap x has e = defined_by snap x.held x.definition has e
+pub is_changes : (snap : Snapshot) (x : Relation) → snap.modules ≡ [] → HasRelation (catalog_of snap) x → is_table x.held ≡ false → x.definition ≡ changes_definition
+is_changes snap x none has e = defined_by snap x.held x.definition none has e
 
 target_of : (place : Held) (d : TableDef) → is_table place ≡ false → d ≡ changes_definition → target_by place d ≡ world.Changes
 target_of (held.Table at b) d e same = absurd (let z : ⊥ = cc in z)
@@ -131,9 +136,9 @@ module _ (means : Means) (params : List Value) (host : Host) (h : Holding) (pend
 -- ---- of a session
 
 module _ {C : Type 0} (means : Means) (params : List Value) (host : Host) (is_honest is_clean : C → Type 0) (holding : C → Holding) (old : SessionOf C) (snap : Snapshot) (named : is_clean old.0 → IsNamed (standing holding old) snap)
-    (i : Insert) (has : HasRelation (catalog_of snap) i.relation) (e : is_table i.relation.held ≡ false) where
+    (none : snap.modules ≡ []) (i : Insert) (has : HasRelation (catalog_of snap) i.relation) (e : is_table i.relation.held ≡ false) where
   received_view : (b : Bool) → i.is_ignored ≡ b → view (r.Insert i) ≡ world.Insert world.Changes (record { places = (insert i).places; tuples = (insert i).tuples; is_ignored = b })
-  received_view b ig = λ j. world.Insert (target_of i.relation.held i.relation.definition e (is_changes snap i.relation has e) j) (record { places = (insert i).places; tuples = (insert i).tuples; is_ignored = ig j })
+  received_view b ig = λ j. world.Insert (target_of i.relation.held i.relation.definition e (is_changes snap i.relation none has e) j) (record { places = (insert i).places; tuples = (insert i).tuples; is_ignored = ig j })
 
   abbrev at : State
   at = standing holding old

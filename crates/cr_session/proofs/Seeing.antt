@@ -1,5 +1,5 @@
 -- What is seen of a session: what was read of its store, with the changes of the open transaction.
-use Rattle.std.proofs.Common.{◌≡◌, ℕ, List, ◌++◌, Option, Some, None, Result, Ok, Err, refl, sym, ap, subst, ◌∙◌}
+use Rattle.std.proofs.Common.{◌≡◌, ℕ, List, [], ◌∷◌, ◌++◌, map, Option, Some, None, Result, Ok, Err, refl, sym, ap, subst, ◌∙◌}
 use Rattle.std.specs.Prelude.{filter, MatchResult}
 use Rattle.std.specs.List.{flat_map}
 use Rattle.std.specs.Option.{ForSome}
@@ -11,22 +11,23 @@ use Rattle.cr_cells.specs.declared.store.CellsError.{CellsError}
 use Rattle.cr_cells.specs.Calls.{IsRefusal, Reads}
 use Rattle.cr_cells.specs.Holding.{Holding, IsSound, changes_of, cells_of, kept_of}
 use Rattle.cr_cells.specs.Tables.{AreWellFormed}
+use Rattle.cr_replica.specs.declared.snapshot.Listing.{Listing}
 use Rattle.cr_replica.specs.declared.snapshot.Snapshot.{Snapshot}
 use Rattle.cr_replica.specs.Snapshots.{HasNamesOf, HasCellsOf, IsOfNames, kept_of_keys}
-use Rattle.cr_snapshot.specs.Seen.{IsNamed, IsSeen, catalog_of}
+use Rattle.cr_snapshot.specs.Seen.{IsNamed, IsSeen, catalog_of, definition_of}
 use Rattle.cr_taken.specs.Taken.{AreKept}
 use Rattle.cr_taken.proofs.Tables.{joined_kept, sound_kept}
 use Rattle.cr_touched.specs.Parts.{is_key_of, part}
 use Rattle.cr_touched.proofs.Parts.{keys_make_their_part, parts_are_joined}
 use Rattle.cr_touched.proofs.Twice.{map-filter}
-use Rattle.cr_world.specs.State.{State, now}
+use Rattle.cr_world.specs.State.{State, changes_definition, now}
 use Rattle.cr_session.specs.Sessions.{Names, Sees, SeesKeys, SessionOf, standing, state_of}
 
 pub now_outside : (h : Holding) → now (state_of h None) ≡ kept_of h
 unfolding now
 now_outside h = refl
 
-now_inside : (h : Holding) (pending : List Change) → now (state_of h (Some pending)) ≡ join (kept_of h) pending
+pub now_inside : (h : Holding) (pending : List Change) → now (state_of h (Some pending)) ≡ join (kept_of h) pending
 unfolding now
 now_inside h pending = refl
 
@@ -35,7 +36,7 @@ now_inside h pending = refl
 names_read : (h h' : Holding) (pending : Option (List Change)) (result : Result Snapshot CellsError) → Reads h h' result (HasNamesOf h) → Names (state_of h pending) (state_of h' pending) result
 names_read h h' pending (Ok names) r = record {
   same = ap (λ (x : Holding). state_of x pending) r.same;
-  names = record { no_modules = refl; tables = r.answers.tables; site = r.answers.site; version = r.answers.version };
+  names = record { modules = ap (map definition_of) r.answers.no_modules; tables = r.answers.tables; site = r.answers.site; version = r.answers.version };
 }
 names_read h h' pending (Err e) r = record { same = ap (λ (x : Holding). state_of x pending) r.same; names = r.answers }
 
@@ -46,16 +47,21 @@ names_standing {C} holding self before after pending is result r =
 
 -- snapshots of the same names have the same catalog
 pub catalog_of_names : (names snap : Snapshot) → IsOfNames names snap → catalog_of snap ≡ catalog_of names
-catalog_of_names names snap is = λ i. record { tables = is.tables i; modules = (catalog_of names).modules; site = is.site i; db_version = is.version i }
+catalog_of_names names snap is = λ i. record { tables = is.tables i; modules = changes_definition ∷ map definition_of (is.modules i); site = is.site i; db_version = is.version i }
 
 -- ---- what is seen
+
+-- where no definition is listed, no module is
+pub unlisted : (ls : List Listing) → map definition_of ls ≡ [] → ls ≡ []
+unlisted [] e = refl
+unlisted (l ∷ ls) e = absurd (let z : ⊥ = cc in z)
 
 module _ (h h' : Holding) (names snap : Snapshot) (of : IsOfNames names snap) (r : Reads h h' (Ok snap) (HasCellsOf h)) where
   outside : IsNamed (state_of h None) names → Sees (state_of h None) (state_of h' None) (Ok snap)
   outside named = record {
     same = ap (λ (x : Holding). state_of x None) r.same;
     sees = record {
-      no_modules = refl;
+      modules = of.modules ∙ unlisted names.modules named.modules;
       tables = of.tables ∙ named.tables;
       site = of.site ∙ named.site;
       version = of.version ∙ named.version;
@@ -69,7 +75,7 @@ module _ (h h' : Holding) (names snap : Snapshot) (of : IsOfNames names snap) (r
   inside pending kept named e = record {
     same = ap (λ (x : Holding). state_of x (Some pending)) r.same;
     sees = record {
-      no_modules = refl;
+      modules = of.modules ∙ unlisted names.modules named.modules;
       tables = of.tables ∙ named.tables;
       site = of.site ∙ named.site;
       version = of.version ∙ named.version;

@@ -1,10 +1,13 @@
--- What a statement of one table sees whose WHERE may tell the key of its row. Source: this project's own.
-use Rattle.std.specs.Prelude.{◌≡◌, ◌⊎◌, ℕ, find, List, [], ◌∷◌, Option, Some, Result, MatchResult}
+-- What a statement sees of the tables that it names, and of one table whose WHERE may tell the key of its row. Source: this
+-- project's own.
+use Rattle.std.specs.Prelude.{◌≡◌, ◌⊎◌, ℕ, Bool, true, false, find, List, [], ◌∷◌, Option, Some, Result, MatchResult}
 use Rattle.std.specs.Option.{ForSome}
 use Rattle.cr_value.specs.declared.value.Value.{Value}
+use Rattle.cr_value.specs.Order.{bytes_cmp}
 use Rattle.cr_lattice.specs.declared.change.Change.{Change}
 use Rattle.cr_lattice.specs.declared.table.Table.{Table}
 use Rattle.cr_lattice.specs.declared.table.TableDef.{TableDef}
+use Rattle.cr_lattice.specs.Sets.{set_of}
 use Rattle.cr_cells.specs.declared.store.CellsError.{CellsError}
 use Rattle.cr_cells.specs.Calls.{IsRefusal}
 use Rattle.cr_cells.specs.Tables.{AreWellFormed, is_named}
@@ -21,14 +24,42 @@ use Rattle.cr_replica.specs.declared.snapshot.Snapshot.{Snapshot}
 use Rattle.cr_snapshot.specs.Seen.{IsNamed, IsSeen}
 use Rattle.cr_taken.specs.Taken.{replicated}
 use Rattle.cr_touched.specs.Parts.{is_key_of, part}
+use Rattle.cr_touched.specs.Tables.{is_name_of, of_tables}
 use Rattle.cr_language.specs.Sql.{view}
 use Rattle.cr_world.specs.declared.refusal.Refusal.{Refusal}
-use Rattle.cr_world.specs.State.{State, now}
+use Rattle.cr_world.specs.State.{State, changes_name, now}
 use Rattle.cr_world.specs.Statement.{evaluated}
 use Rattle.cr_answer.specs.Selecting.{answer_seen}
 use Rattle.cr_changed.specs.Changed.{IsRefused, Leads, delete_wants, update_wants}
-use Rattle.cr_sought.specs.Sought.{OrdersBytes, sought_key}
+use Rattle.cr_exec.specs.Equalities.{OrdersBytes}
+use Rattle.cr_sought.specs.Sought.{sought_key}
 use Rattle.cr_sought.specs.Writes.{delete_over, update_over}
+
+-- ---- some tables
+
+-- their names by their bytes, each once
+abbrev pub in_order : List (List ℕ) → List (List ℕ)
+in_order names = set_of bytes_cmp names
+
+-- the table of changes is one of them
+abbrev pub names_changes : List (List ℕ) → Bool
+names_changes tables = is_name_of tables changes_name
+
+-- a reading leaves a session where it stands, and gives what shows there of some tables, or memory or the store does not suffice
+pub record SeesTables {T : Type 0} (changes : T → List Change) (old new : State) (tables : List (List ℕ)) (result : Result T CellsError) : Type 0 where
+  pub same : new ≡ old
+  pub sees : MatchResult result (λ kept. changes kept ≡ of_tables tables (now old)) IsRefusal
+
+-- The snapshot has the names of a session that stands there, and of some tables what shows there.
+pub record IsSeenIn (st : State) (tables : List (List ℕ)) (s : Snapshot) : Type 0 where
+  pub named : IsNamed st s
+  pub kept : s.kept ≡ of_tables tables (now st)
+
+-- It has what shows there of these tables; where the table of changes is one of them, all that a session sees that stands there.
+abbrev pub ShowsTables : State → List (List ℕ) → Snapshot → Type 0
+ShowsTables st tables s = ((names_changes tables ≡ true) × IsSeen st s) ⊎ ((names_changes tables ≡ false) × IsSeenIn st tables s)
+
+-- ---- one key
 
 -- The terms tell the key of the only row of the replicated table of a name on which they can be true; and the changes of the
 -- open transaction are well formed for the tables.
@@ -44,10 +75,10 @@ pub record IsSeenAt (st : State) (name pk : List ℕ) (s : Snapshot) : Type 0 wh
   pub named : IsNamed st s
   pub kept : s.kept ≡ part name (is_key_of (pk ∷ [])) (now st)
 
--- It has all that a session sees that stands there, or that of the key that the terms tell.
+-- It has what shows there of the table of the name, or that of the key that the terms tell.
 abbrev pub IsLook : Means → List Value → State → List ℕ → List Expr → Snapshot → Type 0
 IsLook means params st name terms s =
-    IsSeen st s ⊎ ((pk : List ℕ) × IsSought means params st.pending st.holding.tables name terms pk × IsSeenAt st name pk s)
+    ShowsTables st (name ∷ []) s ⊎ ((pk : List ℕ) × IsSought means params st.pending st.holding.tables name terms pk × IsSeenAt st name pk s)
 
 -- a reading leaves a session where it stands, and gives a snapshot, or memory or the store does not suffice
 pub record Looks (is : Snapshot → Type 0) (old new : State) (result : Result Snapshot CellsError) : Type 0 where

@@ -1,5 +1,6 @@
 -- What a session makes of a statement that may be carried out. Source: this project's own.
-use Rattle.std.specs.Prelude.{◌≡◌, ◌⊎◌, ◌&&◌, ℕ, Bool, true, false, not, cond, List, [], ◌∷◌, unwrap_or, Option, None, Result, Ok, Err}
+use Rattle.std.specs.Prelude.{◌≡◌, ◌⊎◌, ◌&&◌, ℕ, Bool, true, false, not, cond, List, [], ◌∷◌, find, unwrap_or, Option, None, is_some, Result, Ok, Err}
+use Rattle.std.specs.List.{list_any}
 use Rattle.cr_value.specs.declared.value.Value.{Value}
 use Rattle.cr_lattice.specs.declared.change.Change.{Change}
 use Rattle.cr_cells.specs.Calls.{UnlessWant, is_past_limit}
@@ -26,11 +27,11 @@ use Rattle.cr_world.specs.declared.refusal.Refusal.{Refusal}
 use Rattle.cr_world.specs.declared.refusal.Refusal.TheVariants as refusal
 use Rattle.cr_world.specs.Refusals.{is_want}
 use Rattle.cr_world.specs.Causes.{Cause, Free, Tells, IsWant, first_cause, where_true}
-use Rattle.cr_world.specs.Resolved.{Resolved as Viewed}
+use Rattle.cr_world.specs.Resolved.{Resolved as Viewed, Target}
 use Rattle.cr_world.specs.Resolved as viewed
-use Rattle.cr_world.specs.State.{State, in_transaction}
+use Rattle.cr_world.specs.State.{State, ModuleState, in_transaction, is_module, table_of}
 use Rattle.cr_world.specs.Takings.{taking}
-use Rattle.cr_world.specs.Statement.{Host, adding, causes_of, ended, evaluated, is_memory, left_by, reply_to}
+use Rattle.cr_world.specs.Statement.{Host, ModulesLeave, adding, causes_of, ended, evaluated, is_memory, is_module_target, left_by, reply_to, updates_module}
 
 -- passed where nothing holds; else what holds is told, or there is no memory to tell it
 abbrev pub Passes : Cause → Result (Unit {0}) Refusal → Type 0
@@ -109,6 +110,13 @@ module _ (means : Means) (params : List Value) (host : Host) (st : State) (x : V
   Performs (Ok reply) new = (against ≡ Free) × ((reply ≡ reply_to x (unwrap_or with_limit [])) × (new ≡ left_by st x (unwrap_or with_limit []) []))
   Performs (Err f) new = (IsWant f ⊎ Tells against f) × (new ≡ refused st x f)
 
+  -- the same where there are modules: one that takes rows shows what its update says, the others stay
+  abbrev pub PerformsWith : Result Reply Refusal → State → Type 0
+  PerformsWith (Ok reply) new =
+      (against ≡ Free) × ((reply ≡ reply_to x (unwrap_or with_limit [])) × (ModulesLeave (updates_module x) (unwrap_or with_limit []) st.modules new.modules
+      × (new ≡ left_by st x (unwrap_or with_limit []) new.modules)))
+  PerformsWith (Err f) new = (IsWant f ⊎ Tells against f) × (new ≡ refused st x f)
+
 -- A statement whose names are resolved, with these parameters. It holds where the store is clean after it, as it is where it was
 -- clean before, its device is honest, and there was no want.
 pub record Performed {C : Type 0} (means : Means) (params : List Value) (host : Host) (is_honest is_clean : C → Type 0) (stands : C → State) (old : C) (x : Resolved) (result : Result Reply Refusal) (new : C) : Type 0 where
@@ -116,6 +124,47 @@ pub record Performed {C : Type 0} (means : Means) (params : List Value) (host : 
   pub was_clean : is_clean new → is_clean old
   pub stays_clean : is_honest new → is_clean old → UnlessWant is_want result (is_clean new)
   pub performs : is_clean new → Performs means params host (stands old) (view x) result (stands new)
+
+pub record PerformedWith {C : Type 0} (means : Means) (params : List Value) (host : Host) (is_honest is_clean : C → Type 0) (stands : C → State) (old : C) (x : Resolved) (result : Result Reply Refusal) (new : C) : Type 0 where
+  pub was_honest : is_honest new → is_honest old
+  pub was_clean : is_clean new → is_clean old
+  pub stays_clean : is_honest new → is_clean old → UnlessWant is_want result (is_clean new)
+  pub performs : is_clean new → PerformsWith means params host (stands old) (view x) result (stands new)
+
+-- ---- beside modules
+
+-- the same with these modules
+abbrev pub placed : List ModuleState → State → State
+placed ms st = record st { modules = ms }
+
+-- where it stands beside these modules
+abbrev pub beside : {C : Type 0} → List ModuleState → (C → State) → C → State
+beside ms stands c = placed ms (stands c)
+
+-- a module is written to, or a name in FROM is one's
+abbrev pub touches : {E : Type 0} → List ModuleState → Viewed E → Bool
+touches ms (viewed.Select names q) = list_any (λ name. is_some (find (is_module name) ms)) names
+touches ms (viewed.Mark t is_ignored) = is_module_target t
+touches ms (viewed.Insert t w) = is_module_target t
+touches ms (viewed.Update t w) = is_module_target t
+touches ms (viewed.Delete t w) = is_module_target t
+touches ms (viewed.Create def is_there) = false
+touches ms (viewed.Alter t col) = is_module_target t
+touches ms viewed.Begin = false
+touches ms viewed.Commit = false
+touches ms viewed.Rollback = false
+
+-- a table that rows are written to is there
+abbrev pub is_held : State → Target → Bool
+is_held st (viewed.Table def) = is_some (table_of st def.name)
+is_held st viewed.Changes = true
+is_held st (viewed.Module name columns) = true
+
+abbrev pub has_target : {E : Type 0} → State → Viewed E → Bool
+has_target st (viewed.Insert t w) = is_held st t
+has_target st (viewed.Update t w) = is_held st t
+has_target st (viewed.Delete t w) = is_held st t
+has_target st x = true
 
 -- ---- the changes of a write
 

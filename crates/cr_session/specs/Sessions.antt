@@ -6,8 +6,6 @@ use Rattle.cr_cells.specs.Calls.{IsRefusal, UnlessWant}
 use Rattle.cr_cells.specs.Holding.{Holding}
 use Rattle.cr_cells.specs.Marks.{Mark}
 use Rattle.cr_cells.specs.Tables.{is_named}
-use Rattle.cr_guard.specs.Guard.{asked, vetoed}
-use Rattle.cr_guard.specs.Policy.{Rules}
 use Rattle.cr_replica.specs.declared.snapshot.Snapshot.{Snapshot}
 use Rattle.cr_replica.specs.ChangeRow.{change_of}
 use Rattle.cr_replica.specs.declared.definition.DefineError.{DefineError}
@@ -24,22 +22,14 @@ use Rattle.cr_world.specs.declared.refusal.Refusal.{Refusal}
 use Rattle.cr_world.specs.declared.refusal.Refusal.TheVariants as refusal
 use Rattle.cr_world.specs.declared.refusal.OutOfProfile.TheVariants as out
 use Rattle.cr_world.specs.Refusals.{is_want}
-use Rattle.cr_world.specs.Language.{Language, Asked}
+use Rattle.cr_world.specs.Language.{Language}
 use Rattle.cr_world.specs.State.{State, now}
 use Rattle.cr_world.specs.Causes.{Free, Tells, IsWant}
 use Rattle.cr_world.specs.Statement.{Host}
 use Rattle.cr_world.specs.Scripts.{Runs, after_script, added_by_script}
-use Rattle.cr_world.specs.World.{Member, Closures}
+use Rattle.cr_world.specs.World.{Member}
 use Rattle.cr_world.specs.Answers.{IsDone, Takes, ShowsRows, ShowsChanges, tells_want}
 use Rattle.cr_world.specs.Takings.{take_cause, taking_cause, taking, define_cause, defining, taking_row}
-
--- what authorizer and commit hook say
-abbrev pub closures : Asked → (List Change → Bool) → Closures
-closures allows refuses = record { allows = allows; refuses = refuses }
-
--- the same under a policy
-abbrev pub host_under : Closures → Rules → Host
-host_under k rules = record { ask = asked rules k.allows; vetoes = vetoed rules k.refuses }
 
 -- the reply that tells whether a command was carried out
 abbrev pub reply_of : Result (Unit {0}) Refusal → FleetReply

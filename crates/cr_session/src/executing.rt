@@ -1,78 +1,74 @@
-//! Texts that are one statement, with values for its parameters.
+//! One statement after another: a session carries out those of scripts.
 
-ghost use Rattle.std.specs.Prelude.{◌≡◌};
-ghost use Rattle.cr_session.specs.Scripts.{is_empty, second_place};
-
-use crate::script::{behind, of_unread};
 use crate::session::Session;
-use crate::speaking::{Speaking, Watching};
+use crate::transacting::is_transaction;
+use cr_answer::allowing::allowed;
 use cr_cells::store::Cells;
 use cr_guard::guarding::Guarding;
 use cr_host::functions::Functions;
-use cr_lex::scan::tokens;
-use cr_lex::token::{LexError, Token};
-use cr_statement::script::next_statement;
-use cr_statement::sql::is_semicolon;
+use cr_script::executor::Executor;
+use cr_script::script::run_script;
+use cr_script::single::execute;
+use cr_script::speaking::{Speaking, Watching};
+use cr_tree::statement::Statement;
 use cr_value::value::Value;
-use cr_world::command::Reply;
-use cr_world::refusal::{Limit, Refusal};
+use cr_world::command::{Reply, Script};
+use cr_world::refusal::Refusal;
 use std::alloc::Global;
-
-// Whether nothing stands before the first `;`.
-fn is_empty(source: &str, tokens: &[Token]) -> bool
-    ensures { result ≡ is_empty source.now tokens.now }
-{
-    match tokens {
-        [] => true,
-        [first, ..] => is_semicolon(source.as_bytes(), first),
-    }
-}
-
-// Where the token behind the first begins.
-fn second_place(tokens: &[Token]) -> Option<usize>
-    ensures { result ≡ second_place tokens.now }
-{
-    match tokens {
-        [_, second, ..] => Some(second.from),
-        _ => None,
-    }
-}
 
 impl<C: Cells> Session<C> {
     ghost use Rattle.std.specs.Prelude.{ℕ, Bool, List};
-    ghost use Rattle.cr_session.specs.Scripts.{Executed, single_left};
+    ghost use Rattle.cr_fit.specs.Folded.{DefinesFolded};
+    ghost use Rattle.cr_script.specs.Scripts.{Carries, CarriesAll, Executed};
     ghost use Rattle.cr_session.specs.Sessions.{clean, honest, standing};
 
-    // Carries out the one statement of these tokens, if there is one.
-    fn single<F: Functions, G: Guarding>(
+    // Carries out a statement, with values for its parameters.
+    fn carry_out<F: Functions, G: Guarding>(
+        &mut self,
+        alloc: Global,
+        functions: &F,
+        guard: &G,
+        statement: &Statement,
+        params: &[Value],
+    ) -> Result<Reply, Refusal>
+        requires functions { F.is_faithful functions.now }
+        requires guard { G.is_faithful guard.now }
+        requires folded { DefinesFolded statement.now }
+        ensures { (has : List ℕ → Bool) → ⟦<F as Speaking>⟧.are_names functions.now has
+            → Carries (⟦<F as Speaking>⟧.language functions.now has) (⟦<G as Watching>⟧.host guard.now) (honest C.is_honest) (clean C.is_clean) (standing C.holding) self.old params.now statement.now result self.new }
+    {
+        if is_transaction(statement) {
+            return self.transact(alloc, functions, guard, statement, params);
+        }
+        let names = match self.names(alloc) {
+            Ok(names) => names,
+            Err(error) => return Err(Refusal::from(error)),
+        };
+        let resolved = match allowed(alloc, functions, guard, &names, statement, params.len()) {
+            Ok(resolved) => resolved,
+            Err(refusal) => return Err(refusal),
+        };
+        self.perform(alloc, functions, guard, names, &resolved, params)
+    }
+
+    /// Runs a script: carries out its statements in order, up to the first that is refused. What was done before it stands.
+    ///
+    /// # Errors
+    /// The script's `refusal`: `Limit` where it is longer than 1,000,000 bytes; `Syntax`, `OutOfProfile` or `Limit` where a
+    /// statement can't be read; else why a statement is refused.
+    pub fn script<F: Functions, G: Guarding>(
         &mut self,
         alloc: Global,
         functions: &F,
         guard: &G,
         source: &str,
-        tokens: &[Token],
-        params: &[Value],
-    ) -> Result<Reply, Refusal>
+    ) -> Script
         requires functions { F.is_faithful functions.now }
         requires guard { G.is_faithful guard.now }
         ensures { (has : List ℕ → Bool) → ⟦<F as Speaking>⟧.are_names functions.now has
-            → Executed (⟦<F as Speaking>⟧.language functions.now has) (⟦<G as Watching>⟧.host guard.now) (honest C.is_honest) (clean C.is_clean) (standing C.holding) self.old params.now (single_left source.now tokens.now) result self.new }
+            → CarriesAll (⟦<F as Speaking>⟧.language functions.now has) (⟦<G as Watching>⟧.host guard.now) (honest C.is_honest) (clean C.is_clean) (standing C.holding) self.old ((⟦<F as Speaking>⟧.language functions.now has).pieces source.now) result.replies result.refusal self.new }
     {
-        if is_empty(source, tokens) {
-            return match second_place(tokens) {
-                Some(at) => Err(Refusal::Syntax(at)),
-                None => Ok(Reply::Done),
-            };
-        }
-        let next = next_statement(alloc, source, tokens);
-        match &next {
-            Ok(Some((statement, len))) => match second_place(behind(tokens, *len)) {
-                Some(at) => Err(Refusal::Syntax(at)),
-                None => self.statement(alloc, functions, guard, statement, params),
-            },
-            Ok(None) => Ok(Reply::Done),
-            Err(error) => Err(of_unread(alloc, *error)),
-        }
+        run_script(alloc, self, functions, guard, source)
     }
 
     /// Carries out a text that is one statement, with values for its parameters; a text of blanks, comments and one `;` at
@@ -96,10 +92,27 @@ impl<C: Cells> Session<C> {
         ensures { (has : List ℕ → Bool) → ⟦<F as Speaking>⟧.are_names functions.now has
             → Executed (⟦<F as Speaking>⟧.language functions.now has) (⟦<G as Watching>⟧.host guard.now) (honest C.is_honest) (clean C.is_clean) (standing C.holding) self.old params.now ((⟦<F as Speaking>⟧.language functions.now has).single source.now) result self.new }
     {
-        match tokens(alloc, source) {
-            Ok(tokens) => self.single(alloc, functions, guard, source, &tokens, params),
-            Err(LexError::Limit) => Err(Refusal::Limit(Limit::Script)),
-            Err(LexError::Memory) => Err(Refusal::Memory),
-        }
+        execute(alloc, self, functions, guard, source, params)
+    }
+}
+
+impl<C: Cells> Executor for Session<C> {
+    ghost use Rattle.cr_session.specs.Sessions.{clean, honest, standing};
+
+    ghost stands = { λ s. standing C.holding s };
+
+    ghost is_honest = { λ s. honest C.is_honest s };
+
+    ghost is_clean = { λ s. clean C.is_clean s };
+
+    fn statement<F: Functions, G: Guarding>(
+        &mut self,
+        alloc: Global,
+        functions: &F,
+        guard: &G,
+        statement: &Statement,
+        params: &[Value],
+    ) -> Result<Reply, Refusal> {
+        self.carry_out(alloc, functions, guard, statement, params)
     }
 }

@@ -3,9 +3,8 @@
 
 mod executing;
 mod lookup;
-mod performing;
-mod script;
+pub mod performing;
 pub mod session;
-pub mod speaking;
-mod transacting;
+pub mod tables;
+pub mod transacting;
 mod writing;

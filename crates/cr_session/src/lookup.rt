@@ -1,15 +1,15 @@
 //! What a statement of one table sees: what is kept of one key, where its WHERE tells the key of the only row that it can be
-//! about, and else all.
+//! about, and else what is kept of the table.
 
 use crate::session::Session;
 use cr_cells::store::{Cells, CellsError};
 use cr_cells::tables::table_named;
+use cr_exec::binary::compares_bytes;
 use cr_expr::given::Hosted;
 use cr_host::functions::Functions;
 use cr_lattice::table::{Items, Table};
 use cr_replica::snapshot::Snapshot;
 use cr_sought::key::{assigns_key, sought_key};
-use cr_sought::orders::compares_bytes;
 use cr_term::expr::Expr;
 use cr_term::query::{Delete, Query, Update};
 use cr_value::text::Bytes;
@@ -106,11 +106,11 @@ impl<C: Cells> Session<C> {
             params,
         )? {
             Some(key) => self.see_key(alloc, names, name, key),
-            None => self.see(alloc, names),
+            None => self.see_table(alloc, names, name),
         }
     }
 
-    /// What a query sees: of one table whose WHERE tells the key of its row, what is kept of that, else all.
+    /// What a query sees: of one table whose WHERE tells the key of its row, what is kept of that, else of the tables that it names.
     pub(crate) fn look_for_query<F: Functions>(
         &mut self,
         alloc: Global,
@@ -128,10 +128,10 @@ impl<C: Cells> Session<C> {
             → Looks (ShowsQuery (⟦<F as Hosted>⟧.means functions.now) params.now query.now (standing C.holding self.old)) (standing C.holding self.old) (standing C.holding self.new) result }
     {
         let [joined] = query.joined.as_slice() else {
-            return self.see(alloc, names);
+            return self.see_joined(alloc, names, query.joined.as_slice());
         };
         if joined.is_left {
-            return self.see(alloc, names);
+            return self.see_joined(alloc, names, query.joined.as_slice());
         }
         let name = joined.relation.definition.name.as_str();
         self.look(
@@ -145,7 +145,7 @@ impl<C: Cells> Session<C> {
     }
 
     /// What an UPDATE of a replicated table sees: where its WHERE tells the key of its row and it leaves keys as they are, what
-    /// is kept of that, else all.
+    /// is kept of that, else of the table.
     pub(crate) fn look_for_update<F: Functions>(
         &mut self,
         alloc: Global,
@@ -167,10 +167,10 @@ impl<C: Cells> Session<C> {
         ensures names { IfOk result (IsOfNames names) }
         ensures kept { IfOk result (λ snapshot. keep snapshot.kept ≡ snapshot.kept) }
     {
-        if assigns_key(update) {
-            return self.see(alloc, names);
-        }
         let name = update.relation.definition.name.as_str();
+        if assigns_key(update) {
+            return self.see_table(alloc, names, name);
+        }
         self.look(
             alloc,
             functions,
@@ -181,7 +181,8 @@ impl<C: Cells> Session<C> {
         )
     }
 
-    /// What a DELETE from a replicated table sees: where its WHERE tells the key of its row, what is kept of that, else all.
+    /// What a DELETE from a replicated table sees: where its WHERE tells the key of its row, what is kept of that, else of the
+    /// table.
     pub(crate) fn look_for_delete<F: Functions>(
         &mut self,
         alloc: Global,

@@ -13,7 +13,6 @@ ghost use Rattle.cr_session.specs.Lookup.{ShowsQuery};
 ghost use Rattle.cr_session.specs.Performing.{Passes, Performs, not_replicated};
 
 use crate::session::Session;
-use crate::speaking::Watching;
 use cr_answer::selecting::answer_query;
 use cr_cells::store::Cells;
 use cr_expr::given::Hosted;
@@ -23,6 +22,7 @@ use cr_lattice::profile::{lacks_default, no_default};
 use cr_lattice::table::{ColumnDef, Items, TableDef};
 use cr_replica::definition::DefineError;
 use cr_replica::snapshot::Snapshot;
+use cr_script::speaking::Watching;
 use cr_term::query::{Alter, Create, Held, MarkReplicated, Query, Relation, Resolved};
 use cr_value::text::Text;
 use cr_value::value::Value;
@@ -86,8 +86,11 @@ fn marked_reply(alloc: Global, is_ignored: bool) -> Result<Reply, AllocError>
     Ok(Reply::Rows(Items::new(rows)))
 }
 
-// Answers a SELECT over what is seen.
-fn answered<F: Functions>(
+/// Answers a SELECT over what is seen.
+///
+/// # Errors
+/// `Eval` and `TooBig` where an expression has a fault; `Memory`.
+pub fn answered<F: Functions>(
     alloc: Global,
     functions: &F,
     snapshot: &Snapshot,
@@ -207,7 +210,10 @@ impl<C: Cells> Session<C> {
     }
 
     /// Carries out a statement that neither opens nor ends a transaction, under these names, with these parameters.
-    pub(crate) fn perform<F: Functions, G: Guarding>(
+    ///
+    /// # Errors
+    /// Why the statement is refused, whose names are resolved and which is allowed; then nothing is changed.
+    pub fn perform<F: Functions, G: Guarding>(
         &mut self,
         alloc: Global,
         functions: &F,

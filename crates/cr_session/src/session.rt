@@ -3,7 +3,6 @@
 ghost use Rattle.std.specs.Prelude.{◌≡◌};
 ghost use Rattle.cr_session.specs.Sessions.{is_early, reply_of};
 
-use crate::speaking::{Speaking, Watching};
 use cr_cells::marks::Mark;
 use cr_cells::store::{Cells, CellsError};
 use cr_guard::guarding::Guarding;
@@ -17,6 +16,7 @@ use cr_replica::change_row::ChangeRow;
 use cr_replica::definition::{DefineError, accept};
 use cr_replica::replica::Replica;
 use cr_replica::snapshot::Snapshot;
+use cr_script::speaking::{Speaking, Watching};
 use cr_value::order::same_bytes;
 use cr_value::text::{Bytes, Text};
 use cr_world::command::{Command, Declaration, FleetReply};
@@ -132,8 +132,11 @@ impl<C: Cells> Session<C> {
         self.replica.changes_above(alloc, version)
     }
 
-    // What a statement may name, which is answered without asking the store again.
-    pub(crate) fn names(&mut self, alloc: Global) -> Result<Snapshot, CellsError>
+    /// What a statement may name, which is answered without asking the store again.
+    ///
+    /// # Errors
+    /// `Memory`, or `Store(Refused)`.
+    pub fn names(&mut self, alloc: Global) -> Result<Snapshot, CellsError>
         ensures was_honest { C.is_honest self.new.0 → C.is_honest self.old.0 }
         ensures was_clean { C.is_clean self.new.0 → C.is_clean self.old.0 }
         ensures stays_clean { C.is_honest self.new.0 → C.is_clean self.old.0 → UnlessWant is_want result (C.is_clean self.new.0) }

@@ -4,10 +4,9 @@ ghost use Rattle.std.specs.Prelude.{◌≡◌};
 ghost use Rattle.cr_guard.specs.Guard.{asked};
 ghost use Rattle.cr_world.specs.Statement.{is_memory};
 ghost use Rattle.cr_answer.specs.Allowing.{known_by};
-ghost use Rattle.cr_session.specs.Performing.{Permits};
+ghost use Rattle.cr_session.specs.Performing.{Permits, is_transaction};
 
 use crate::session::Session;
-use crate::speaking::{Speaking, Watching};
 use cr_answer::allowing::allowed;
 use cr_cells::store::Cells;
 use cr_guard::guarding::Guarding;
@@ -16,6 +15,7 @@ use cr_lattice::change::Site;
 use cr_lattice::table::Items;
 use cr_pending::pending::Pending;
 use cr_replica::snapshot::Snapshot;
+use cr_script::speaking::{Speaking, Watching};
 use cr_tree::statement::Statement;
 use cr_value::value::Value;
 use cr_world::command::Reply;
@@ -28,7 +28,7 @@ fn is_memory(refusal: &Refusal) -> bool
     matches!(refusal, Refusal::Memory)
 }
 
-// A replica without tables, which a statement that names none may as well be asked of.
+// A replica without tables and modules, which a statement that names none may as well be asked of.
 fn empty_snapshot(alloc: Global, site: Site) -> Snapshot {
     Snapshot {
         tables: Items::new(Vec::new(alloc)),
@@ -36,6 +36,7 @@ fn empty_snapshot(alloc: Global, site: Site) -> Snapshot {
         version: 0,
         cells: Items::new(Vec::new(alloc)),
         kept: Items::new(Vec::new(alloc)),
+        modules: Items::new(Vec::new(alloc)),
     }
 }
 
@@ -57,14 +58,30 @@ fn check_allowed<F: Functions, G: Guarding>(
     }
 }
 
+/// Whether a statement opens or ends a transaction.
+pub fn is_transaction(statement: &Statement) -> bool
+    ensures { result ≡ is_transaction statement.now }
+{
+    match statement {
+        Statement::Begin(_) | Statement::Commit | Statement::Rollback => true,
+        Statement::Select(_)
+        | Statement::Insert(_)
+        | Statement::Update(_)
+        | Statement::Delete(_)
+        | Statement::Create(_)
+        | Statement::Alter(_) => false,
+    }
+}
+
 impl<C: Cells> Session<C> {
     ghost use Rattle.std.specs.Prelude.{◌≡◌, true, ℕ, Bool, List};
     ghost use Rattle.cr_scalar.specs.Host.{Host as Means};
     ghost use Rattle.cr_value.specs.declared.value.Value.{Value};
+    ghost use Rattle.cr_world.specs.State.{ModuleState};
     ghost use Rattle.cr_world.specs.Statement.{Host};
     ghost use Rattle.cr_term.specs.declared.query.Resolved.TheVariants as r;
-    ghost use Rattle.cr_session.specs.Performing.{Performed, is_transaction};
-    ghost use Rattle.cr_session.specs.Scripts.{Carries};
+    ghost use Rattle.cr_session.specs.Performing.{Performed, beside};
+    ghost use Rattle.cr_script.specs.Scripts.{Carries};
     ghost use Rattle.cr_session.specs.Sessions.{clean, honest, standing};
 
     // Opens a transaction.
@@ -107,9 +124,12 @@ impl<C: Cells> Session<C> {
         }
     }
 
-    /// Carries out BEGIN, COMMIT or ROLLBACK. They name no table, so that the store isn't asked which there are: it may be
-    /// broken, and a COMMIT that it refuses ends its transaction.
-    pub(crate) fn transact<F: Functions, G: Guarding>(
+    /// Carries out BEGIN, COMMIT or ROLLBACK, beside any modules. They name no table, so that the store isn't asked which there
+    /// are: it may be broken, and a COMMIT that it refuses ends its transaction.
+    ///
+    /// # Errors
+    /// Why the statement is refused: `Denied`, `Parameters`, `TransactionState`, and of COMMIT what stands against its changes.
+    pub fn transact<F: Functions, G: Guarding>(
         &mut self,
         alloc: Global,
         functions: &F,
@@ -119,8 +139,8 @@ impl<C: Cells> Session<C> {
     ) -> Result<Reply, Refusal>
         requires guard { G.is_faithful guard.now }
         requires form { is_transaction statement.now ≡ true }
-        ensures { (has : List ℕ → Bool) → ⟦<F as Speaking>⟧.are_names functions.now has
-            → Carries (⟦<F as Speaking>⟧.language functions.now has) (⟦<G as Watching>⟧.host guard.now) (honest C.is_honest) (clean C.is_clean) (standing C.holding) self.old params.now statement.now result self.new }
+        ensures { (ms : List ModuleState) (has : List ℕ → Bool) → ⟦<F as Speaking>⟧.are_names functions.now has
+            → Carries (⟦<F as Speaking>⟧.language functions.now has) (⟦<G as Watching>⟧.host guard.now) (honest C.is_honest) (clean C.is_clean) (beside ms (standing C.holding)) self.old params.now statement.now result self.new }
     {
         let nothing = empty_snapshot(alloc, self.site());
         if let Err(refusal) = check_allowed(

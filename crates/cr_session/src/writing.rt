@@ -4,7 +4,6 @@ ghost use Rattle.cr_world.specs.Causes.{IsWant};
 
 use crate::performing::{check_replicated, check_table};
 use crate::session::Session;
-use crate::speaking::Watching;
 use cr_cells::store::{Cells, StoreFault};
 use cr_changed::write::{changes_of_delete, changes_of_rows, changes_of_update, check_rows};
 use cr_delta::key::keys_of;
@@ -16,6 +15,7 @@ use cr_lattice::table::{Row, Table};
 use cr_pending::pending::PendingError;
 use cr_received::receiving::changes_of_received;
 use cr_replica::snapshot::Snapshot;
+use cr_script::speaking::Watching;
 use cr_term::query::{Delete, Held, Insert, Update};
 use cr_value::value::Value;
 use cr_wanted::insert::inserted_rows;
@@ -178,6 +178,7 @@ impl<C: Cells> Session<C> {
         requires functions { F.is_faithful functions.now }
         requires guard { G.is_faithful guard.now }
         requires named { C.is_clean self.old.0 → IsNamed (standing C.holding self.old) names.now }
+        requires whole { IsWhole names.now }
         requires suits { HasRelation (catalog_of names.now) insert.now.relation }
         requires module { is_table insert.now.relation.held ≡ false }
         ensures { Performed (⟦<F as Hosted>⟧.means functions.now) params.now (⟦<G as Watching>⟧.host guard.now) (honest C.is_honest) (clean C.is_clean) (standing C.holding) self.old (r.Insert insert.now) result self.new }

@@ -3,8 +3,8 @@ use Rattle.cr_tree.specs.declared.statement.Statement.{Statement}
 use Rattle.cr_meaning.specs.View.{Ordered}
 use Rattle.cr_world.specs.Language.{Language}
 use Rattle.cr_world.specs.World.{Closures}
-use Rattle.cr_session.specs.Sessions.{closures}
-use Rattle.cr_session.specs.Speaking.{spoken}
+use Rattle.cr_script.specs.Speaking.{closures}
+use Rattle.cr_script.specs.Speaking.{spoken}
 use Rattle.cr_shell.specs.Serving.{AtLine}
 use Rattle.cr_shell.specs.Running.{RanAs}
 use Rattle.cr_shell.proofs.RanLaws.{RanLaws, laws_as}

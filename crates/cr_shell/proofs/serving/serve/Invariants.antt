@@ -1,6 +1,6 @@
 use Rattle.std.proofs.Common.{◌≡◌, [], false}
-use Rattle.cr_session.specs.Sessions.{closures}
-use Rattle.cr_session.specs.Speaking.{spoken}
+use Rattle.cr_script.specs.Speaking.{closures}
+use Rattle.cr_script.specs.Speaking.{spoken}
 use Rattle.cr_shell.specs.Running.{RanAs}
 use Rattle.cr_shell.proofs.ServeLemmas.{Going}
 use Rattle.cr_shell.proofs.serving.serve.Given as goal

@@ -6,10 +6,11 @@ use Rattle.cr_world.specs.Run.{Run, world_after}
 use Rattle.cr_world.proofs.Running.{rows_converge}
 use Rattle.cr_world.specs.Language.{Language}
 use Rattle.cr_fleet.specs.Fleets.{Steps, Shows}
-use Rattle.cr_session.specs.Sessions.{closures, clean, standing}
+use Rattle.cr_script.specs.Speaking.{closures}
+use Rattle.cr_session.specs.Sessions.{clean, standing}
 use Rattle.cr_tree.specs.declared.statement.Statement.{Statement}
 use Rattle.cr_meaning.specs.View.{Ordered}
-use Rattle.cr_session.specs.Speaking.{spoken}
+use Rattle.cr_script.specs.Speaking.{spoken}
 use Rattle.cr_fleet.proofs.Converging.{spoken_converges}
 use Rattle.cr_fleet.proofs.Running.{goes_on, clean_after_run, answered_more}
 use Rattle.cr_fleet.proofs.fleet.Fleet.run.Goals as goal

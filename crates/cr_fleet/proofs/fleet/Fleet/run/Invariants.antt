@@ -3,8 +3,9 @@ use Rattle.cr_world.specs.World.{World}
 use Rattle.cr_world.specs.Answers.{AreAnswered}
 use Rattle.cr_world.specs.Run.{Run, world_after}
 use Rattle.cr_fleet.specs.Fleets.{AreClean, Shows}
-use Rattle.cr_session.specs.Sessions.{closures, clean, standing}
-use Rattle.cr_session.specs.Speaking.{spoken}
+use Rattle.cr_script.specs.Speaking.{closures}
+use Rattle.cr_session.specs.Sessions.{clean, standing}
+use Rattle.cr_script.specs.Speaking.{spoken}
 use Rattle.cr_fleet.proofs.fleet.Fleet.run.Given as goal
 
 -- the commands so far ran as a run, and there is room for the replies to all

@@ -1,6 +1,6 @@
 use Rattle.std.proofs.Common.{◌∙◌}
 use Rattle.cr_session.specs.Sessions.{standing}
-use Rattle.cr_session.proofs.ByKey.{looked_at, retabled}
+use Rattle.cr_session.proofs.ByKey.{looked_at, looked_in, retabled}
 use Rattle.cr_session.proofs.session.Session.look.Goals as goal
 
 pub returns-in-Some-clause-looks : goal.returns-in-Some-clause-looks
@@ -8,3 +8,7 @@ returns-in-Some-clause-looks g c = λ clean.
     looked_at _ c.args.params.now (standing g.C.Cells.holding c.args.self.now) (standing g.C.Cells.holding c.see_key.new.self) c.args.name.now c.args.terms.now c.in-Some.key c.see_key.result
     (retabled _ c.args.params.now _ _ _ c.args.name.now c.args.terms.now c.in-Some.key (c.as_slice.ensures ∙ (c.requires.named (c.see_key.ensures.was_clean clean)).tables) (c.in_ok-key.ensures c.in-Some.key c.in-Some.is))
     (c.see_key.ensures.sees clean)
+
+pub returns-in-None-clause-looks : goal.returns-in-None-clause-looks
+returns-in-None-clause-looks g c = λ clean.
+    looked_in _ c.args.params.now (standing g.C.Cells.holding c.args.self.now) (standing g.C.Cells.holding c.see_table.new.self) c.args.name.now c.args.terms.now c.see_table.result (c.see_table.ensures.looks clean)

@@ -1,12 +1,19 @@
-use Rattle.std.proofs.Common.{◌∙◌, sym}
-use Rattle.cr_session.specs.Lookup.{IsLook, ShowsQuery}
+use Rattle.std.proofs.Common.{◌∙◌, sym, map}
+use Rattle.cr_snapshot.specs.Seen.{name_of}
+use Rattle.cr_session.specs.Lookup.{IsLook, ShowsQuery, ShowsTables, in_order}
 use Rattle.cr_session.specs.Sessions.{standing}
-use Rattle.cr_session.proofs.ByKey.{one_of, query_looked, query_seen, sees_enough, suffices}
+use Rattle.cr_session.proofs.ByKey.{one_of, query_joined, query_looked, suffices}
 use Rattle.cr_session.proofs.session.Session.look_for_query.Goals as goal
 
 pub returns-in_default-clause-looks : goal.returns-in_default-clause-looks
 returns-in_default-clause-looks g c = λ clean.
-    sees_enough (ShowsQuery _ c.args.params.now c.args.query.now (standing g.C.Cells.holding c.args.self.now)) _ _ c.see.result (λ s is. query_seen _ c.args.params.now _ s is c.args.query.now) (c.see.ensures.sees clean)
+    suffices (ShowsTables (standing g.C.Cells.holding c.args.self.now) (in_order (map name_of c.as_slice-in_default.result.now))) (ShowsQuery _ c.args.params.now c.args.query.now (standing g.C.Cells.holding c.args.self.now)) _ _ c.see_joined.result
+    (λ s l. query_joined _ c.args.params.now (g.C.Cells.holding c.args.self.now.0) (c.requires.sound (c.see_joined.ensures.was_clean clean)) c.args.self.now.1 s c.args.query.now c.as_slice-in_default.result.now c.as_slice-in_default.ensures l) (c.see_joined.ensures.looks clean)
+
+pub returns-then-joined-clause-looks : goal.returns-then-joined-clause-looks
+returns-then-joined-clause-looks g c = λ clean.
+    suffices (ShowsTables (standing g.C.Cells.holding c.args.self.now) (in_order (map name_of c.as_slice-then-joined.result.now))) (ShowsQuery _ c.args.params.now c.args.query.now (standing g.C.Cells.holding c.args.self.now)) _ _ c.see_joined-then-joined.result
+    (λ s l. query_joined _ c.args.params.now (g.C.Cells.holding c.args.self.now.0) (c.requires.sound (c.see_joined-then-joined.ensures.was_clean clean)) c.args.self.now.1 s c.args.query.now c.as_slice-then-joined.result.now c.as_slice-then-joined.ensures l) (c.see_joined-then-joined.ensures.looks clean)
 
 pub returns-clause-looks : goal.returns-clause-looks
 returns-clause-looks g c = λ clean.

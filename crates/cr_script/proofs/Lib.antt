@@ -1,0 +1,3 @@
+pub mod Scripting
+pub mod Turning
+pub mod Executions

@@ -1,0 +1,8 @@
+use Rattle.std.proofs.Common.{◌∙◌, ap}
+use Rattle.cr_value.specs.OrderLaws.{bytes_total, bytes_exact}
+use Rattle.cr_lattice.proofs.SortedSets.{sorted_set}
+use Rattle.cr_session.specs.Lookup.{in_order}
+use Rattle.cr_session.proofs.tables.in_order.Goals as goal
+
+pub returns : goal.returns
+returns c = sorted_set bytes_total bytes_exact _ _ _ c.in_ok-sort.ensures.permutation c.in_ok-sort.ensures.sorted c.dedup.ensures.filtered ∙ ap in_order c.in_ok-names.ensures
