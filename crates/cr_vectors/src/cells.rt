@@ -102,11 +102,18 @@ fn is_deletion(alloc: Global, cells: &[Stamped]) -> Result<bool, Fail> {
     }
 }
 
-// Whether the deletion is the one cell, by its version and by its row.
+// Whether the deletion is the one cell, by its version, by its row and by its table.
 fn has_deletion<C: Cells>(alloc: Global, cells: &mut C) -> Result<bool, Fail> {
     let since = cells.since(alloc, 1)?;
     let of_row = cells.cells_of(alloc, "t", key(alloc, 1)?.as_slice())?;
-    Ok(is_deletion(alloc, &since)? && is_deletion(alloc, &of_row)?)
+    let of_table = cells.cells_of_table(alloc, "t")?;
+    let of_other = cells.cells_of_table(alloc, "u")?;
+    Ok(
+        is_deletion(alloc, &since)?
+            && is_deletion(alloc, &of_row)?
+            && is_deletion(alloc, &of_table)?
+            && of_other.is_empty(),
+    )
 }
 
 /// The calls in turn, with their answers, at a store of site A that holds nothing.

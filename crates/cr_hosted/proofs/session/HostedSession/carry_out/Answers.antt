@@ -1,0 +1,37 @@
+use Rattle.std.proofs.Common.{map, rules}
+use Rattle.cr_guard.specs.Guard.{asked}
+use Rattle.cr_answer.specs.Allowing.{known_by}
+use Rattle.cr_fit.proofs.Suiting.{resolved_suit}
+use Rattle.cr_modules.specs.States.{made}
+use Rattle.cr_session.proofs.Carrying.{carries_performed, form_is, refuses_allowed, unread_refuses}
+use Rattle.cr_hosted.proofs.session.HostedSession.carry_out.Goals as goal
+
+pub returns-then-is_transaction : goal.returns-then-is_transaction
+returns-then-is_transaction g c = λ has names.
+    let d = c.transact.ensures (map (λ r. made r.name (g.M.Module.columns_of r.host) (g.M.Module.rows_of r.host) (g.M.Module.updated r.host)) c.args.self.now.modules.list.items) has names in
+    record { was_honest = d.was_honest; was_clean = d.was_clean; stays_clean = d.stays_clean; answers = d.answers; leaves = d.leaves }
+
+pub returns-in-Err : goal.returns-in-Err
+returns-in-Err g c = λ has names.
+    unread_refuses _ _ _ _ _ _ has _ names _ _ _ _ c.args.params.now c.args.self.now c.names.new.self c.args.statement.now c.in-Err.error c.from.result c.from.ensures (search rules)
+    c.names.ensures.was_honest c.names.ensures.was_clean c.in-Err.ensures.stays_clean c.in-Err.ensures.names
+
+pub returns-in-Err-allowed : goal.returns-in-Err-allowed
+returns-in-Err-allowed g c = λ has names.
+    refuses_allowed _ _ _ _ _ _ has _ names _ _ _ _ c.args.params.now _ _ c.args.statement.now c.in-Ok.names c.in-Err-allowed.refusal
+    c.in-Ok.ensures.was_honest c.in-Ok.ensures.was_clean c.in-Ok.ensures.stays_clean c.in-Ok.ensures.names c.in-Err-allowed.ensures
+
+pub perform-requires-clause-suits : goal.perform-requires-clause-suits
+perform-requires-clause-suits g c =
+    resolved_suit (known_by (g.F.Functions.function_of c.args.functions.now) (g.F.Functions.names_function c.args.functions.now) (g.F.Functions.order_of c.args.functions.now) c.in-Ok.names)
+    (asked (g.G.Guarding.rules c.args.guard.now) (g.G.Guarding.allows c.args.guard.now)) c.args.statement.now c.in-Ok-allowed.resolved c.requires.folded c.in-Ok-allowed.ensures.0
+
+pub perform-requires-clause-form : goal.perform-requires-clause-form
+perform-requires-clause-form g c =
+    form_is (known_by (g.F.Functions.function_of c.args.functions.now) (g.F.Functions.names_function c.args.functions.now) (g.F.Functions.order_of c.args.functions.now) c.in-Ok.names)
+    (asked (g.G.Guarding.rules c.args.guard.now) (g.G.Guarding.allows c.args.guard.now)) c.args.statement.now c.in-Ok-allowed.resolved (search rules) c.in-Ok-allowed.ensures.0
+
+pub returns : goal.returns
+returns g c = λ has names.
+    carries_performed _ _ _ _ _ _ has _ names _ _ _ _ c.args.params.now c.args.self.now c.names.new.self c.perform.new.self c.args.statement.now c.in-Ok.names c.in-Ok-allowed.resolved c.perform.result
+    c.in-Ok.ensures.names c.in-Ok-allowed.ensures c.perform.ensures c.in-Ok.ensures.was_honest c.in-Ok.ensures.was_clean c.in-Ok.ensures.stays_clean
