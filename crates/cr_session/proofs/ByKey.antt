@@ -62,7 +62,7 @@ one_key : (pk : List ℕ) → is_key_of (pk ∷ []) ≡ same_bytes pk
 one_key pk = λ i x. (or_false (same_bytes x pk) ∙ same_turned x pk) i
 
 -- the rows of what is no table of its own
-abbrev other_rows_seen : Snapshot → List ℕ → List Row
+abbrev pub other_rows_seen : Snapshot → List ℕ → List Row
 other_rows_seen s name = if same_bytes changes_name name then map row_of s.cells else rows_listed s.modules name
 
 -- ---- the table of the name, and what shows of the key

@@ -15,3 +15,4 @@ pub mod ByKey
 pub mod Committing
 pub mod Inserting
 pub mod Receiving
+pub mod Newest

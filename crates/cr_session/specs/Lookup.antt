@@ -1,6 +1,6 @@
 -- What a statement sees of the tables that it names, and of one table whose WHERE may tell the key of its row. Source: this
 -- project's own.
-use Rattle.std.specs.Prelude.{◌≡◌, ◌⊎◌, ℕ, Bool, true, false, find, List, [], ◌∷◌, Option, Some, Result, MatchResult}
+use Rattle.std.specs.Prelude.{◌≡◌, ◌⊎◌, ℕ, ℤ, pos, ◌≤ℤ◌, Bool, true, false, find, List, [], ◌∷◌, Option, Some, None, Result, MatchResult}
 use Rattle.std.specs.Option.{ForSome}
 use Rattle.cr_value.specs.declared.value.Value.{Value}
 use Rattle.cr_value.specs.Order.{bytes_cmp}
@@ -10,6 +10,7 @@ use Rattle.cr_lattice.specs.declared.table.TableDef.{TableDef}
 use Rattle.cr_lattice.specs.Sets.{set_of}
 use Rattle.cr_cells.specs.declared.store.CellsError.{CellsError}
 use Rattle.cr_cells.specs.Calls.{IsRefusal}
+use Rattle.cr_cells.specs.Holding.{since}
 use Rattle.cr_cells.specs.Tables.{AreWellFormed, is_named}
 use Rattle.cr_term.specs.declared.expr.Expr.{Expr}
 use Rattle.cr_term.specs.declared.query.Delete.{Delete}
@@ -32,6 +33,7 @@ use Rattle.cr_world.specs.Statement.{evaluated}
 use Rattle.cr_answer.specs.Selecting.{answer_seen}
 use Rattle.cr_changed.specs.Changed.{IsRefused, Leads, delete_wants, update_wants}
 use Rattle.cr_exec.specs.Equalities.{OrdersBytes}
+use Rattle.cr_sought.specs.Bounds.{lower_bound}
 use Rattle.cr_sought.specs.Sought.{sought_key}
 use Rattle.cr_sought.specs.Writes.{delete_over, update_over}
 
@@ -79,6 +81,26 @@ pub record IsSeenAt (st : State) (name pk : List ℕ) (s : Snapshot) : Type 0 wh
 abbrev pub IsLook : Means → List Value → State → List ℕ → List Expr → Snapshot → Type 0
 IsLook means params st name terms s =
     ShowsTables st (name ∷ []) s ⊎ ((pk : List ℕ) × IsSought means params st.pending st.holding.tables name terms pk × IsSeenAt st name pk s)
+
+-- ---- what is new
+
+-- the place of db_version among the columns of the table of changes
+abbrev pub version_place : ℕ
+version_place = 5
+
+-- The terms of a query of the table of changes tell the version above which all changes are stamped on which they can be true;
+-- no table has that name.
+pub record IsNewest (means : Means) (params : List Value) (tables : List Table) (name : List ℕ) (terms : List Expr) (version : ℤ) : Type 0 where
+  pub bytes : OrdersBytes means
+  pub changes : name ≡ changes_name
+  pub no_table : find (is_named name) tables ≡ None
+  pub from_0 : pos 0 ≤ℤ version
+  pub told : lower_bound params terms version_place ≡ Some version
+
+-- The snapshot has the names of a session that stands there, and of the last commit what is stamped above a version.
+pub record IsSeenAbove (st : State) (version : ℤ) (s : Snapshot) : Type 0 where
+  pub named : IsNamed st s
+  pub cells : s.cells ≡ since st.holding.cells version
 
 -- a reading leaves a session where it stands, and gives a snapshot, or memory or the store does not suffice
 pub record Looks (is : Snapshot → Type 0) (old new : State) (result : Result Snapshot CellsError) : Type 0 where

@@ -1,5 +1,5 @@
 //! What a statement of one table sees: what is kept of one key, where its WHERE tells the key of the only row that it can be
-//! about, and else what is kept of the table.
+//! about, and else what is kept of the table. A query of the table of changes that wants those above a version sees these.
 
 use crate::session::Session;
 use cr_cells::store::{Cells, CellsError};
@@ -9,12 +9,18 @@ use cr_expr::given::Hosted;
 use cr_host::functions::Functions;
 use cr_lattice::table::{Items, Table};
 use cr_replica::snapshot::Snapshot;
+use cr_snapshot::changes::CHANGES;
+use cr_sought::bound::lower_bound;
 use cr_sought::key::{assigns_key, sought_key};
 use cr_term::expr::Expr;
 use cr_term::query::{Delete, Query, Update};
+use cr_value::order::same_bytes;
 use cr_value::text::Bytes;
 use cr_value::value::Value;
 use std::alloc::{AllocError, Global};
+
+/// The place of `db_version` among the columns of the table of changes.
+const DB_VERSION: usize = 5;
 
 impl<C: Cells> Session<C> {
     ghost use Rattle.std.specs.Prelude.{◌≡◌, true, IfOk};
@@ -25,7 +31,7 @@ impl<C: Cells> Session<C> {
     ghost use Rattle.cr_lattice.specs.Keep.{keep};
     ghost use Rattle.cr_replica.specs.Snapshots.{IsOfNames};
     ghost use Rattle.cr_snapshot.specs.Seen.{IsNamed, catalog_of};
-    ghost use Rattle.cr_session.specs.Lookup.{IsLook, IsSeenAt, IsSought, Looks, ShowsDelete, ShowsQuery, ShowsUpdate};
+    ghost use Rattle.cr_session.specs.Lookup.{IsLook, IsNewest, IsSeenAbove, IsSeenAt, IsSought, Looks, ShowsDelete, ShowsQuery, ShowsUpdate};
     ghost use Rattle.cr_session.specs.Performing.{is_table, not_replicated};
     ghost use Rattle.cr_session.specs.Sessions.{standing};
     ghost use Rattle.cr_world.specs.Causes.{Free};
@@ -110,7 +116,55 @@ impl<C: Cells> Session<C> {
         }
     }
 
-    /// What a query sees: of one table whose WHERE tells the key of its row, what is kept of that, else of the tables that it names.
+    // The version above which the terms of a query of the table of a name want changes to be stamped, where it is the table of
+    // changes and they tell one.
+    fn newest<F: Functions>(
+        &self,
+        alloc: Global,
+        functions: &F,
+        tables: &[Table],
+        name: &str,
+        terms: &[Expr],
+        params: &[Value],
+    ) -> Result<Option<i64>, AllocError>
+        ensures { IfOk result (λ version. ForSome version (IsNewest (⟦<F as Hosted>⟧.means functions.now) params.now tables.now name.now terms.now)) }
+    {
+        if !same_bytes(CHANGES.as_bytes(), name.as_bytes())
+            || table_named(tables, name).is_some()
+            || !compares_bytes(functions)
+        {
+            return Ok(None);
+        }
+        match lower_bound(alloc, terms, params, DB_VERSION)? {
+            Some(version) if version >= 0 => Ok(Some(version)),
+            _ => Ok(None),
+        }
+    }
+
+    // Of the last commit what is stamped above a version, under these names.
+    fn see_above(
+        &mut self,
+        alloc: Global,
+        names: Snapshot,
+        version: i64,
+    ) -> Result<Snapshot, CellsError>
+        requires named { C.is_clean self.old.0 → IsNamed (standing C.holding self.old) names }
+        ensures was_honest { C.is_honest self.new.0 → C.is_honest self.old.0 }
+        ensures was_clean { C.is_clean self.new.0 → C.is_clean self.old.0 }
+        ensures stays_clean { C.is_honest self.new.0 → C.is_clean self.old.0 → UnlessWant is_want result (C.is_clean self.new.0) }
+        ensures sees { C.is_clean self.new.0 → Looks (IsSeenAbove (standing C.holding self.old) version) (standing C.holding self.old) (standing C.holding self.new) result }
+    {
+        let cells = match self.replica.changes_since(alloc, version) {
+            Ok(cells) => cells,
+            Err(error) => return Err(error),
+        };
+        let mut snapshot = names;
+        snapshot.cells = Items::new(cells);
+        Ok(snapshot)
+    }
+
+    /// What a query sees: of one table whose WHERE tells the key of its row, what is kept of that; of the table of changes alone,
+    /// whose WHERE tells a version, what is stamped above it; else what is kept of the tables that it names.
     pub(crate) fn look_for_query<F: Functions>(
         &mut self,
         alloc: Global,
@@ -134,14 +188,12 @@ impl<C: Cells> Session<C> {
             return self.see_joined(alloc, names, query.joined.as_slice());
         }
         let name = joined.relation.definition.name.as_str();
-        self.look(
-            alloc,
-            functions,
-            names,
-            name,
-            query.filter.as_slice(),
-            params,
-        )
+        let terms = query.filter.as_slice();
+        let tables = names.tables.as_slice();
+        match self.newest(alloc, functions, tables, name, terms, params)? {
+            Some(version) => self.see_above(alloc, names, version),
+            None => self.look(alloc, functions, names, name, terms, params),
+        }
     }
 
     /// What an UPDATE of a replicated table sees: where its WHERE tells the key of its row and it leaves keys as they are, what

@@ -1,6 +1,7 @@
 -- A term that pins a column is quiet, and not true on a row that has another value there.
-use Rattle.std.proofs.Common.{◌≡◌, inl, inr, ℕ, Bool, true, false, ◌&&◌, ◌||◌, if◌then◌else◌, cond, List, [], ◌∷◌, ◌++◌, map, get_or, Option, Some, None, Ok, refl, sym, ap, subst, ◌∙◌, Ordering, Less, Equal, Greater}
-use Rattle.std.specs.Prelude.{◌-◌, ◌==◌}
+use Rattle.std.proofs.Common.{◌≡◌, inl, inr, ℕ, ℤ, ◌≤ℤ◌, int_cmp, arith, Bool, true, false, ◌&&◌, ◌||◌, if◌then◌else◌, cond, List, [], ◌∷◌, ◌++◌, map, get_or, Option, Some, None, Ok, refl, sym, ap, subst, ◌∙◌, Ordering, Less, Equal, Greater}
+use Rattle.std.proofs.lemmas.Int.{ints}
+use Rattle.std.specs.Prelude.{◌-◌, ◌==◌, int_lt}
 use Rattle.std.specs.List.{list_any}
 use Rattle.std.specs.Option.{option_map_or, option_and_then, option_or}
 use Rattle.std.specs.FinSet.{int_cmp-IsAntisymmetric}
@@ -17,6 +18,7 @@ use Rattle.cr_lattice.proofs.Tested.{or_left, or_right}
 use Rattle.cr_delta.proofs.Members.{same_is}
 use Rattle.cr_term.specs.declared.expr.Column.{Column as Field}
 use Rattle.cr_term.specs.declared.expr.When.{When}
+use Rattle.cr_term.specs.declared.operator.Comparison.{Comparison}
 use Rattle.cr_term.specs.declared.operator.Comparison.TheVariants as c
 use Rattle.cr_term.specs.declared.operator.Adjusted.{Adjusted}
 use Rattle.cr_term.specs.declared.operator.Adjusted.TheVariants.{Neither, Left, Right}
@@ -44,6 +46,7 @@ use Rattle.cr_meaning.specs.Meaning as queries
 use Rattle.cr_meaning.proofs.Limits.{safe}
 use Rattle.cr_exec.specs.Equalities.{OrdersBytes}
 use Rattle.cr_sought.specs.Sought.{no_arm, column_layer, column_under, constant_layer, constant, is_column, on_left, on_right, pin_in, pin, pinned}
+use Rattle.cr_sought.specs.Bounds.{bound_in, bound, integer, lower_bound}
 use Rattle.cr_sought.proofs.Keys.{Differs}
 
 -- ---- what operands are
@@ -144,6 +147,56 @@ of_left Neither v u w e h = sym h ∙ some_is u w e
 of_left (Left a) v u w e h = sym h ∙ some_is (applied a u) w e
 of_left (Right a) v u w e h = absurd cc
 
+-- ---- bounds
+
+integer_is : (w : Value) (n : ℤ) → integer w ≡ Some n → w ≡ Int n
+integer_is (Int m) n e = ap Int (some_is m n e)
+integer_is _ n e = absurd cc
+
+met_right : (a : Adjusted) (u w v : Value) → on_right a u ≡ Some w → (adjusted_left a v ≡ v) × (adjusted_right a u ≡ w)
+met_right Neither u w v e = (refl, some_is u w e)
+met_right (Left a) u w v e = absurd cc
+met_right (Right a) u w v e = (refl, some_is (applied a u) w e)
+
+met_left : (a : Adjusted) (u w v : Value) → on_left a u ≡ Some w → (adjusted_right a v ≡ v) × (adjusted_left a u ≡ w)
+met_left Neither u w v e = (refl, some_is u w e)
+met_left (Left a) u w v e = (refl, some_is (applied a u) w e)
+met_left (Right a) u w v e = absurd cc
+
+not_greater : (v n : ℤ) → v ≤ℤ n → Some (passes c.Greater (int_cmp v n)) ≡ Some true → ⊥
+not_greater v n low e =
+    elim (int_cmp v n) as (λ o. int_cmp v n ≡ o → Some (passes c.Greater o) ≡ Some true → ⊥) [
+      | Less ↦ λ is h. absurd cc
+      | Equal ↦ λ is h. absurd cc
+      | Greater ↦ λ is h. (let past : int_lt n v ≡ true = grind (arith, ints) in absurd (grind (arith, ints)))
+    ] refl e
+
+not_less : (v n : ℤ) → v ≤ℤ n → Some (passes c.Less (int_cmp n v)) ≡ Some true → ⊥
+not_less v n low e =
+    elim (int_cmp n v) as (λ o. int_cmp n v ≡ o → Some (passes c.Less o) ≡ Some true → ⊥) [
+      | Less ↦ λ is h. (let past : int_lt n v ≡ true = grind (arith, ints) in absurd (grind (arith, ints)))
+      | Equal ↦ λ is h. absurd cc
+      | Greater ↦ λ is h. absurd cc
+    ] refl e
+
+never_above : (host : Host) (m : Meeting) (v n : ℤ) (u : Value) → on_right m.adjusted u ≡ Some (Int n) → v ≤ℤ n
+    → compared host.order c.Greater m (Int v) u ≡ Some true → ⊥
+never_above host m v n u e low h = by (is_null u) h where
+  by : (b : Bool) → (if b then None else Some (passes c.Greater (meets host.order m (Int v) u))) ≡ Some true → ⊥
+  by true k = absurd cc
+  by false k =
+      let met = met_right m.adjusted u (Int n) (Int v) e in
+      not_greater v n low ((λ i. Some (passes c.Greater (value_cmp_by (host.order m.collation) (sym met.0 i) (sym met.1 i)))) ∙ k)
+
+never_below : (host : Host) (m : Meeting) (v n : ℤ) (u : Value) → on_left m.adjusted u ≡ Some (Int n) → v ≤ℤ n
+    → compared host.order c.Less m u (Int v) ≡ Some true → ⊥
+never_below host m v n u e low h = by (is_null u || is_null (Int v)) h where
+  by : (b : Bool) → (if b then None else Some (passes c.Less (meets host.order m u (Int v)))) ≡ Some true → ⊥
+  by true k = absurd cc
+  by false k =
+      let met = met_left m.adjusted u (Int n) (Int v) e in
+      not_less v n low ((λ i. Some (passes c.Less (value_cmp_by (host.order m.collation) (sym met.1 i) (sym met.0 i)))) ∙ k)
+
 -- ---- one term
 
 untrue : (t : Option Bool) → (t ≡ Some true → ⊥) → queries.is_so (truth (truth_value t)) ≡ Some false
@@ -166,12 +219,12 @@ module _ (host : Host) (bytes : OrdersBytes host) (params : List Value) (row : R
   abbrev Misses : Layer → Type 0
   Misses y = (quiet_layer y ≡ true) × (told (layer (map-Expr Expr (When-F Expr (Unit {0})) Meaning Arm meaning arm_of y) here) ≡ Some false)
 
-  two_miss : (m : Meeting) (x y : Expr) (v w : Value) → Has here x v → Has here y w → (compared host.order c.Equal m v w ≡ Some true → ⊥)
-      → Misses (Compare c.Equal m x y)
-  two_miss m x y v w hx hy never = (
+  two_miss : (op : Comparison) (m : Meeting) (x y : Expr) (v w : Value) → Has here x v → Has here y w → (compared host.order op m v w ≡ Some true → ⊥)
+      → Misses (Compare op m x y)
+  two_miss op m x y v w hx hy never = (
     λ i. hx.0 i && hy.0 i,
-    (λ i. told (and_then (hx.1 i) (λ v. and_then (hy.1 i) (λ w. Ok (truth_value (compared host.order c.Equal m v w))))))
-        ∙ untrue (compared host.order c.Equal m v w) never,
+    (λ i. told (and_then (hx.1 i) (λ v. and_then (hy.1 i) (λ w. Ok (truth_value (compared host.order op m v w))))))
+        ∙ untrue (compared host.order op m v w) never,
   )
 
   misses : (y : Layer) (at : ℕ) (w : Value) → pin_in params at y ≡ Some w → (get_or row at Null ≡ w → ⊥) → Misses y
@@ -180,15 +233,28 @@ module _ (host : Host) (bytes : OrdersBytes host) (params : List Value) (row : R
       elim (chosen (is_column at x) _ _ (Some w) b.1) [
         | inl l ↦ (
             let k = then_some (on_right m.adjusted) (constant params y) w l.1 in
-            two_miss m x y (get_or row at Null) k.0 (column_has here x at l.0) ((says y here).1 k.0 k.1)
+            two_miss c.Equal m x y (get_or row at Null) k.0 (column_has here x at l.0) ((says y here).1 k.0 k.1)
             (λ so. differs (of_right m.adjusted (get_or row at Null) k.0 w k.2 (met host bytes m b.0 (get_or row at Null) k.0 so))))
         | inr other ↦ (
             let r = provided (is_column at y) _ w other.1 in
             let k = then_some (on_left m.adjusted) (constant params x) w r.1 in
-            two_miss m x y k.0 (get_or row at Null) ((says x here).1 k.0 k.1) (column_has here y at r.0)
+            two_miss c.Equal m x y k.0 (get_or row at Null) ((says x here).1 k.0 k.1) (column_has here y at r.0)
             (λ so. differs (of_left m.adjusted (get_or row at Null) k.0 w k.2 (met host bytes m b.0 k.0 (get_or row at Null) so))))
       ]
   misses _ at w h differs = absurd cc
+
+  misses_above : (y : Layer) (at : ℕ) (n v : ℤ) → bound_in params at y ≡ Some (Int n) → get_or row at Null ≡ Int v → v ≤ℤ n → Misses y
+  misses_above (Compare c.Greater m x y) at n v h is low =
+      let b = provided (is_column at x) _ (Int n) h in
+      let k = then_some (on_right m.adjusted) (constant params y) (Int n) b.1 in
+      two_miss c.Greater m x y (get_or row at Null) k.0 (column_has here x at b.0) ((says y here).1 k.0 k.1)
+      (λ so. never_above host m v n k.0 k.2 low (ap (λ u. compared host.order c.Greater m u k.0) (sym is) ∙ so))
+  misses_above (Compare c.Less m x y) at n v h is low =
+      let b = provided (is_column at y) _ (Int n) h in
+      let k = then_some (on_left m.adjusted) (constant params x) (Int n) b.1 in
+      two_miss c.Less m x y k.0 (get_or row at Null) ((says x here).1 k.0 k.1) (column_has here y at b.0)
+      (λ so. never_below host m v n k.0 k.2 low (ap (compared host.order c.Less m k.0) (sym is) ∙ so))
+  misses_above _ at n v h is low = absurd cc
 
   module _ (most : Option ℕ) where
     abbrev m : Meant_by Ordered
@@ -218,6 +284,25 @@ module _ (host : Host) (bytes : OrdersBytes host) (params : List Value) (row : R
           | Some u ↦ λ is k. (let t = term_misses e at w (is ∙ k) differs in or_left _ _ (λ i. t.0 i && is_false (t.1 i)))
         ] refl h
 
+    term_misses_above : (e : Expr) (at : ℕ) (n v : ℤ) → bound params at e ≡ Some (Int n) → get_or row at Null ≡ Int v → v ≤ℤ n
+        → (quiet e ≡ true) × (is_true m (view.plain e) row ≡ Some false)
+    term_misses_above e at n v h is low =
+        let k = misses_above (out-Expr e) at n v h is low in
+        let so : Meant → Option Bool = λ m. option_and_then (λ v. queries.is_so (truth v)) (queries.value_of m) in
+        (k.0, ap (λ b. so (eval_of (queries.at_row (cond b None most) host params row) e)) k.0 ∙ ap so (one_node here e) ∙ k.1)
+
+    some_miss_above : (terms : List Expr) (at : ℕ) (n v : ℤ) → lower_bound params terms at ≡ Some n → get_or row at Null ≡ Int v → v ≤ℤ n
+        → any_missed terms ≡ true
+    some_miss_above [] at n v h is low = absurd cc
+    some_miss_above (e ∷ es) at n v h is low =
+        elim (option_and_then integer (bound params at e)) as (λ o. option_and_then integer (bound params at e) ≡ o → option_or o (lower_bound params es at) ≡ Some n → any_missed (e ∷ es) ≡ true) [
+          | None ↦ λ none k. or_right _ _ (some_miss_above es at n v k is low)
+          | Some u ↦ λ some k. (
+              let b = then_some integer (bound params at e) u some in
+              let t = term_misses_above e at n v (b.1 ∙ ap Some (integer_is b.0 u b.2 ∙ ap Int (some_is u n k))) is low in
+              or_left _ _ (λ i. t.0 i && is_false (t.1 i)))
+        ] refl h
+
     -- the same but for the order of values and aggregates, which no term asks for
     abbrev like : Meant_by Ordered
     like = record m { over = λ e g. None; order = λ e. value_cmp }
@@ -229,3 +314,11 @@ module _ (host : Host) (bytes : OrdersBytes host) (params : List Value) (row : R
         rejected like (record { order_total = λ e. value_total; over_bag = λ e k cs ds s. refl }) (safe most host params)
         (front ++ map view.plain terms) row
         (list_any-append is_missed front (map view.plain terms) ∙ or_right _ _ (some_miss terms d.at d.wanted d.pins d.differs))
+
+    -- so it is with terms that want a column above an integer, where the row has one there that is not
+    pub rejects_below : (front : List Ordered) (terms : List Expr) (at : ℕ) (n v : ℤ) → lower_bound params terms at ≡ Some n
+        → get_or row at Null ≡ Int v → v ≤ℤ n → holds m (front ++ map view.plain terms) row ≡ Some false
+    rejects_below front terms at n v h is low =
+        rejected like (record { order_total = λ e. value_total; over_bag = λ e k cs ds s. refl }) (safe most host params)
+        (front ++ map view.plain terms) row
+        (list_any-append is_missed front (map view.plain terms) ∙ or_right _ _ (some_miss_above terms at n v h is low))

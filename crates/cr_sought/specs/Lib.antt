@@ -1,3 +1,4 @@
 pub mod Sought
 pub mod Laws
 pub mod Writes
+pub mod Bounds

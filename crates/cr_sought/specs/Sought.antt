@@ -1,6 +1,6 @@
 -- Which key the terms of a WHERE ask for: the values that `column = constant` gives to the key columns. Source: this
 -- project's own.
-use Rattle.std.specs.Prelude.{◌≡◌, ℕ, ◌-◌, ◌==◌, Bool, false, not, ◌&&◌, nat_lt, nat_le, cond, List, [], ◌∷◌, length, get_or, slice_get, Option, Some, None}
+use Rattle.std.specs.Prelude.{ℕ, ◌-◌, ◌==◌, Bool, false, not, ◌&&◌, nat_lt, nat_le, cond, List, [], ◌∷◌, length, get_or, slice_get, Option, Some, None}
 use Rattle.std.specs.List.{list_any, position}
 use Rattle.std.specs.Option.{option_and_then, option_map, option_map_or, option_or}
 use Rattle.cr_value.specs.declared.value.Value.{Value}

@@ -1,11 +1,17 @@
 //! Laws of statements that look at one key. The contracts are the theorems; nothing runs.
 
+ghost use Rattle.cr_sought.specs.Bounds.{AnswersAbove};
 ghost use Rattle.cr_sought.specs.Laws.{AnswersByKey, KeysAreKept};
 ghost use Rattle.cr_sought.specs.Writes.{DeletesByKey, UpdatesByKey};
 
 /// A SELECT of one table answers the same over what is kept of the key that its terms tell as over all.
 pub fn answers_by_key()
     ensures { AnswersByKey }
+{}
+
+/// A SELECT of one table answers the same over the rows that are above the bound that its terms tell as over all.
+pub fn answers_above()
+    ensures { AnswersAbove }
 {}
 
 /// What is kept of one key is kept like the whole.

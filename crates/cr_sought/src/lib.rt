@@ -1,6 +1,8 @@
-//! Statements that name the key of their row look at what is kept of that key, and no more.
+//! Statements that name the key of their row look at what is kept of that key, and no more; those that want a column above an
+//! integer need no row that isn't.
 #![tactic(auto)]
 
+pub mod bound;
 pub mod key;
 pub mod laws;
 mod pin;

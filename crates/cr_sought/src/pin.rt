@@ -11,8 +11,8 @@ use cr_value::order::same_bytes;
 use cr_value::value::Value;
 use std::alloc::{AllocError, Global};
 
-// Whether an operand is the column at a place of the row, possibly under COLLATE.
-fn is_column(at: usize, expr: &Expr) -> bool
+/// Whether an operand is the column at a place of the row, possibly under COLLATE.
+pub(crate) fn is_column(at: usize, expr: &Expr) -> bool
     ensures { result ≡ is_column at expr.now }
 {
     match expr {
@@ -22,8 +22,8 @@ fn is_column(at: usize, expr: &Expr) -> bool
     }
 }
 
-// The value of a literal or a parameter, possibly under COLLATE.
-fn constant<'a>(params: &'a [Value], expr: &'a Expr) -> Option<Operand<'a>>
+/// The value of a literal or a parameter, possibly under COLLATE.
+pub(crate) fn constant<'a>(params: &'a [Value], expr: &'a Expr) -> Option<Operand<'a>>
     ensures { result ≡ constant params.now expr.now }
 {
     match expr {
@@ -37,8 +37,8 @@ fn constant<'a>(params: &'a [Value], expr: &'a Expr) -> Option<Operand<'a>>
     }
 }
 
-// What a comparison makes of its right operand, where it leaves the left one as it is.
-fn on_right(
+/// What a comparison makes of its right operand, where it leaves the left one as it is.
+pub(crate) fn on_right(
     alloc: Global,
     adjusted: Adjusted,
     value: Operand<'_>,
@@ -52,8 +52,8 @@ fn on_right(
     }
 }
 
-// What a comparison makes of its left operand, where it leaves the right one as it is.
-fn on_left(
+/// What a comparison makes of its left operand, where it leaves the right one as it is.
+pub(crate) fn on_left(
     alloc: Global,
     adjusted: Adjusted,
     value: Operand<'_>,
