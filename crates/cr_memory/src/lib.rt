@@ -3,22 +3,32 @@
 
 ghost use Rattle.std.specs.Prelude.{◌≡◌, IfErr};
 ghost use Rattle.cr_memory.specs.Open.{IsOpen, always_honest};
-ghost use Rattle.cr_memory.specs.Told.{told, passed_on};
-ghost use Rattle.cr_cells.specs.Calls.{IsRefusal};
+ghost use Rattle.cr_memory.specs.Wants.{as_want};
+ghost use Rattle.cr_cells.specs.declared.store.CellsError.TheVariants.{Memory};
 
-use cr_cells::store::{Cells, CellsError, NewCells, StoreFault};
+use cr_cells::store::{Cells, CellsError, NewCells};
 use cr_disk::MemoryFile;
 use cr_lattice::change::{Change, Site};
 use cr_lattice::stamped::Stamped;
 use cr_lattice::table::{ColumnDef, Table, TableDef};
 use cr_store::store::Store;
-use sqlite::{Connection, Error, ErrorCode, FileStore, Files, Options};
+use sqlite::{Connection, FileStore, Files, Options};
 use std::alloc::Global;
 
 /// A store over a database in memory, which can be made new.
 #[derive(Drop)]
 pub struct MemoryCells {
     store: Store<FileStore<MemoryFile>>,
+}
+
+// What a call of a store over files in memory answers: such a file fails for want of memory alone, and so does the store.
+fn as_want<T>(answer: Result<T, CellsError>) -> Result<T, CellsError>
+    ensures { result ≡ as_want answer }
+{
+    match answer {
+        Err(CellsError::Store(_)) => Err(CellsError::Memory),
+        answer => answer,
+    }
 }
 
 impl Cells for MemoryCells {
@@ -34,19 +44,19 @@ impl Cells for MemoryCells {
     ghost is_clean = { λ m. IsClean over_files m.store.0 };
 
     fn tables(&mut self, alloc: Global) -> Result<Vec<Table>, CellsError> {
-        self.store.tables(alloc)
+        as_want(self.store.tables(alloc))
     }
 
     fn add_table(&mut self, alloc: Global, def: &TableDef) -> Result<(), CellsError> {
-        self.store.add_table(alloc, def)
+        as_want(self.store.add_table(alloc, def))
     }
 
     fn mark_crr(&mut self, alloc: Global, name: &str) -> Result<(), CellsError> {
-        self.store.mark_crr(alloc, name)
+        as_want(self.store.mark_crr(alloc, name))
     }
 
     fn add_replicated(&mut self, alloc: Global, def: &TableDef) -> Result<(), CellsError> {
-        self.store.add_replicated(alloc, def)
+        as_want(self.store.add_replicated(alloc, def))
     }
 
     fn add_column(
@@ -55,11 +65,11 @@ impl Cells for MemoryCells {
         table: &str,
         column: &ColumnDef,
     ) -> Result<(), CellsError> {
-        self.store.add_column(alloc, table, column)
+        as_want(self.store.add_column(alloc, table, column))
     }
 
     fn since(&mut self, alloc: Global, version: i64) -> Result<Vec<Stamped>, CellsError> {
-        self.store.since(alloc, version)
+        as_want(self.store.since(alloc, version))
     }
 
     fn cells_of(
@@ -68,11 +78,11 @@ impl Cells for MemoryCells {
         table: &str,
         pk: &[u8],
     ) -> Result<Vec<Stamped>, CellsError> {
-        self.store.cells_of(alloc, table, pk)
+        as_want(self.store.cells_of(alloc, table, pk))
     }
 
     fn cells_of_table(&mut self, alloc: Global, table: &str) -> Result<Vec<Stamped>, CellsError> {
-        self.store.cells_of_table(alloc, table)
+        as_want(self.store.cells_of_table(alloc, table))
     }
 
     fn commit(
@@ -81,11 +91,11 @@ impl Cells for MemoryCells {
         changes: &[Change],
         peer: Option<(Site, i64)>,
     ) -> Result<bool, CellsError> {
-        self.store.commit(alloc, changes, peer)
+        as_want(self.store.commit(alloc, changes, peer))
     }
 
     fn seen(&mut self, alloc: Global, site: Site) -> Result<i64, CellsError> {
-        self.store.seen(alloc, site)
+        as_want(self.store.seen(alloc, site))
     }
 
     fn db_version(&self) -> i64 {
@@ -97,31 +107,9 @@ impl Cells for MemoryCells {
     }
 }
 
-// What an error of sqlite is to a caller: want of memory is `Memory`, whatever else sqlite refuses is `Refused`.
-fn told(error: Error) -> CellsError
-    ensures told { result ≡ told error }
-    ensures refusal { IsRefusal result }
-{
-    match error {
-        Error::SqliteFailure(ErrorCode::OutOfMemory) => CellsError::Memory,
-        _ => CellsError::Store(StoreFault::Refused),
-    }
-}
-
-// What an error of a store that is made is to a caller, over a database of which no one else knows.
-fn passed_on(error: CellsError) -> CellsError
-    ensures told { result ≡ passed_on error }
-    ensures refusal { IsRefusal result }
-{
-    match error {
-        CellsError::Memory => CellsError::Memory,
-        _ => CellsError::Store(StoreFault::Refused),
-    }
-}
-
 // An empty database in two files in memory. What tells one run from another on a disk, the seed, tells nothing here.
 fn connection(alloc: Global) -> Result<Connection<FileStore<MemoryFile>>, CellsError>
-    ensures { IfErr result IsRefusal }
+    ensures { IfErr result (λ e. e ≡ Memory) }
 {
     let files = Files {
         log: MemoryFile::new(alloc),
@@ -129,7 +117,8 @@ fn connection(alloc: Global) -> Result<Connection<FileStore<MemoryFile>>, CellsE
     };
     match Connection::open_files(alloc, files, Options::new(0)) {
         Ok(conn) => Ok(conn),
-        Err((error, _)) => Err(told(error)),
+        // which a file in memory refuses for want of memory alone
+        Err(_) => Err(CellsError::Memory),
     }
 }
 
@@ -141,7 +130,7 @@ impl NewCells for MemoryCells {
     fn create(alloc: Global, site: Site) -> Result<MemoryCells, CellsError> {
         match Store::create(alloc, connection(alloc)?, site) {
             Ok(store) => Ok(MemoryCells { store }),
-            Err((error, _)) => Err(passed_on(error)),
+            Err(_) => Err(CellsError::Memory),
         }
     }
 }

@@ -12,3 +12,4 @@ pub mod Opening
 pub mod StoredOrders
 pub mod Asking
 pub mod Laws
+pub mod Told

@@ -8,6 +8,7 @@ ghost use Rattle.sqlite_value.specs.Value.{owned};
 ghost use Rattle.cr_cells.specs.Calls.{IsRefusal, is_want};
 ghost use Rattle.cr_store.specs.Ordinals.{ordinal};
 ghost use Rattle.cr_store.specs.Rows.{value_of, cell_row, cell_of, name_in, value_in};
+ghost use Rattle.cr_store.specs.Told.{told};
 
 use crate::format::Format;
 use crate::ordinals::{name_at, ordinal};
@@ -27,6 +28,7 @@ pub(crate) const OUT_OF_MEMORY: Error = Error::SqliteFailure(ErrorCode::OutOfMem
 
 /// What an error of sqlite is to a caller: want of memory is `Memory`, whatever else sqlite refuses is `Refused`.
 pub(crate) fn refusal(error: Error) -> CellsError
+    ensures told { result ≡ told error }
     ensures refusal { IsRefusal result }
     ensures wants { is_want result ≡ true }
 {
