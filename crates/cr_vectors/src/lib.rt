@@ -13,8 +13,6 @@ mod formats;
 #[cfg(test)]
 mod guard;
 #[cfg(test)]
-mod hosted;
-#[cfg(test)]
 mod replica;
 #[cfg(test)]
 mod session;

@@ -1,15 +1,13 @@
-//! A statement with values for its parameters, in a session over the plain store; and a session over a file.
+//! A session over a file.
 
 use crate::store::{open_unnamed, opened_again};
-use cr_cells::plain::PlainCells;
 use cr_cells::store::Cells;
 use cr_guard::policy::Policy;
 use cr_host::functions::BuiltIns;
 use cr_session::session::Session;
 use cr_store::store::Store;
-use cr_told::reading::{A, values};
+use cr_told::reading::A;
 use cr_told::writing::told_rows;
-use cr_value::value::Value;
 use cr_world::command::Reply;
 use cr_world::refusal::Refusal;
 use sqlite::Alter;
@@ -26,37 +24,15 @@ fn told(alloc: Global, outcome: &Result<Reply, Refusal>) -> Result<String, Alloc
     }
 }
 
-// What a session answers to a text with these values.
+// What a session answers to a text.
 fn replied<C: Cells>(
     alloc: Global,
     session: &mut Session<C>,
     text: &str,
-    given: &[Value],
 ) -> Result<String, AllocError> {
     let policy = Policy::new(alloc);
-    let outcome = session.execute(alloc, &BuiltIns, &policy, text, given);
+    let outcome = session.execute(alloc, &BuiltIns, &policy, text, &[]);
     told(alloc, &outcome)
-}
-
-// What a new session answers to it.
-fn answer(alloc: Global, text: &str, given: &str) -> Result<String, Fail> {
-    let mut session = Session::new(PlainCells::new(alloc, A));
-    let given = values(alloc, given)?;
-    Ok(replied(alloc, &mut session, text, &given)?)
-}
-
-#[test]
-fn a_statement_takes_values(rt: HostRuntime) -> Result<(), Fail> {
-    let alloc = rt.alloc();
-    assert_eq!(rt;
-        answer(alloc, "SELECT ? || ?1, ?3", "'a'|2|NULL")?.as_str(),
-        "'aa'|NULL"
-    );
-    assert_eq!(rt;
-        answer(alloc, "SELECT ? || ?1, ?3", "'a'|2")?.as_str(),
-        "Parameters"
-    );
-    Ok(())
 }
 
 // A table with two rows in the store, of which the one was changed.
@@ -75,7 +51,7 @@ fn write_rows<C: Cells>(
         ("DELETE FROM t", "done"),
     ];
     for (text, wanted) in statements {
-        assert_eq!(rt; replied(alloc, session, text, &[])?.as_str(), wanted);
+        assert_eq!(rt; replied(alloc, session, text)?.as_str(), wanted);
     }
     Ok(())
 }
@@ -87,13 +63,7 @@ fn shows_rows<C: Cells>(
     mut session: Session<C>,
 ) -> Result<(), Fail> {
     assert_eq!(rt;
-        replied(
-            alloc,
-            &mut session,
-            "SELECT id, name FROM t ORDER BY id",
-            &[]
-        )?
-        .as_str(),
+        replied(alloc, &mut session, "SELECT id, name FROM t ORDER BY id")?.as_str(),
         "1|'dee' / 2|'bob'"
     );
     Ok(())
