@@ -6,7 +6,7 @@ ghost use Rattle.std.specs.Char.{is_ascii_alphanumeric};
 ghost use Rattle.cr_lattice.specs.Check.{same_bytes};
 ghost use Rattle.cr_world.specs.Answers.{is_replica_name};
 
-use cr_cells::store::{NewCells, StoreFault};
+use cr_cells::store::{Cells, NewCells, StoreFault};
 use cr_guard::guarding::Guarding;
 use cr_guard::policy::PolicyRule;
 use cr_host::functions::Functions;
@@ -41,19 +41,19 @@ fn is_replica_name(name: &str) -> bool
 
 // A replica of a fleet, by its name.
 #[derive(Drop)]
-struct Named<C: Drop> {
+struct Named<C: Cells> {
     name: Text,
     session: Session<C>,
 }
 
 /// Replicas by their names, of which one may be in use.
 #[derive(Drop)]
-pub struct Fleet<C: Drop> {
+pub struct Fleet<C: Cells> {
     replicas: Vec<Named<C>>,
     in_use: Option<usize>,
 }
 
-impl<C: Drop> Model for Fleet<C> {
+impl<C: Cells> Model for Fleet<C> {
     ghost use Rattle.std.specs.Prelude.{map};
     ghost use Rattle.cr_session.specs.Sessions.{SessionOf};
     ghost use Rattle.cr_fleet.specs.Fleets.{FleetOf};
@@ -64,7 +64,7 @@ impl<C: Drop> Model for Fleet<C> {
 }
 
 // The place of the replica of that name.
-fn place_of<C: Drop>(replicas: &[Named<C>], name: &str) -> Option<usize>
+fn place_of<C: Cells>(replicas: &[Named<C>], name: &str) -> Option<usize>
     ensures { result ≡ position (λ r. same_bytes r.name name.now) replicas.now }
 {
     replicas.iter().position(|named| same_bytes(named.name.as_str().as_bytes(), name.as_bytes()))
@@ -175,15 +175,17 @@ impl<C: NewCells> Fleet<C> {
         &mut self,
         alloc: Global,
         functions: &F,
-        guard: &G,
+        guard: &mut G,
         command: &Command,
     ) -> FleetReply
         requires functions { F.is_faithful functions.now }
-        requires guard { G.is_faithful guard.now }
+        requires guard { G.is_faithful guard.old }
         requires ready { IsReady command.now }
         requires own { is_own command.now ≡ true }
-        ensures { (has : List ℕ → Bool) → ⟦<F as Speaking>⟧.are_names functions.now has
-            → Steps (⟦<F as Speaking>⟧.language functions.now has) (⟦<G as Watching>⟧.closures guard.now) (clean C.is_clean) (standing C.holding) (G.rules guard.now) self.old command.now result (G.rules guard.now) self.new }
+        ensures steps { (has : List ℕ → Bool) → ⟦<F as Speaking>⟧.are_names functions.now has
+            → Steps (⟦<F as Speaking>⟧.language functions.now has) (⟦<G as Watching>⟧.closures guard.old) (clean C.is_clean) (standing C.holding) (G.rules guard.old) self.old command.now result (G.rules guard.new) self.new }
+        ensures closures { ⟦<G as Watching>⟧.closures guard.new ≡ ⟦<G as Watching>⟧.closures guard.old }
+        ensures faithful { G.is_faithful guard.new }
     {
         let Some(at) = self.in_use else {
             return FleetReply::Refused(Refusal::NoReplica);
@@ -194,9 +196,11 @@ impl<C: NewCells> Fleet<C> {
         named.session.step(alloc, functions, guard, command)
     }
 
-    fn pull<G: Guarding>(&mut self, alloc: Global, guard: &G, name: &Text) -> FleetReply
-        requires { G.is_faithful guard.now }
-        ensures { (l : Language Statement Ordered) → Steps l (⟦<G as Watching>⟧.closures guard.now) (clean C.is_clean) (standing C.holding) (G.rules guard.now) self.old (Pull name.now) result (G.rules guard.now) self.new }
+    fn pull<G: Guarding>(&mut self, alloc: Global, guard: &mut G, name: &Text) -> FleetReply
+        requires { G.is_faithful guard.old }
+        ensures steps { (l : Language Statement Ordered) → Steps l (⟦<G as Watching>⟧.closures guard.old) (clean C.is_clean) (standing C.holding) (G.rules guard.old) self.old (Pull name.now) result (G.rules guard.new) self.new }
+        ensures closures { ⟦<G as Watching>⟧.closures guard.new ≡ ⟦<G as Watching>⟧.closures guard.old }
+        ensures faithful { G.is_faithful guard.new }
     {
         let Some(at) = self.in_use else {
             return FleetReply::Refused(Refusal::NoReplica);
@@ -233,14 +237,17 @@ impl<C: NewCells> Fleet<C> {
     fn take_since<G: Guarding>(
         &mut self,
         alloc: Global,
-        guard: &G,
+        guard: &mut G,
         at: usize,
         from: usize,
         seen: i64,
     ) -> FleetReply
-        requires { G.is_faithful guard.now }
-        ensures { (l : Language Statement Ordered) (name : List ℕ) → IsOffered (clean C.is_clean) (standing C.holding) self.old name at from seen
-            → Steps l (⟦<G as Watching>⟧.closures guard.now) (clean C.is_clean) (standing C.holding) (G.rules guard.now) self.old (PullSince name) result (G.rules guard.now) self.new }
+        requires { G.is_faithful guard.old }
+        ensures steps { (l : Language Statement Ordered) (name : List ℕ) → IsOffered (clean C.is_clean) (standing C.holding) self.old name at from seen
+            → Steps l (⟦<G as Watching>⟧.closures guard.old) (clean C.is_clean) (standing C.holding) (G.rules guard.old) self.old (PullSince name) result (G.rules guard.old) self.new }
+        ensures rules { G.rules guard.new ≡ G.rules guard.old }
+        ensures closures { ⟦<G as Watching>⟧.closures guard.new ≡ ⟦<G as Watching>⟧.closures guard.old }
+        ensures faithful { G.is_faithful guard.new }
     {
         let Some(peer) = self.replicas.get_mut(from) else {
             return FleetReply::Refused(Refusal::NoReplica);
@@ -264,9 +271,11 @@ impl<C: NewCells> Fleet<C> {
         )
     }
 
-    fn pull_since<G: Guarding>(&mut self, alloc: Global, guard: &G, name: &Text) -> FleetReply
-        requires { G.is_faithful guard.now }
-        ensures { (l : Language Statement Ordered) → Steps l (⟦<G as Watching>⟧.closures guard.now) (clean C.is_clean) (standing C.holding) (G.rules guard.now) self.old (PullSince name.now) result (G.rules guard.now) self.new }
+    fn pull_since<G: Guarding>(&mut self, alloc: Global, guard: &mut G, name: &Text) -> FleetReply
+        requires { G.is_faithful guard.old }
+        ensures steps { (l : Language Statement Ordered) → Steps l (⟦<G as Watching>⟧.closures guard.old) (clean C.is_clean) (standing C.holding) (G.rules guard.old) self.old (PullSince name.now) result (G.rules guard.new) self.new }
+        ensures closures { ⟦<G as Watching>⟧.closures guard.new ≡ ⟦<G as Watching>⟧.closures guard.old }
+        ensures faithful { G.is_faithful guard.new }
     {
         let Some(at) = self.in_use else {
             return FleetReply::Refused(Refusal::NoReplica);

@@ -1,6 +1,6 @@
 //! What the layers above ask of a host's authorizer, policy, commit hook and listener.
 
-ghost use Rattle.std.specs.Prelude.{◌≡◌, ◌≢◌, [], false, None, IsOk, OnOk, OnErr};
+ghost use Rattle.std.specs.Prelude.{◌≡◌, ◌≢◌, [], false, None, is_some, IsOk, OnOk, OnErr};
 ghost use Rattle.cr_guard.specs.Policy.{wants_memory, with_rule};
 ghost use Rattle.cr_guard.specs.Guard.{asked, vetoed};
 
@@ -68,6 +68,11 @@ pub trait Guarding {
         requires { is_faithful self.now }
         ensures { result ≡ vetoed (rules self.now) (refuses self.now) changes.now };
 
+    /// Whether there is a listener. Always answers.
+    fn listens(&self) -> bool
+        requires { is_faithful self.now }
+        ensures { result ≡ is_some (noted self.now) };
+
     /// Tells the listener of all of the events at once; of none it isn't told. Refused for want of memory, it has heard
     /// none of them.
     fn tell(&mut self, events: &[Event]) -> Result<(), AllocError>
@@ -126,6 +131,10 @@ impl<H: HostMeaning> Guarding for Guard<H> {
         }
     }
 
+    fn listens(&self) -> bool {
+        self.listener.is_some()
+    }
+
     fn tell(&mut self, events: &[Event]) -> Result<(), AllocError> {
         if events.is_empty() {
             return Ok(());
@@ -168,6 +177,10 @@ impl Guarding for Policy {
 
     fn vetoes(&self, changes: &[Change]) -> bool {
         !changes.is_empty() && self.refuses(changes.len())
+    }
+
+    fn listens(&self) -> bool {
+        false
     }
 
     fn tell(&mut self, _events: &[Event]) -> Result<(), AllocError> {

@@ -1,3 +1,4 @@
 pub mod Naming
 pub mod Showing
 pub mod Updating
+pub mod Hearing

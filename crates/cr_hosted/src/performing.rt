@@ -54,7 +54,9 @@ impl<C: Cells, M: Module> HostedSession<C, M> {
     ghost use Rattle.cr_scalar.specs.Host.{Host as Means};
     ghost use Rattle.cr_snapshot.specs.Seen.{IsNamed, catalog_of};
     ghost use Rattle.cr_term.specs.declared.query.Resolved.TheVariants as r;
+    ghost use Rattle.cr_world.specs.State.{heard_between};
     ghost use Rattle.cr_world.specs.Statement.{Host, is_module_target};
+    ghost use Rattle.cr_script.specs.Hearing.{Hears};
     ghost use Rattle.cr_session.specs.Performing.{PerformedWith, is_performed};
     ghost use Rattle.cr_session.specs.Sessions.{standing};
 
@@ -92,7 +94,8 @@ impl<C: Cells, M: Module> HostedSession<C, M> {
         requires functions { F.is_faithful functions.now }
         requires of_host { is_module_target (target insert.now.relation) ≡ true }
         requires columns { ForSome (module_in (⟦<Modules<M> as StandAll>⟧.states self.old.modules) insert.now.relation.definition.name) (λ m. m.columns ≡ insert.now.relation.definition.columns) }
-        ensures { (host : Host) → PerformedWith (⟦<F as Hosted>⟧.means functions.now) params.now host (⟦<HostedSession<C, M> as Executor>⟧.is_honest) (⟦<HostedSession<C, M> as Executor>⟧.is_clean) (⟦<HostedSession<C, M> as Executor>⟧.stands) self.old (r.Insert insert.now) result self.new }
+        ensures performs { (host : Host) → PerformedWith (⟦<F as Hosted>⟧.means functions.now) params.now host (⟦<HostedSession<C, M> as Executor>⟧.is_honest) (⟦<HostedSession<C, M> as Executor>⟧.is_clean) (⟦<HostedSession<C, M> as Executor>⟧.stands) self.old (r.Insert insert.now) result self.new }
+        ensures session { self.new.session ≡ self.old.session }
     {
         if self.session.in_transaction() {
             return Err(Refusal::TransactionState);
@@ -131,20 +134,22 @@ impl<C: Cells, M: Module> HostedSession<C, M> {
         &mut self,
         alloc: Global,
         functions: &F,
-        guard: &G,
+        guard: &mut G,
         names: Snapshot,
         statement: &Resolved,
         params: &[Value],
     ) -> Result<Reply, Refusal>
         requires functions { F.is_faithful functions.now }
-        requires guard { G.is_faithful guard.now }
+        requires guard { G.is_faithful guard.old }
         requires sound { C.is_clean self.old.session.0 → IsSound (C.holding self.old.session.0) }
         requires named { C.is_clean self.old.session.0 → IsNamed (⟦<HostedSession<C, M> as Executor>⟧.stands self.old) names }
         requires whole { IsWhole (alone names) }
         requires listed { names.modules ≡ map definition_listed (⟦<Modules<M> as StandAll>⟧.states self.old.modules) }
         requires suits { Suits (catalog_of names) statement.now }
         requires form { is_performed statement.now ≡ true }
-        ensures { PerformedWith (⟦<F as Hosted>⟧.means functions.now) params.now (⟦<G as Watching>⟧.host guard.now) (⟦<HostedSession<C, M> as Executor>⟧.is_honest) (⟦<HostedSession<C, M> as Executor>⟧.is_clean) (⟦<HostedSession<C, M> as Executor>⟧.stands) self.old statement.now result self.new }
+        ensures performs { PerformedWith (⟦<F as Hosted>⟧.means functions.now) params.now (⟦<G as Watching>⟧.host guard.old) (⟦<HostedSession<C, M> as Executor>⟧.is_honest) (⟦<HostedSession<C, M> as Executor>⟧.is_clean) (⟦<HostedSession<C, M> as Executor>⟧.stands) self.old statement.now result self.new }
+        ensures guard { ⟦<G as Watching>⟧.stays guard.old guard.new }
+        ensures heard { (⟦<HostedSession<C, M> as Executor>⟧.is_clean) self.new → Hears (⟦<G as Watching>⟧.hears guard.old guard.new) (heard_between (⟦<HostedSession<C, M> as Executor>⟧.stands self.old) (⟦<HostedSession<C, M> as Executor>⟧.stands self.new)) result }
     {
         let touches = touches(&self.modules, statement);
         let names = without_modules(alloc, names);

@@ -26,7 +26,7 @@ use std::alloc::Global;
 /// tables and modules: SELECT reads the rows of either, and INSERT hands rows to a module in one update. What a module's
 /// update changes is no part of a transaction, so that it is refused inside one.
 #[derive(Drop)]
-pub struct HostedSession<C: Drop, M: Drop> {
+pub struct HostedSession<C: Cells, M: Drop> {
     pub(crate) session: Session<C>,
     pub(crate) modules: Modules<M>,
 }
@@ -39,6 +39,7 @@ impl<C: Cells, M: Module> HostedSession<C, M> {
     ghost use Rattle.cr_fit.specs.Folded.{DefinesFolded};
     ghost use Rattle.cr_replica.specs.Snapshots.{IsWhole};
     ghost use Rattle.cr_modules.specs.States.{definition_listed, made};
+    ghost use Rattle.cr_script.specs.Hearing.{Hears, HearsAll, heard_of_piece, heard_of_statement};
     ghost use Rattle.cr_script.specs.Scripts.{Carries, CarriesAll, Executed};
     ghost use Rattle.cr_session.specs.Sessions.{Names};
     ghost use Rattle.cr_hosted.specs.Hosted.{IsRegistered, alone};
@@ -92,15 +93,17 @@ impl<C: Cells, M: Module> HostedSession<C, M> {
         &mut self,
         alloc: Global,
         functions: &F,
-        guard: &G,
+        guard: &mut G,
         statement: &Statement,
         params: &[Value],
     ) -> Result<Reply, Refusal>
         requires functions { F.is_faithful functions.now }
-        requires guard { G.is_faithful guard.now }
+        requires guard { G.is_faithful guard.old }
         requires folded { DefinesFolded statement.now }
-        ensures { (has : List ℕ → Bool) → ⟦<F as Speaking>⟧.are_names functions.now has
-            → Carries (⟦<F as Speaking>⟧.language functions.now has) (⟦<G as Watching>⟧.host guard.now) (⟦<HostedSession<C, M> as Executor>⟧.is_honest) (⟦<HostedSession<C, M> as Executor>⟧.is_clean) (⟦<HostedSession<C, M> as Executor>⟧.stands) self.old params.now statement.now result self.new }
+        ensures carries { (has : List ℕ → Bool) → ⟦<F as Speaking>⟧.are_names functions.now has
+            → Carries (⟦<F as Speaking>⟧.language functions.now has) (⟦<G as Watching>⟧.host guard.old) (⟦<HostedSession<C, M> as Executor>⟧.is_honest) (⟦<HostedSession<C, M> as Executor>⟧.is_clean) (⟦<HostedSession<C, M> as Executor>⟧.stands) self.old params.now statement.now result self.new }
+        ensures guard { ⟦<G as Watching>⟧.stays guard.old guard.new }
+        ensures heard { (⟦<HostedSession<C, M> as Executor>⟧.is_clean) self.new → Hears (⟦<G as Watching>⟧.hears guard.old guard.new) (heard_of_statement statement.now (⟦<HostedSession<C, M> as Executor>⟧.stands self.old) (⟦<HostedSession<C, M> as Executor>⟧.stands self.new)) result }
     {
         if is_transaction(statement) {
             return self
@@ -148,13 +151,16 @@ impl<C: Cells, M: Module> HostedSession<C, M> {
         &mut self,
         alloc: Global,
         functions: &F,
-        guard: &G,
+        guard: &mut G,
         source: &str,
     ) -> Script
         requires functions { F.is_faithful functions.now }
-        requires guard { G.is_faithful guard.now }
-        ensures { (has : List ℕ → Bool) → ⟦<F as Speaking>⟧.are_names functions.now has
-            → CarriesAll (⟦<F as Speaking>⟧.language functions.now has) (⟦<G as Watching>⟧.host guard.now) (⟦<HostedSession<C, M> as Executor>⟧.is_honest) (⟦<HostedSession<C, M> as Executor>⟧.is_clean) (⟦<HostedSession<C, M> as Executor>⟧.stands) self.old ((⟦<F as Speaking>⟧.language functions.now has).pieces source.now) result.replies result.refusal self.new }
+        requires guard { G.is_faithful guard.old }
+        ensures carries { (has : List ℕ → Bool) → ⟦<F as Speaking>⟧.are_names functions.now has
+            → CarriesAll (⟦<F as Speaking>⟧.language functions.now has) (⟦<G as Watching>⟧.host guard.old) (⟦<HostedSession<C, M> as Executor>⟧.is_honest) (⟦<HostedSession<C, M> as Executor>⟧.is_clean) (⟦<HostedSession<C, M> as Executor>⟧.stands) self.old ((⟦<F as Speaking>⟧.language functions.now has).pieces source.now) result.replies result.refusal self.new }
+        ensures guard { ⟦<G as Watching>⟧.stays guard.old guard.new }
+        ensures heard { (has : List ℕ → Bool) → ⟦<F as Speaking>⟧.are_names functions.now has → (⟦<HostedSession<C, M> as Executor>⟧.is_clean) self.new
+            → HearsAll (⟦<F as Speaking>⟧.language functions.now has) (⟦<G as Watching>⟧.host guard.old) (⟦<G as Watching>⟧.hears) guard.old ((⟦<HostedSession<C, M> as Executor>⟧.stands) self.old) ((⟦<F as Speaking>⟧.language functions.now has).pieces source.now) result.replies result.refusal guard.new }
     {
         run_script(alloc, self, functions, guard, source)
     }
@@ -171,14 +177,17 @@ impl<C: Cells, M: Module> HostedSession<C, M> {
         &mut self,
         alloc: Global,
         functions: &F,
-        guard: &G,
+        guard: &mut G,
         source: &str,
         params: &[Value],
     ) -> Result<Reply, Refusal>
         requires functions { F.is_faithful functions.now }
-        requires guard { G.is_faithful guard.now }
-        ensures { (has : List ℕ → Bool) → ⟦<F as Speaking>⟧.are_names functions.now has
-            → Executed (⟦<F as Speaking>⟧.language functions.now has) (⟦<G as Watching>⟧.host guard.now) (⟦<HostedSession<C, M> as Executor>⟧.is_honest) (⟦<HostedSession<C, M> as Executor>⟧.is_clean) (⟦<HostedSession<C, M> as Executor>⟧.stands) self.old params.now ((⟦<F as Speaking>⟧.language functions.now has).single source.now) result self.new }
+        requires guard { G.is_faithful guard.old }
+        ensures executes { (has : List ℕ → Bool) → ⟦<F as Speaking>⟧.are_names functions.now has
+            → Executed (⟦<F as Speaking>⟧.language functions.now has) (⟦<G as Watching>⟧.host guard.old) (⟦<HostedSession<C, M> as Executor>⟧.is_honest) (⟦<HostedSession<C, M> as Executor>⟧.is_clean) (⟦<HostedSession<C, M> as Executor>⟧.stands) self.old params.now ((⟦<F as Speaking>⟧.language functions.now has).single source.now) result self.new }
+        ensures guard { ⟦<G as Watching>⟧.stays guard.old guard.new }
+        ensures heard { (has : List ℕ → Bool) → ⟦<F as Speaking>⟧.are_names functions.now has
+            → (⟦<HostedSession<C, M> as Executor>⟧.is_clean) self.new → Hears (⟦<G as Watching>⟧.hears guard.old guard.new) (heard_of_piece ((⟦<F as Speaking>⟧.language functions.now has).single source.now) (⟦<HostedSession<C, M> as Executor>⟧.stands self.old) (⟦<HostedSession<C, M> as Executor>⟧.stands self.new)) result }
     {
         execute(alloc, self, functions, guard, source, params)
     }
@@ -198,7 +207,7 @@ impl<C: Cells, M: Module> Executor for HostedSession<C, M> {
         &mut self,
         alloc: Global,
         functions: &F,
-        guard: &G,
+        guard: &mut G,
         statement: &Statement,
         params: &[Value],
     ) -> Result<Reply, Refusal> {

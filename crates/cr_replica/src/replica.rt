@@ -19,6 +19,7 @@ use cr_lattice::merge::merge;
 use cr_lattice::rows::rows;
 use cr_lattice::stamped::Stamped;
 use cr_lattice::table::{ColumnDef, Items, Row, TableDef};
+use cr_recent::recent::Recent;
 use cr_value::order::same_bytes;
 use cr_value::text::{Bytes, Text};
 use std::alloc::{AllocError, Global};
@@ -173,11 +174,11 @@ pub struct Taking<'a> {
 
 /// A replica over a store of cells.
 #[derive(Drop)]
-pub struct Replica<C: Drop> {
-    cells: C,
+pub struct Replica<C: Cells> {
+    cells: Recent<C>,
 }
 
-impl<C: Drop> Model for Replica<C> {
+impl<C: Cells> Model for Replica<C> {
     ghost Value = { C };
 
     ghost view = { λ r. r.cells };
@@ -205,14 +206,16 @@ impl<C: Cells> Replica<C> {
     pub fn new(cells: C) -> Replica<C>
         ensures { result ≡ cells }
     {
-        Replica { cells }
+        Replica {
+            cells: Recent::new(cells),
+        }
     }
 
     /// The store as it stands.
     pub fn into_cells(self) -> C
         ensures { result ≡ self }
     {
-        self.cells
+        self.cells.into_cells()
     }
 
     /// Defines a replicated table, whose columns' collations are among those that the functions know. Its names are in

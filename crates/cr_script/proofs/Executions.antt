@@ -28,13 +28,15 @@ use Rattle.cr_language.specs.Engines.{OrderOf, AreTotal}
 use Rattle.cr_language.specs.Sql.{empty_single, nothing_behind, of_unread, read_single, single_of, too_long}
 use Rattle.cr_language.specs.Texts.{tokens_of}
 use Rattle.cr_language.proofs.Texts.{have_tokens}
+use Rattle.cr_guard.specs.declared.event.Event.{Event}
+use Rattle.cr_script.specs.Hearing.{Hears, heard_of_piece}
 use Rattle.cr_script.specs.Speaking.{spoken}
 use Rattle.cr_script.specs.Scripts.{Carries, Executed, is_empty, next, second_place, single_left}
 use Rattle.cr_script.proofs.Scripting.{ReadsNext, Told}
 
 -- ---- what the text is
 
-empty_is : (source : List ℕ) (tokens : List Token) → is_empty source tokens ≡ true → second_place tokens ≡ None → single_left source tokens ≡ None
+pub empty_is : (source : List ℕ) (tokens : List Token) → is_empty source tokens ≡ true → second_place tokens ≡ None → single_left source tokens ≡ None
 unfolding single_left
 empty_is source [] e none = refl
 empty_is source (t ∷ []) e none = ap (λ (b : Bool). if b then None else Some (read_single (t ∷ []) (told source (t ∷ []) (judged source (t ∷ []))))) e
@@ -107,6 +109,10 @@ behind_is p [] at e = absurd (let z : ⊥ = cc in z)
 behind_is p (t ∷ []) at e = absurd (let z : ⊥ = cc in z)
 behind_is p (t ∷ u ∷ us) at e = let same : u.from ≡ at = cc in ap (λ (n : ℕ). language.Unread (Syntax n)) same
 
+pub piece_read : (source : List ℕ) (tokens : List Token) (x : Statement) (n : ℕ) → is_empty source tokens ≡ false → next source tokens ≡ Ok (Some (x, n)) → second_place (drop n tokens) ≡ None
+    → single_left source tokens ≡ Some (language.Statement x)
+piece_read source tokens x n e f none = read_is source tokens x n e f ∙ ap Some (last_is (language.Statement x) (drop n tokens) none)
+
 -- ---- what is made of it
 
 module _ {E C : Type 0} (l : Language Statement E) (host : Host) (is_honest is_clean : C → Type 0) (stands : C → State) (source : List ℕ) (tokens : List Token) (params : List Value) (old : C) where
@@ -137,9 +143,6 @@ module _ {E C : Type 0} (l : Language Statement E) (host : Host) (is_honest is_c
       (read_is source tokens x n e f ∙ ap Some (behind_is (language.Statement x) (drop n tokens) at some)) (inl refl, refl)
 
   module _ (x : Statement) (n : ℕ) (new : C) (e : is_empty source tokens ≡ false) (f : next source tokens ≡ Ok (Some (x, n))) (none : second_place (drop n tokens) ≡ None) where
-    piece_read : single_left source tokens ≡ Some (language.Statement x)
-    piece_read = read_is source tokens x n e f ∙ ap Some (last_is (language.Statement x) (drop n tokens) none)
-
     given : (result : Result Reply Refusal) → Carries l host is_honest is_clean stands old params x result new → is_clean new → Executes l host (stands old) params (Some (language.Statement x)) result (stands new)
     given (Ok reply) c clean = ((stands new).modules, (c.answers clean, sym (c.leaves clean)))
     given (Err r) c clean = (((c.answers clean).0, refl), sym (c.leaves clean))
@@ -149,7 +152,7 @@ module _ {E C : Type 0} (l : Language Statement E) (host : Host) (is_honest is_c
       was_honest = c.was_honest;
       was_clean = c.was_clean;
       stays_clean = c.stays_clean;
-      executes = λ clean. subst (λ (p : Option (Piece Statement)). Executes l host (stands old) params p result (stands new)) (sym piece_read) (given result c clean);
+      executes = λ clean. subst (λ (p : Option (Piece Statement)). Executes l host (stands old) params p result (stands new)) (sym (piece_read source tokens x n e f none)) (given result c clean);
     }
 
   -- ---- it isn't read
@@ -196,6 +199,10 @@ module _ {C : Type 0} (function_of : List ℕ → ℕ → Option Definition) (sc
       let within : length source ≤ 1000000 = omega (arith, short) in
       let same : tokens_of source ≡ tokens = one_list source 0 (tokens_of source) tokens (have_tokens source) are in
       ap (λ (b : Bool). if b then Some too_long else single_of source (tokens_of source)) (le-ltb 1000000 (length source) within) ∙ ap (single_of source) same
+
+  pub hears_whole : {T : Type 0} (hears : List Event → Type 0) (tokens : List Token) (left : State) (result : Result T Refusal) → (1000000 < length source → ⊥) → IsTokens source 0 tokens
+      → Hears hears (heard_of_piece (single_left source tokens) (stands old) left) result → Hears hears (heard_of_piece (meant.single source) (stands old) left) result
+  hears_whole hears tokens left result short are h = subst (λ (p : Option (Piece Statement)). Hears hears (heard_of_piece p (stands old) left) result) (sym (whole tokens short are)) h
 
   pub executes_whole : (tokens : List Token) (result : Result Reply Refusal) → (1000000 < length source → ⊥) → IsTokens source 0 tokens → Whole (single_left source tokens) result new → Whole (meant.single source) result new
   executes_whole tokens result short are h = subst (λ (p : Option (Piece Statement)). Whole p result new) (sym (whole tokens short are)) h

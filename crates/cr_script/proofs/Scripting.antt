@@ -28,6 +28,8 @@ use Rattle.cr_language.specs.Engines.{OrderOf, AreTotal}
 use Rattle.cr_language.specs.Sql.{of_unread, piece, too_long}
 use Rattle.cr_language.specs.Texts.{tokens_of}
 use Rattle.cr_language.proofs.Texts.{have_tokens}
+use Rattle.cr_guard.specs.declared.event.Event.{Event}
+use Rattle.cr_script.specs.Hearing.{HearsAll}
 use Rattle.cr_script.specs.Speaking.{spoken}
 use Rattle.cr_script.specs.Scripts.{CarriesAll, Stops, next, pieces_left}
 use Rattle.cr_script.proofs.Turning.{wanting}
@@ -91,6 +93,10 @@ module _ {C : Type 0} (function_of : List ℕ → ℕ → Option Definition) (sc
       let within : length source ≤ 1000000 = omega (arith, short) in
       let same : tokens_of source ≡ tokens = one_list source 0 (tokens_of source) tokens (have_tokens source) are in
       short_is (nat_lt 1000000 (length source)) _ _ (le-ltb 1000000 (length source) within) ∙ ap (λ (ts : List Token). map piece (scripts.pieces source ts)) same
+
+  pub heard_whole : {G : Type 0} (hears : G → G → List Event → Type 0) (g h : G) (tokens : List Token) (replies : List Reply) (why : Option Refusal) → (1000000 < length source → ⊥) → IsTokens source 0 tokens
+      → HearsAll language host hears g (stands old) (pieces_left (length tokens) source tokens) replies why h → HearsAll language host hears g (stands old) (language.pieces source) replies why h
+  heard_whole hears g h tokens replies why short are heard = subst (λ (ps : List (Piece Statement)). HearsAll language host hears g (stands old) ps replies why h) (sym (whole tokens short are)) heard
 
   pub carries_whole : (tokens : List Token) (replies : List Reply) (why : Option Refusal) → (1000000 < length source → ⊥) → IsTokens source 0 tokens
       → CarriesAll language host is_honest is_clean stands old (pieces_left (length tokens) source tokens) replies why new → CarriesAll language host is_honest is_clean stands old (language.pieces source) replies why new

@@ -105,12 +105,12 @@ no_tokens : (source : List ℕ) → next source [] ≡ Ok None
 unfolding next
 no_tokens source = refl
 
-none_left : (n : ℕ) (source : List ℕ) (tokens : List Token) → next source tokens ≡ Ok None → pieces_left n source tokens ≡ []
+pub none_left : (n : ℕ) (source : List ℕ) (tokens : List Token) → next source tokens ≡ Ok None → pieces_left n source tokens ≡ []
 unfolding next pieces_left scripts.pieces_in
 none_left zero source tokens e = refl
 none_left (suc n) source tokens e = ap (λ (o : Result (Option (Statement × ℕ)) Unread). map piece (scripts.piece_and (scripts.pieces_in n source) tokens o)) e
 
-one_left : (n : ℕ) (source : List ℕ) (tokens : List Token) (x : Statement) (k : ℕ) → next source tokens ≡ Ok (Some (x, k)) → pieces_left (suc n) source tokens ≡ language.Statement x ∷ pieces_left n source (drop k tokens)
+pub one_left : (n : ℕ) (source : List ℕ) (tokens : List Token) (x : Statement) (k : ℕ) → next source tokens ≡ Ok (Some (x, k)) → pieces_left (suc n) source tokens ≡ language.Statement x ∷ pieces_left n source (drop k tokens)
 unfolding next pieces_left scripts.pieces_in
 one_left n source tokens x k e = ap (λ (o : Result (Option (Statement × ℕ)) Unread). map piece (scripts.piece_and (scripts.pieces_in n source) tokens o)) e
 

@@ -1,2 +1,3 @@
 pub mod Speaking
 pub mod Scripts
+pub mod Hearing

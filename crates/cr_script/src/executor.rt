@@ -15,6 +15,7 @@ pub trait Executor {
     ghost use Rattle.std.specs.Prelude.{ℕ, Bool, List};
     ghost use Rattle.cr_fit.specs.Folded.{DefinesFolded};
     ghost use Rattle.cr_world.specs.State.{State};
+    ghost use Rattle.cr_script.specs.Hearing.{Hears, heard_of_statement};
     ghost use Rattle.cr_script.specs.Scripts.{Carries};
 
     /// Where it stands.
@@ -26,7 +27,7 @@ pub trait Executor {
     /// The device of its store gave back what was written up to here, and is still there.
     ghost is_clean: { Self → Type 0 };
 
-    /// Carries out a statement, with values for its parameters.
+    /// Carries out a statement, with values for its parameters. A listener is told what it makes of rows before that is kept.
     ///
     /// # Errors
     /// Why the statement is refused; then it changed nothing, but that a refused COMMIT ends its transaction, unless for want
@@ -35,13 +36,15 @@ pub trait Executor {
         &mut self,
         alloc: Global,
         functions: &F,
-        guard: &G,
+        guard: &mut G,
         statement: &Statement,
         params: &[Value],
     ) -> Result<Reply, Refusal>
         requires functions { F.is_faithful functions.now }
-        requires guard { G.is_faithful guard.now }
+        requires guard { G.is_faithful guard.old }
         requires folded { DefinesFolded statement.now }
-        ensures { (has : List ℕ → Bool) → ⟦<F as Speaking>⟧.are_names functions.now has
-            → Carries (⟦<F as Speaking>⟧.language functions.now has) (⟦<G as Watching>⟧.host guard.now) is_honest is_clean stands self.old params.now statement.now result self.new };
+        ensures carries { (has : List ℕ → Bool) → ⟦<F as Speaking>⟧.are_names functions.now has
+            → Carries (⟦<F as Speaking>⟧.language functions.now has) (⟦<G as Watching>⟧.host guard.old) is_honest is_clean stands self.old params.now statement.now result self.new }
+        ensures guard { ⟦<G as Watching>⟧.stays guard.old guard.new }
+        ensures heard { is_clean self.new → Hears (⟦<G as Watching>⟧.hears guard.old guard.new) (heard_of_statement statement.now (stands self.old) (stands self.new)) result };
 }

@@ -5,6 +5,7 @@ ghost use Rattle.cr_statement.specs.Sql.{says};
 ghost use Rattle.cr_statement.specs.Sql as read;
 ghost use Rattle.cr_world.specs.declared.refusal.Refusal.TheVariants.{Memory};
 ghost use Rattle.cr_language.specs.Sql.{of_kind, of_unread};
+ghost use Rattle.cr_script.specs.Hearing.{HearsAll, HearsTurn};
 ghost use Rattle.cr_script.specs.Scripts.{CarriesAll, Turns, next, pieces_left};
 
 use crate::executor::Executor;
@@ -65,15 +66,17 @@ fn turn<E: Executor, F: Functions, G: Guarding>(
     alloc: Global,
     executor: &mut E,
     functions: &F,
-    guard: &G,
+    guard: &mut G,
     source: &str,
     tokens: &[Token],
 ) -> Result<Option<(Reply, usize)>, Refusal>
     requires functions { F.is_faithful functions.now }
-    requires guard { G.is_faithful guard.now }
+    requires guard { G.is_faithful guard.old }
     ensures takes { IfOk result (λ o. IfSome o (λ t. (0 < t.1) × (t.1 ≤ length tokens.now))) }
     ensures turns { (has : List ℕ → Bool) → ⟦<F as Speaking>⟧.are_names functions.now has
-        → Turns (⟦<F as Speaking>⟧.language functions.now has) (⟦<G as Watching>⟧.host guard.now) E.is_honest E.is_clean E.stands executor.old (next source.now tokens.now) result executor.new }
+        → Turns (⟦<F as Speaking>⟧.language functions.now has) (⟦<G as Watching>⟧.host guard.old) E.is_honest E.is_clean E.stands executor.old (next source.now tokens.now) result executor.new }
+    ensures guard { ⟦<G as Watching>⟧.stays guard.old guard.new }
+    ensures heard { E.is_clean executor.new → HearsTurn (⟦<G as Watching>⟧.hears guard.old guard.new) (E.stands executor.old) (next source.now tokens.now) result (E.stands executor.new) }
 {
     let next = next_statement(alloc, source, tokens);
     match &next {
@@ -93,16 +96,19 @@ fn turns<E: Executor, F: Functions, G: Guarding>(
     alloc: Global,
     executor: &mut E,
     functions: &F,
-    guard: &G,
+    guard: &mut G,
     source: &str,
     tokens: &[Token],
     replies: &mut Vec<Reply>,
 ) -> Option<Refusal>
     requires functions { F.is_faithful functions.now }
-    requires guard { G.is_faithful guard.now }
+    requires guard { G.is_faithful guard.old }
     requires empty { replies.old.items ≡ [] }
-    ensures { (has : List ℕ → Bool) → ⟦<F as Speaking>⟧.are_names functions.now has
-        → CarriesAll (⟦<F as Speaking>⟧.language functions.now has) (⟦<G as Watching>⟧.host guard.now) E.is_honest E.is_clean E.stands executor.old (pieces_left (length tokens.now) source.now tokens.now) replies.new.items result executor.new }
+    ensures carries { (has : List ℕ → Bool) → ⟦<F as Speaking>⟧.are_names functions.now has
+        → CarriesAll (⟦<F as Speaking>⟧.language functions.now has) (⟦<G as Watching>⟧.host guard.old) E.is_honest E.is_clean E.stands executor.old (pieces_left (length tokens.now) source.now tokens.now) replies.new.items result executor.new }
+    ensures guard { ⟦<G as Watching>⟧.stays guard.old guard.new }
+    ensures heard { (has : List ℕ → Bool) → ⟦<F as Speaking>⟧.are_names functions.now has → E.is_clean executor.new
+        → HearsAll (⟦<F as Speaking>⟧.language functions.now has) (⟦<G as Watching>⟧.host guard.old) (⟦<G as Watching>⟧.hears) guard.old (E.stands executor.old) (pieces_left (length tokens.now) source.now tokens.now) replies.new.items result guard.new }
 {
     let mut rest = tokens;
     loop {
@@ -130,13 +136,16 @@ pub fn run_script<E: Executor, F: Functions, G: Guarding>(
     alloc: Global,
     executor: &mut E,
     functions: &F,
-    guard: &G,
+    guard: &mut G,
     source: &str,
 ) -> Script
     requires functions { F.is_faithful functions.now }
-    requires guard { G.is_faithful guard.now }
-    ensures { (has : List ℕ → Bool) → ⟦<F as Speaking>⟧.are_names functions.now has
-        → CarriesAll (⟦<F as Speaking>⟧.language functions.now has) (⟦<G as Watching>⟧.host guard.now) E.is_honest E.is_clean E.stands executor.old ((⟦<F as Speaking>⟧.language functions.now has).pieces source.now) result.replies result.refusal executor.new }
+    requires guard { G.is_faithful guard.old }
+    ensures carries { (has : List ℕ → Bool) → ⟦<F as Speaking>⟧.are_names functions.now has
+        → CarriesAll (⟦<F as Speaking>⟧.language functions.now has) (⟦<G as Watching>⟧.host guard.old) E.is_honest E.is_clean E.stands executor.old ((⟦<F as Speaking>⟧.language functions.now has).pieces source.now) result.replies result.refusal executor.new }
+    ensures guard { ⟦<G as Watching>⟧.stays guard.old guard.new }
+    ensures heard { (has : List ℕ → Bool) → ⟦<F as Speaking>⟧.are_names functions.now has → E.is_clean executor.new
+        → HearsAll (⟦<F as Speaking>⟧.language functions.now has) (⟦<G as Watching>⟧.host guard.old) (⟦<G as Watching>⟧.hears) guard.old (E.stands executor.old) ((⟦<F as Speaking>⟧.language functions.now has).pieces source.now) result.replies result.refusal guard.new }
 {
     let mut replies = Vec::new(alloc);
     let refusal = match tokens(alloc, source) {

@@ -1,6 +1,7 @@
 //! Texts that are one statement, with values for its parameters.
 
 ghost use Rattle.std.specs.Prelude.{◌≡◌, ℕ, Bool, List};
+ghost use Rattle.cr_script.specs.Hearing.{Hears, heard_of_piece};
 ghost use Rattle.cr_script.specs.Scripts.{Executed, is_empty, second_place, single_left};
 
 use crate::executor::Executor;
@@ -42,15 +43,17 @@ fn single<E: Executor, F: Functions, G: Guarding>(
     alloc: Global,
     executor: &mut E,
     functions: &F,
-    guard: &G,
+    guard: &mut G,
     source: &str,
     tokens: &[Token],
     params: &[Value],
 ) -> Result<Reply, Refusal>
     requires functions { F.is_faithful functions.now }
-    requires guard { G.is_faithful guard.now }
-    ensures { (has : List ℕ → Bool) → ⟦<F as Speaking>⟧.are_names functions.now has
-        → Executed (⟦<F as Speaking>⟧.language functions.now has) (⟦<G as Watching>⟧.host guard.now) E.is_honest E.is_clean E.stands executor.old params.now (single_left source.now tokens.now) result executor.new }
+    requires guard { G.is_faithful guard.old }
+    ensures executes { (has : List ℕ → Bool) → ⟦<F as Speaking>⟧.are_names functions.now has
+        → Executed (⟦<F as Speaking>⟧.language functions.now has) (⟦<G as Watching>⟧.host guard.old) E.is_honest E.is_clean E.stands executor.old params.now (single_left source.now tokens.now) result executor.new }
+    ensures guard { ⟦<G as Watching>⟧.stays guard.old guard.new }
+    ensures heard { E.is_clean executor.new → Hears (⟦<G as Watching>⟧.hears guard.old guard.new) (heard_of_piece (single_left source.now tokens.now) (E.stands executor.old) (E.stands executor.new)) result }
 {
     if is_empty(source, tokens) {
         return match second_place(tokens) {
@@ -81,14 +84,17 @@ pub fn execute<E: Executor, F: Functions, G: Guarding>(
     alloc: Global,
     executor: &mut E,
     functions: &F,
-    guard: &G,
+    guard: &mut G,
     source: &str,
     params: &[Value],
 ) -> Result<Reply, Refusal>
     requires functions { F.is_faithful functions.now }
-    requires guard { G.is_faithful guard.now }
-    ensures { (has : List ℕ → Bool) → ⟦<F as Speaking>⟧.are_names functions.now has
-        → Executed (⟦<F as Speaking>⟧.language functions.now has) (⟦<G as Watching>⟧.host guard.now) E.is_honest E.is_clean E.stands executor.old params.now ((⟦<F as Speaking>⟧.language functions.now has).single source.now) result executor.new }
+    requires guard { G.is_faithful guard.old }
+    ensures executes { (has : List ℕ → Bool) → ⟦<F as Speaking>⟧.are_names functions.now has
+        → Executed (⟦<F as Speaking>⟧.language functions.now has) (⟦<G as Watching>⟧.host guard.old) E.is_honest E.is_clean E.stands executor.old params.now ((⟦<F as Speaking>⟧.language functions.now has).single source.now) result executor.new }
+    ensures guard { ⟦<G as Watching>⟧.stays guard.old guard.new }
+    ensures heard { (has : List ℕ → Bool) → ⟦<F as Speaking>⟧.are_names functions.now has
+        → E.is_clean executor.new → Hears (⟦<G as Watching>⟧.hears guard.old guard.new) (heard_of_piece ((⟦<F as Speaking>⟧.language functions.now has).single source.now) (E.stands executor.old) (E.stands executor.new)) result }
 {
     match tokens(alloc, source) {
         Ok(tokens) => single(alloc, executor, functions, guard, source, &tokens, params),

@@ -33,8 +33,10 @@ pub fn functions_have_names<F: Functions>(functions: &F)
     ensures { (has : List ℕ → Bool) × ⟦<F as Speaking>⟧.are_names functions.now has }
 {}
 
-/// Authorizer, policy and commit hook, with what they answer.
+/// Authorizer, policy and commit hook, with what they answer, and who listens.
 pub trait Watching: Guarding {
+    ghost use Rattle.std.specs.Prelude.{List};
+    ghost use Rattle.cr_guard.specs.declared.event.Event.{Event};
     ghost use Rattle.cr_world.specs.Statement.{Host};
     ghost use Rattle.cr_world.specs.World.{Closures};
 
@@ -43,12 +45,22 @@ pub trait Watching: Guarding {
 
     /// The same under the policy.
     ghost host: { Self → Host };
+
+    /// It answers as before.
+    ghost stays: { Self → Self → Type 0 };
+
+    /// Its listener, where there is one, has heard these events since.
+    ghost hears: { Self → Self → List Event → Type 0 };
 }
 
 impl<G: Guarding> Watching for G {
-    ghost use Rattle.cr_script.specs.Speaking.{closures, host_under};
+    ghost use Rattle.cr_script.specs.Speaking.{closures, host_under, Stays, HasHeard};
 
     ghost closures = { λ g. closures (G.allows g) (G.refuses g) };
 
     ghost host = { λ g. host_under (closures (G.allows g) (G.refuses g)) (G.rules g) };
+
+    ghost stays = { λ g h. Stays G.is_faithful G.rules G.allows G.refuses g h };
+
+    ghost hears = { λ g h events. HasHeard (G.noted g) (G.noted_with g) (G.noted h) events };
 }

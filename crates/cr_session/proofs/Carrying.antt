@@ -42,7 +42,8 @@ use Rattle.cr_language.specs.Sql.{known as known_in, view, viewed, of_unresolved
 use Rattle.cr_answer.specs.Allowing.{Allows, IsRefused, known_by}
 use Rattle.cr_resolve.specs.declared.refusal.Refusal.{Refusal as Unresolved}
 use Rattle.cr_world.specs.Refusals.{is_want, of_store}
-use Rattle.cr_session.specs.Performing.{Performs, Performed, PerformsWith, PerformedWith, Permits, against, is_commit, is_performed, is_transaction, refused, with_limit}
+use Rattle.cr_script.specs.Hearing.{is_transaction}
+use Rattle.cr_session.specs.Performing.{Performs, Performed, PerformsWith, PerformedWith, Permits, against, is_commit, is_performed, refused, with_limit}
 use Rattle.cr_session.specs.Sessions.{Names, SessionOf, clean, honest, standing, state_of}
 use Rattle.cr_session.proofs.Takings.{want_of_store, wanting}
 use Rattle.cr_script.specs.Scripts.{Carries}

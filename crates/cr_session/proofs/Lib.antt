@@ -16,3 +16,5 @@ pub mod Committing
 pub mod Inserting
 pub mod Receiving
 pub mod Newest
+pub mod Hearing
+pub mod Telling

@@ -17,6 +17,7 @@ use Rattle.cr_replica.specs.declared.replica.TakeError.{TakeError}
 use Rattle.cr_replica.specs.declared.replica.TakeError.TheVariants as take
 use Rattle.cr_replica.specs.declared.replica.Taking.{Taking}
 use Rattle.cr_replica.specs.Taking as takings
+use Rattle.cr_guard.specs.declared.event.Event.{Event}
 use Rattle.cr_replica.specs.Taking.{IsNotTaken, IsReady, Prepares, CommitsAll}
 use Rattle.cr_world.specs.declared.refusal.Refusal.{Refusal}
 use Rattle.cr_world.specs.declared.refusal.Refusal.TheVariants as refusal
@@ -24,8 +25,9 @@ use Rattle.cr_world.specs.Refusals.{is_want, of_store, of_taking}
 use Rattle.cr_world.specs.Causes.{Cause, Free, Is, Evaluation, Tells, IsWant, first_cause, of_option, or_else, where_true}
 use Rattle.cr_world.specs.State.{State}
 use Rattle.cr_world.specs.Statement.{Host}
-use Rattle.cr_world.specs.Takings.{take_cause, taking_cause}
-use Rattle.cr_session.specs.Sessions.{SessionOf, TakesAll, TakesFrom, clean, honest, standing, state_of}
+use Rattle.cr_world.specs.Takings.{take_cause, taking, taking_cause}
+use Rattle.cr_session.specs.Listening.{TellsListener}
+use Rattle.cr_session.specs.Sessions.{Approves, CommitsTaking, IsCommitted, SessionOf, Taken, TakesAll, TakesFrom, clean, honest, standing, state_of}
 
 pub want_of_taking : (e : TakeError) → is_want (of_taking e) ≡ takings.is_want e
 want_of_taking take.Memory = refl
@@ -70,53 +72,99 @@ module _ (host : Host) (h : Holding) (pending : Option (List Change)) (more : Li
   told_veto news r v = tells _ _ (veto_is news true r v) refl
 
 -- of a store; the open transaction stays as it is
-module _ {C : Type 0} (host : Host) (is_honest is_clean : C → Type 0) (holding : C → Holding) (old mid : C) (pending : Option (List Change)) (more : List Change) (mark : Option Mark) (honests : is_honest mid → is_honest old) (cleans : is_clean mid → is_clean old) where
+module _ {C : Type 0} (host : Host) (is_honest is_clean : C → Type 0) (holding : C → Holding) (old new : C) (pending : Option (List Change)) (more : List Change) (honests : is_honest new → is_honest old) (cleans : is_clean new → is_clean old) where
   abbrev left : Holding → State
   left h = state_of h pending
 
-  pub take_unready : (e : TakeError) → (is_honest mid → is_clean old → takings.is_want e ≡ false → is_clean mid) → (is_clean mid → Prepares (holding old) (holding mid) more (Err e))
-      → TakesAll host (honest is_honest) (clean is_clean) (standing holding) (old, pending) more mark (Err (of_taking e)) (mid, pending)
-  take_unready e lasts p = record {
+  abbrev Approved : Result Taking Refusal → Type 0
+  Approved result = Approves host (honest is_honest) (clean is_clean) (standing holding) (old, pending) more result (new, pending)
+
+  pub approve_unready : (e : TakeError) → (is_honest new → is_clean old → takings.is_want e ≡ false → is_clean new) → (is_clean new → Prepares (holding old) (holding new) more (Err e)) → Approved (Err (of_taking e))
+  approve_unready e lasts p = record {
     was_honest = honests;
     was_clean = cleans;
     stays_clean = λ honest clean w. lasts honest clean (sym (want_of_taking e) ∙ w);
-    takes = λ clean. (not_prepared host (holding old) pending more e (p clean).1, ap left (p clean).0);
+    same = λ clean. ap left (p clean).0;
+    approves = λ clean. not_prepared host (holding old) pending more e (p clean).1;
   }
 
-  module _ (taking : Taking) (lasts : is_honest mid → is_clean old → is_clean mid) (p : is_clean mid → Prepares (holding old) (holding mid) more (Ok taking)) where
-    pub take_vetoed : host.vetoes taking.newly_kept ≡ true → TakesAll host (honest is_honest) (clean is_clean) (standing holding) (old, pending) more mark (Err refusal.Veto) (mid, pending)
-    take_vetoed v = record {
+  module _ (taking : Taking) (lasts : is_honest new → is_clean old → is_clean new) (p : is_clean new → Prepares (holding old) (holding new) more (Ok taking)) where
+    pub approve_vetoed : host.vetoes taking.newly_kept ≡ true → Approved (Err refusal.Veto)
+    approve_vetoed v = record {
       was_honest = honests;
       was_clean = cleans;
       stays_clean = λ honest clean w. lasts honest clean;
-      takes = λ clean. (told_veto host (holding old) pending more taking.newly_kept (p clean).2 v, ap left (p clean).0);
+      same = λ clean. ap left (p clean).0;
+      approves = λ clean. told_veto host (holding old) pending more taking.newly_kept (p clean).2 v;
     }
 
-    pub take_ready : is_clean mid → IsReady (holding mid) taking.changes.now taking.newly_kept
-    take_ready clean =
-        subst (λ (h : Holding). IsReady h taking.changes.now taking.newly_kept) (sym (p clean).0)
-        (subst (λ (cs : List Change). IsReady (holding old) cs taking.newly_kept) (sym (p clean).1) (p clean).2)
+    pub approved : host.vetoes taking.newly_kept ≡ false → Approved (Ok taking)
+    approved v = record {
+      was_honest = honests;
+      was_clean = cleans;
+      stays_clean = λ honest clean. lasts honest clean;
+      same = λ clean. ap left (p clean).0;
+      approves = λ clean. (
+        subst (λ (h : Holding). IsReady h more taking.newly_kept) (sym (p clean).0) (p clean).2,
+        veto_is host (holding old) pending more taking.newly_kept false (p clean).2 v,
+      );
+    }
 
-    module _ (new : C) (honests_mid : is_honest new → is_honest mid) (cleans_mid : is_clean new → is_clean mid) (v : host.vetoes taking.newly_kept ≡ false) where
-      pub take_done : (is_honest new → is_clean mid → is_clean new) → (is_clean new → CommitsAll (holding mid) (holding new) taking.changes.now mark (Ok tt)) → TakesAll host (honest is_honest) (clean is_clean) (standing holding) (old, pending) more mark (Ok tt) (new, pending)
-      take_done last c = record {
-        was_honest = λ honest. honests (honests_mid honest);
-        was_clean = λ clean. cleans (cleans_mid clean);
-        stays_clean = λ honest clean. last honest (lasts (honests_mid honest) clean);
-        takes = λ clean. (
-            let q = p (cleans_mid clean) in (
-              veto_is host (holding old) pending more taking.newly_kept false q.2 v,
-              ap left (c clean ∙ (λ i. committed (q.0 i) (q.1 i) mark)),
-            ));
-      }
+  module _ (mark : Option Mark) where
+    abbrev Committed : Result (Unit {0}) Refusal → Type 0
+    Committed result = CommitsTaking (honest is_honest) (clean is_clean) (standing holding) (old, pending) more mark result (new, pending)
 
-      pub take_refused : (e : CellsError) → (is_honest new → is_clean mid → calls.is_want e ≡ false → is_clean new) → (is_clean new → CommitsAll (holding mid) (holding new) taking.changes.now mark (Err e))
-          → TakesAll host (honest is_honest) (clean is_clean) (standing holding) (old, pending) more mark (Err (of_store e)) (new, pending)
-      take_refused e last c = record {
-        was_honest = λ honest. honests (honests_mid honest);
-        was_clean = λ clean. cleans (cleans_mid clean);
-        stays_clean = λ honest clean w. last honest (lasts (honests_mid honest) clean) (sym (want_of_store e) ∙ w);
-        takes = λ clean. (inl (wanting e (c clean).1), ap left ((c clean).0 ∙ (p (cleans_mid clean)).0));
+    pub committed_all : (is_honest new → is_clean old → is_clean new) → (is_clean new → CommitsAll (holding old) (holding new) more mark (Ok tt)) → Committed (Ok tt)
+    committed_all lasts c = record { was_honest = honests; was_clean = cleans; stays_clean = λ honest clean. lasts honest clean; commits = λ clean. ap left (c clean) }
+
+    pub commit_refused : (e : CellsError) → (is_honest new → is_clean old → calls.is_want e ≡ false → is_clean new) → (is_clean new → CommitsAll (holding old) (holding new) more mark (Err e)) → Committed (Err (of_store e))
+    commit_refused e lasts c = record {
+      was_honest = honests;
+      was_clean = cleans;
+      stays_clean = λ honest clean w. lasts honest clean (sym (want_of_store e) ∙ w);
+      commits = λ clean. (wanting e (c clean).1, ap left (c clean).0);
+    }
+
+-- ---- the steps of a taking
+
+module _ {C : Type 0} (host : Host) (is_honest is_clean : C → Type 0) (stands : C → State) (old : C) (more : List Change) (mark : Option Mark) where
+  abbrev Takes : Result (Unit {0}) Refusal → C → Type 0
+  Takes result new = TakesAll host is_honest is_clean stands old more mark result new
+
+  pub take_unapproved : (r : Refusal) (new : C) → Approves host is_honest is_clean stands old more (Err r) new → Takes (Err r) new
+  take_unapproved r new a = record { was_honest = a.was_honest; was_clean = a.was_clean; stays_clean = a.stays_clean; takes = λ clean. (a.approves clean, a.same clean) }
+
+  -- it is approved, and then the session stands where it stood
+  module _ (t : Taking) (mid : C) (a : Approves host is_honest is_clean stands old more (Ok t) mid) where
+    taken_by : (result : Result (Unit {0}) Refusal) (at : State) (new : State) → at ≡ stands old → taking_cause host (stands old) more ≡ Free → IsCommitted at more mark result new → Taken host (stands old) more mark result new
+    taken_by (Ok u) at new e free c = (free, c ∙ ap (taking more mark) e)
+    taken_by (Err r) at new e free c = (inl c.0, c.1 ∙ e)
+
+    -- the second step follows, from where nothing has changed
+    pub take_on : (here new : C) (result : Result (Unit {0}) Refusal) → (is_honest here → is_honest mid) → (is_clean here → is_clean mid) → (is_honest here → is_clean mid → is_clean here) → (is_clean here → stands here ≡ stands mid)
+        → CommitsTaking is_honest is_clean stands here more mark result new → Takes result new
+    take_on here new result honests cleans lasts same c = record {
+      was_honest = λ honest. a.was_honest (honests (c.was_honest honest));
+      was_clean = λ clean. a.was_clean (cleans (c.was_clean clean));
+      stays_clean = λ honest clean. c.stays_clean honest (lasts (c.was_honest honest) (a.stays_clean (honests (c.was_honest honest)) clean));
+      takes = λ clean.
+          let still = c.was_clean clean in
+          taken_by result (stands here) (stands new) (same still ∙ a.same (cleans still)) (a.approves (cleans still)).1 (c.commits clean);
+    }
+
+    pub take_quietly : (new : C) (result : Result (Unit {0}) Refusal) → CommitsTaking is_honest is_clean stands mid more mark result new → Takes result new
+    take_quietly new result c = take_on mid new result (λ honest. honest) (λ clean. clean) (λ honest clean. clean) (λ clean. refl) c
+
+    module _ (hears : List Event → Type 0) (here : C) where
+      pub take_told : (new : C) (result : Result (Unit {0}) Refusal) → TellsListener is_honest is_clean stands hears mid more (Ok tt) here → CommitsTaking is_honest is_clean stands here more mark result new → Takes result new
+      take_told new result t c = take_on here new result t.was_honest t.was_clean t.stays_clean t.same c
+
+      pub take_untold : (r : Refusal) → TellsListener is_honest is_clean stands hears mid more (Err r) here → Takes (Err r) here
+      take_untold r t = record {
+        was_honest = λ honest. a.was_honest (t.was_honest honest);
+        was_clean = λ clean. a.was_clean (t.was_clean clean);
+        stays_clean = λ honest clean w. t.stays_clean honest (a.stays_clean (t.was_honest honest) clean) w;
+        takes = λ clean. (inl (t.refused clean), t.same clean ∙ a.same (t.was_clean clean));
       }
 
 -- ---- what a peer sent

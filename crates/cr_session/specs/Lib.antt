@@ -1,3 +1,4 @@
 pub mod Sessions
 pub mod Performing
 pub mod Lookup
+pub mod Listening

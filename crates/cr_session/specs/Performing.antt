@@ -52,18 +52,6 @@ not_replicated x = unreplicated x.held x.definition.name
 
 -- ---- transactions
 
--- a statement that opens or ends one
-abbrev pub is_transaction : Statement → Bool
-is_transaction (s.Select q) = false
-is_transaction (s.Insert i) = false
-is_transaction (s.Update u) = false
-is_transaction (s.Delete d) = false
-is_transaction (s.Create c) = false
-is_transaction (s.Alter a) = false
-is_transaction (s.Begin mode) = true
-is_transaction s.Commit = true
-is_transaction s.Rollback = true
-
 abbrev pub is_commit : Viewed Ordered → Bool
 is_commit viewed.Commit = true
 is_commit x = false

@@ -7,7 +7,9 @@ use Rattle.cr_cells.specs.Holding.{Holding}
 use Rattle.cr_cells.specs.Marks.{Mark}
 use Rattle.cr_cells.specs.Tables.{is_named}
 use Rattle.cr_replica.specs.declared.snapshot.Snapshot.{Snapshot}
+use Rattle.cr_replica.specs.declared.replica.Taking.{Taking}
 use Rattle.cr_replica.specs.ChangeRow.{change_of}
+use Rattle.cr_replica.specs.Taking.{IsReady}
 use Rattle.cr_replica.specs.declared.definition.DefineError.{DefineError}
 use Rattle.cr_replica.specs.declared.definition.DefineError.TheVariants as define
 use Rattle.cr_snapshot.specs.Seen.{IsNamed, IsSeen}
@@ -84,6 +86,26 @@ pub record TakesAll {C : Type 0} (host : Host) (is_honest is_clean : C → Type 
   pub was_clean : is_clean new → is_clean old
   pub stays_clean : is_honest new → is_clean old → UnlessWant is_want result (is_clean new)
   pub takes : is_clean new → Taken host (stands old) more mark result (stands new)
+
+-- The first step: the changes may be taken, with what their commit would bring in, or the first cause that holds is told, or want; and
+-- a session stays where it stands.
+pub record Approves {C : Type 0} (host : Host) (is_honest is_clean : C → Type 0) (stands : C → State) (old : C) (more : List Change) (result : Result Taking Refusal) (new : C) : Type 0 where
+  pub was_honest : is_honest new → is_honest old
+  pub was_clean : is_clean new → is_clean old
+  pub stays_clean : is_honest new → is_clean old → UnlessWant is_want result (is_clean new)
+  pub same : is_clean new → stands new ≡ stands old
+  pub approves : is_clean new → MatchResult result (λ t. IsReady (stands new).holding more t.newly_kept × (taking_cause host (stands old) more ≡ Free)) (λ r. IsWant r ⊎ Tells (taking_cause host (stands old) more) r)
+
+-- the second step commits them, with a mark, or is refused for want
+abbrev pub IsCommitted : State → List Change → Option Mark → Result (Unit {0}) Refusal → State → Type 0
+IsCommitted old more mark (Ok u) new = new ≡ taking more mark old
+IsCommitted old more mark (Err r) new = IsWant r × (new ≡ old)
+
+pub record CommitsTaking {C : Type 0} (is_honest is_clean : C → Type 0) (stands : C → State) (old : C) (more : List Change) (mark : Option Mark) (result : Result (Unit {0}) Refusal) (new : C) : Type 0 where
+  pub was_honest : is_honest new → is_honest old
+  pub was_clean : is_clean new → is_clean old
+  pub stays_clean : is_honest new → is_clean old → UnlessWant is_want result (is_clean new)
+  pub commits : is_clean new → IsCommitted (stands old) more mark result (stands new)
 
 -- The same of what a peer sent, with its mark: an open transaction is told first, and then that the peer's site is one's own.
 abbrev pub TakenFrom : Host → State → List Change → Mark → Result (Unit {0}) Refusal → State → Type 0

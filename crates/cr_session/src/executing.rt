@@ -19,6 +19,7 @@ use std::alloc::Global;
 impl<C: Cells> Session<C> {
     ghost use Rattle.std.specs.Prelude.{ℕ, Bool, List};
     ghost use Rattle.cr_fit.specs.Folded.{DefinesFolded};
+    ghost use Rattle.cr_script.specs.Hearing.{Hears, HearsAll, heard_of_piece, heard_of_statement};
     ghost use Rattle.cr_script.specs.Scripts.{Carries, CarriesAll, Executed};
     ghost use Rattle.cr_session.specs.Sessions.{clean, honest, standing};
 
@@ -27,15 +28,17 @@ impl<C: Cells> Session<C> {
         &mut self,
         alloc: Global,
         functions: &F,
-        guard: &G,
+        guard: &mut G,
         statement: &Statement,
         params: &[Value],
     ) -> Result<Reply, Refusal>
         requires functions { F.is_faithful functions.now }
-        requires guard { G.is_faithful guard.now }
+        requires guard { G.is_faithful guard.old }
         requires folded { DefinesFolded statement.now }
-        ensures { (has : List ℕ → Bool) → ⟦<F as Speaking>⟧.are_names functions.now has
-            → Carries (⟦<F as Speaking>⟧.language functions.now has) (⟦<G as Watching>⟧.host guard.now) (honest C.is_honest) (clean C.is_clean) (standing C.holding) self.old params.now statement.now result self.new }
+        ensures carries { (has : List ℕ → Bool) → ⟦<F as Speaking>⟧.are_names functions.now has
+            → Carries (⟦<F as Speaking>⟧.language functions.now has) (⟦<G as Watching>⟧.host guard.old) (honest C.is_honest) (clean C.is_clean) (standing C.holding) self.old params.now statement.now result self.new }
+        ensures guard { ⟦<G as Watching>⟧.stays guard.old guard.new }
+        ensures heard { C.is_clean self.new.0 → Hears (⟦<G as Watching>⟧.hears guard.old guard.new) (heard_of_statement statement.now (standing C.holding self.old) (standing C.holding self.new)) result }
     {
         if is_transaction(statement) {
             return self.transact(alloc, functions, guard, statement, params);
@@ -60,13 +63,16 @@ impl<C: Cells> Session<C> {
         &mut self,
         alloc: Global,
         functions: &F,
-        guard: &G,
+        guard: &mut G,
         source: &str,
     ) -> Script
         requires functions { F.is_faithful functions.now }
-        requires guard { G.is_faithful guard.now }
-        ensures { (has : List ℕ → Bool) → ⟦<F as Speaking>⟧.are_names functions.now has
-            → CarriesAll (⟦<F as Speaking>⟧.language functions.now has) (⟦<G as Watching>⟧.host guard.now) (honest C.is_honest) (clean C.is_clean) (standing C.holding) self.old ((⟦<F as Speaking>⟧.language functions.now has).pieces source.now) result.replies result.refusal self.new }
+        requires guard { G.is_faithful guard.old }
+        ensures carries { (has : List ℕ → Bool) → ⟦<F as Speaking>⟧.are_names functions.now has
+            → CarriesAll (⟦<F as Speaking>⟧.language functions.now has) (⟦<G as Watching>⟧.host guard.old) (honest C.is_honest) (clean C.is_clean) (standing C.holding) self.old ((⟦<F as Speaking>⟧.language functions.now has).pieces source.now) result.replies result.refusal self.new }
+        ensures guard { ⟦<G as Watching>⟧.stays guard.old guard.new }
+        ensures heard { (has : List ℕ → Bool) → ⟦<F as Speaking>⟧.are_names functions.now has → C.is_clean self.new.0
+            → HearsAll (⟦<F as Speaking>⟧.language functions.now has) (⟦<G as Watching>⟧.host guard.old) (⟦<G as Watching>⟧.hears) guard.old (standing C.holding self.old) ((⟦<F as Speaking>⟧.language functions.now has).pieces source.now) result.replies result.refusal guard.new }
     {
         run_script(alloc, self, functions, guard, source)
     }
@@ -83,14 +89,17 @@ impl<C: Cells> Session<C> {
         &mut self,
         alloc: Global,
         functions: &F,
-        guard: &G,
+        guard: &mut G,
         source: &str,
         params: &[Value],
     ) -> Result<Reply, Refusal>
         requires functions { F.is_faithful functions.now }
-        requires guard { G.is_faithful guard.now }
-        ensures { (has : List ℕ → Bool) → ⟦<F as Speaking>⟧.are_names functions.now has
-            → Executed (⟦<F as Speaking>⟧.language functions.now has) (⟦<G as Watching>⟧.host guard.now) (honest C.is_honest) (clean C.is_clean) (standing C.holding) self.old params.now ((⟦<F as Speaking>⟧.language functions.now has).single source.now) result self.new }
+        requires guard { G.is_faithful guard.old }
+        ensures executes { (has : List ℕ → Bool) → ⟦<F as Speaking>⟧.are_names functions.now has
+            → Executed (⟦<F as Speaking>⟧.language functions.now has) (⟦<G as Watching>⟧.host guard.old) (honest C.is_honest) (clean C.is_clean) (standing C.holding) self.old params.now ((⟦<F as Speaking>⟧.language functions.now has).single source.now) result self.new }
+        ensures guard { ⟦<G as Watching>⟧.stays guard.old guard.new }
+        ensures heard { (has : List ℕ → Bool) → ⟦<F as Speaking>⟧.are_names functions.now has
+            → C.is_clean self.new.0 → Hears (⟦<G as Watching>⟧.hears guard.old guard.new) (heard_of_piece ((⟦<F as Speaking>⟧.language functions.now has).single source.now) (standing C.holding self.old) (standing C.holding self.new)) result }
     {
         execute(alloc, self, functions, guard, source, params)
     }
@@ -109,7 +118,7 @@ impl<C: Cells> Executor for Session<C> {
         &mut self,
         alloc: Global,
         functions: &F,
-        guard: &G,
+        guard: &mut G,
         statement: &Statement,
         params: &[Value],
     ) -> Result<Reply, Refusal> {

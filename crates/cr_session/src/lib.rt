@@ -2,6 +2,7 @@
 #![tactic(auto)]
 
 mod executing;
+mod listening;
 mod lookup;
 pub mod performing;
 pub mod session;

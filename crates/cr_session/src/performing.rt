@@ -116,8 +116,9 @@ impl<C: Cells> Session<C> {
     ghost use Rattle.cr_value.specs.declared.value.Value.{Value};
     ghost use Rattle.cr_snapshot.specs.Seen.{IsNamed, catalog_of};
     ghost use Rattle.cr_term.specs.declared.query.Resolved.TheVariants as r;
-    ghost use Rattle.cr_world.specs.State.{catalog};
+    ghost use Rattle.cr_world.specs.State.{catalog, heard_between};
     ghost use Rattle.cr_world.specs.Statement.{Host};
+    ghost use Rattle.cr_script.specs.Hearing.{Hears};
     ghost use Rattle.cr_session.specs.Performing.{Performed, is_performed, is_table};
     ghost use Rattle.cr_session.specs.Sessions.{clean, honest, standing};
 
@@ -217,19 +218,21 @@ impl<C: Cells> Session<C> {
         &mut self,
         alloc: Global,
         functions: &F,
-        guard: &G,
+        guard: &mut G,
         names: Snapshot,
         statement: &Resolved,
         params: &[Value],
     ) -> Result<Reply, Refusal>
         requires functions { F.is_faithful functions.now }
-        requires guard { G.is_faithful guard.now }
+        requires guard { G.is_faithful guard.old }
         requires sound { C.is_clean self.old.0 → IsSound (C.holding self.old.0) }
         requires named { C.is_clean self.old.0 → IsNamed (standing C.holding self.old) names }
         requires whole { IsWhole names }
         requires suits { Suits (catalog_of names) statement.now }
         requires form { is_performed statement.now ≡ true }
-        ensures { Performed (⟦<F as Hosted>⟧.means functions.now) params.now (⟦<G as Watching>⟧.host guard.now) (honest C.is_honest) (clean C.is_clean) (standing C.holding) self.old statement.now result self.new }
+        ensures performs { Performed (⟦<F as Hosted>⟧.means functions.now) params.now (⟦<G as Watching>⟧.host guard.old) (honest C.is_honest) (clean C.is_clean) (standing C.holding) self.old statement.now result self.new }
+        ensures guard { ⟦<G as Watching>⟧.stays guard.old guard.new }
+        ensures heard { C.is_clean self.new.0 → Hears (⟦<G as Watching>⟧.hears guard.old guard.new) (heard_between (standing C.holding self.old) (standing C.holding self.new)) result }
     {
         match statement {
             Resolved::Select(query) => self.select(alloc, functions, names, query, params),

@@ -14,7 +14,7 @@ use cr_lattice::table::{Items, Table, TableDef};
 use cr_pending::pending::Pending;
 use cr_replica::change_row::ChangeRow;
 use cr_replica::definition::{DefineError, accept};
-use cr_replica::replica::Replica;
+use cr_replica::replica::{Replica, Taking};
 use cr_replica::snapshot::Snapshot;
 use cr_script::speaking::{Speaking, Watching};
 use cr_value::order::same_bytes;
@@ -43,13 +43,13 @@ fn is_early(error: DefineError) -> bool
 
 /// A replica, with the changes of its open transaction.
 #[derive(Drop)]
-pub struct Session<C: Drop> {
+pub struct Session<C: Cells> {
     pub(crate) replica: Replica<C>,
     // None outside of transactions.
     pub(crate) pending: Option<Pending>,
 }
 
-impl<C: Drop> Model for Session<C> {
+impl<C: Cells> Model for Session<C> {
     ghost use Rattle.std.specs.Option.{option_map};
     ghost use Rattle.cr_session.specs.Sessions.{SessionOf};
 
@@ -67,16 +67,19 @@ impl<C: Cells> Session<C> {
     ghost use Rattle.cr_cells.specs.Tables.{AreWellFormed};
     ghost use Rattle.cr_lattice.specs.Keep.{keep};
     ghost use Rattle.cr_replica.specs.Snapshots.{IsOfNames, IsWhole};
+    ghost use Rattle.cr_replica.specs.Taking as takings;
     ghost use Rattle.cr_snapshot.specs.Seen.{IsNamed};
     ghost use Rattle.cr_world.specs.declared.command.Command.TheVariants.{Define, Take, Rows, Changes, Sql};
     ghost use Rattle.cr_world.specs.declared.command.Declaration.TheVariants as declared;
     ghost use Rattle.cr_world.specs.declared.command.FleetReply.TheVariants.{Refused};
     ghost use Rattle.cr_world.specs.Answers.{IsReady};
     ghost use Rattle.cr_world.specs.Language.{Language};
+    ghost use Rattle.cr_world.specs.State.{heard_between};
     ghost use Rattle.cr_world.specs.Statement.{Host};
+    ghost use Rattle.cr_script.specs.Hearing.{Hears};
     ghost use Rattle.cr_meaning.specs.View.{Ordered};
     ghost use Rattle.cr_tree.specs.declared.statement.Statement.{Statement};
-    ghost use Rattle.cr_session.specs.Sessions.{Does, Names, TakesAll, TakesFrom, Sees, SeesKeys, clean, honest, is_own, standing};
+    ghost use Rattle.cr_session.specs.Sessions.{Approves, CommitsTaking, Does, Names, TakesAll, TakesFrom, Sees, SeesKeys, clean, honest, is_own, standing};
 
     /// A session over the store, which may hold something already.
     pub fn new(cells: C) -> Session<C>
@@ -221,23 +224,17 @@ impl<C: Cells> Session<C> {
         self.replica.seen(alloc, site)
     }
 
-    /// Takes changes, all in one commit or none, and with them the mark of a peer: its site, and its version, at least 0,
-    /// up to which they were taken. Those that lose change nothing. An open transaction stays as it is: whether one forbids the
-    /// taking is the caller's to ask.
-    ///
-    /// # Errors
-    /// `BadChange` where a change is not well formed; `VersionLimit` where a kept change would change at the greatest
-    /// version; `Veto` where policy or commit hook refuse what would come in; `Memory`, or `Store`. Then nothing is changed.
-    pub fn take_all<G: Guarding>(
+    // The first step of a taking: whether these changes may be taken, and what their commit would bring in. A session stays where it
+    // stands.
+    fn approve<'a, G: Guarding>(
         &mut self,
         alloc: Global,
         guard: &G,
-        changes: &[Change],
-        mark: Option<Mark>,
-    ) -> Result<(), Refusal>
-        requires faithful { G.is_faithful guard.now }
-        requires from_0 { ForSome mark (λ m. pos 0 ≤ℤ m.1) }
-        ensures { TakesAll (⟦<G as Watching>⟧.host guard.now) (honest C.is_honest) (clean C.is_clean) (standing C.holding) self.old changes.now mark result self.new }
+        changes: &'a [Change],
+    ) -> Result<Taking<'a>, Refusal>
+        requires { G.is_faithful guard.now }
+        ensures approves { Approves (⟦<G as Watching>⟧.host guard.now) (honest C.is_honest) (clean C.is_clean) (standing C.holding) self.old changes.now result self.new }
+        ensures changes { IfOk result (λ taking. taking.changes.now ≡ changes.now) }
     {
         let taking = match self.replica.prepare(alloc, changes) {
             Ok(taking) => taking,
@@ -246,9 +243,69 @@ impl<C: Cells> Session<C> {
         if guard.vetoes(taking.newly_kept.as_slice()) {
             return Err(Refusal::Veto);
         }
-        match self.replica.commit(alloc, &taking, mark) {
+        Ok(taking)
+    }
+
+    // The second step: its changes are committed, and with them the mark.
+    fn commit_taking(
+        &mut self,
+        alloc: Global,
+        taking: &Taking<'_>,
+        mark: Option<Mark>,
+    ) -> Result<(), Refusal>
+        requires ready { C.is_clean self.old.0 → takings.IsReady (C.holding self.old.0) taking.now.changes.now taking.now.newly_kept }
+        requires from_0 { ForSome mark (λ m. pos 0 ≤ℤ m.1) }
+        ensures { CommitsTaking (honest C.is_honest) (clean C.is_clean) (standing C.holding) self.old taking.now.changes.now mark result self.new }
+    {
+        match self.replica.commit(alloc, taking, mark) {
             Ok(()) => Ok(()),
             Err(error) => Err(Refusal::from(error)),
+        }
+    }
+
+    /// Takes changes, all in one commit or none, and with them the mark of a peer: its site, and its version, at least 0,
+    /// up to which they were taken. Those that lose change nothing. An open transaction stays as it is: whether one forbids the
+    /// taking is the caller's to ask. A listener is told what becomes of rows, behind the veto and before the commit.
+    ///
+    /// # Errors
+    /// `BadChange` where a change is not well formed; `VersionLimit` where a kept change would change at the greatest
+    /// version; `Veto` where policy or commit hook refuse what would come in; `Memory`, or `Store`. Then nothing is changed.
+    pub fn take_all<G: Guarding>(
+        &mut self,
+        alloc: Global,
+        guard: &mut G,
+        changes: &[Change],
+        mark: Option<Mark>,
+    ) -> Result<(), Refusal>
+        requires faithful { G.is_faithful guard.old }
+        requires from_0 { ForSome mark (λ m. pos 0 ≤ℤ m.1) }
+        ensures takes { TakesAll (⟦<G as Watching>⟧.host guard.old) (honest C.is_honest) (clean C.is_clean) (standing C.holding) self.old changes.now mark result self.new }
+        ensures guard { ⟦<G as Watching>⟧.stays guard.old guard.new }
+        ensures heard { C.is_clean self.new.0 → Hears (⟦<G as Watching>⟧.hears guard.old guard.new) (heard_between (standing C.holding self.old) (standing C.holding self.new)) result }
+    {
+        let taking = match self.approve(alloc, guard, changes) {
+            Ok(taking) => taking,
+            Err(refusal) => return Err(refusal),
+        };
+        match self.tell(alloc, guard, changes) {
+            Ok(()) => self.commit_taking(alloc, &taking, mark),
+            Err(refusal) => Err(refusal),
+        }
+    }
+
+    // The same of changes that rows show already, as those of an open transaction: nobody is told.
+    pub(crate) fn take_shown<G: Guarding>(
+        &mut self,
+        alloc: Global,
+        guard: &G,
+        changes: &[Change],
+    ) -> Result<(), Refusal>
+        requires { G.is_faithful guard.now }
+        ensures { TakesAll (⟦<G as Watching>⟧.host guard.now) (honest C.is_honest) (clean C.is_clean) (standing C.holding) self.old changes.now None result self.new }
+    {
+        match self.approve(alloc, guard, changes) {
+            Ok(taking) => self.commit_taking(alloc, &taking, None),
+            Err(refusal) => Err(refusal),
         }
     }
 
@@ -260,13 +317,15 @@ impl<C: Cells> Session<C> {
     pub fn take_from<G: Guarding>(
         &mut self,
         alloc: Global,
-        guard: &G,
+        guard: &mut G,
         changes: &[Change],
         mark: Mark,
     ) -> Result<(), Refusal>
-        requires faithful { G.is_faithful guard.now }
+        requires faithful { G.is_faithful guard.old }
         requires from_0 { pos 0 ≤ℤ mark.1 }
-        ensures { TakesFrom (⟦<G as Watching>⟧.host guard.now) (honest C.is_honest) (clean C.is_clean) (standing C.holding) self.old changes.now mark result self.new }
+        ensures takes { TakesFrom (⟦<G as Watching>⟧.host guard.old) (honest C.is_honest) (clean C.is_clean) (standing C.holding) self.old changes.now mark result self.new }
+        ensures guard { ⟦<G as Watching>⟧.stays guard.old guard.new }
+        ensures heard { C.is_clean self.new.0 → Hears (⟦<G as Watching>⟧.hears guard.old guard.new) (heard_between (standing C.holding self.old) (standing C.holding self.new)) result }
     {
         if self.in_transaction() {
             return Err(Refusal::TransactionState);
@@ -325,9 +384,10 @@ impl<C: Cells> Session<C> {
         }
     }
 
-    fn take<G: Guarding>(&mut self, alloc: Global, guard: &G, row: &ChangeRow) -> FleetReply
-        requires { G.is_faithful guard.now }
-        ensures { (l : Language Statement Ordered) → Does l (⟦<G as Watching>⟧.host guard.now) (honest C.is_honest) (clean C.is_clean) (standing C.holding) self.old (Take row.now) result self.new }
+    fn take<G: Guarding>(&mut self, alloc: Global, guard: &mut G, row: &ChangeRow) -> FleetReply
+        requires { G.is_faithful guard.old }
+        ensures does { (l : Language Statement Ordered) → Does l (⟦<G as Watching>⟧.host guard.old) (honest C.is_honest) (clean C.is_clean) (standing C.holding) self.old (Take row.now) result self.new }
+        ensures guard { ⟦<G as Watching>⟧.stays guard.old guard.new }
     {
         if self.in_transaction() {
             return FleetReply::Refused(Refusal::TransactionState);
@@ -362,13 +422,14 @@ impl<C: Cells> Session<C> {
         &mut self,
         alloc: Global,
         functions: &F,
-        guard: &G,
+        guard: &mut G,
         source: &Text,
     ) -> FleetReply
         requires functions { F.is_faithful functions.now }
-        requires guard { G.is_faithful guard.now }
-        ensures { (has : List ℕ → Bool) → ⟦<F as Speaking>⟧.are_names functions.now has
-            → Does (⟦<F as Speaking>⟧.language functions.now has) (⟦<G as Watching>⟧.host guard.now) (honest C.is_honest) (clean C.is_clean) (standing C.holding) self.old (Sql source.now) result self.new }
+        requires guard { G.is_faithful guard.old }
+        ensures does { (has : List ℕ → Bool) → ⟦<F as Speaking>⟧.are_names functions.now has
+            → Does (⟦<F as Speaking>⟧.language functions.now has) (⟦<G as Watching>⟧.host guard.old) (honest C.is_honest) (clean C.is_clean) (standing C.holding) self.old (Sql source.now) result self.new }
+        ensures guard { ⟦<G as Watching>⟧.stays guard.old guard.new }
     {
         FleetReply::Script(self.script(alloc, functions, guard, source.as_str()))
     }
@@ -378,15 +439,16 @@ impl<C: Cells> Session<C> {
         &mut self,
         alloc: Global,
         functions: &F,
-        guard: &G,
+        guard: &mut G,
         command: &Command,
     ) -> FleetReply
         requires functions { F.is_faithful functions.now }
-        requires guard { G.is_faithful guard.now }
+        requires guard { G.is_faithful guard.old }
         requires ready { IsReady command.now }
         requires own { is_own command.now ≡ true }
-        ensures { (has : List ℕ → Bool) → ⟦<F as Speaking>⟧.are_names functions.now has
-            → Does (⟦<F as Speaking>⟧.language functions.now has) (⟦<G as Watching>⟧.host guard.now) (honest C.is_honest) (clean C.is_clean) (standing C.holding) self.old command.now result self.new }
+        ensures does { (has : List ℕ → Bool) → ⟦<F as Speaking>⟧.are_names functions.now has
+            → Does (⟦<F as Speaking>⟧.language functions.now has) (⟦<G as Watching>⟧.host guard.old) (honest C.is_honest) (clean C.is_clean) (standing C.holding) self.old command.now result self.new }
+        ensures guard { ⟦<G as Watching>⟧.stays guard.old guard.new }
     {
         match command {
             Command::Define(declaration) => self.define(alloc, functions, declaration),

@@ -4,7 +4,8 @@ ghost use Rattle.std.specs.Prelude.{◌≡◌};
 ghost use Rattle.cr_guard.specs.Guard.{asked};
 ghost use Rattle.cr_world.specs.Statement.{is_memory};
 ghost use Rattle.cr_answer.specs.Allowing.{known_by};
-ghost use Rattle.cr_session.specs.Performing.{Permits, is_transaction};
+ghost use Rattle.cr_script.specs.Hearing.{is_transaction};
+ghost use Rattle.cr_session.specs.Performing.{Permits};
 
 use crate::session::Session;
 use cr_answer::allowing::allowed;
@@ -103,7 +104,7 @@ impl<C: Cells> Session<C> {
         let Some(pending) = self.pending.take() else {
             return Err(Refusal::TransactionState);
         };
-        match self.commit_changes(alloc, guard, pending.changes()) {
+        match self.commit_shown(alloc, guard, pending.changes()) {
             Ok(reply) => Ok(reply),
             Err(refusal) => {
                 if is_memory(&refusal) {

@@ -35,7 +35,7 @@ fn of_pending(error: PendingError) -> Refusal
 }
 
 impl<C: Cells> Session<C> {
-    ghost use Rattle.std.specs.Prelude.{◌≡◌, true, false, List};
+    ghost use Rattle.std.specs.Prelude.{◌≡◌, true, false, List, IfErr};
     ghost use Rattle.cr_value.specs.declared.value.Value.{Value};
     ghost use Rattle.cr_cells.specs.Holding.{IsSound};
     ghost use Rattle.cr_scalar.specs.Host.{Host as Means};
@@ -47,23 +47,24 @@ impl<C: Cells> Session<C> {
     ghost use Rattle.cr_snapshot.specs.Seen.{IsNamed, catalog_of};
     ghost use Rattle.cr_term.specs.declared.query.Resolved.TheVariants as r;
     ghost use Rattle.cr_world.specs.Causes.{Free};
+    ghost use Rattle.cr_world.specs.State.{heard_between};
+    ghost use Rattle.cr_world.specs.Statement.{Host};
+    ghost use Rattle.cr_script.specs.Hearing.{Hears};
     ghost use Rattle.cr_session.specs.Performing.{Adds, Commits, Performed, is_table, not_replicated};
     ghost use Rattle.cr_session.specs.Sessions.{clean, honest, standing};
 
-    /// Commits changes, all or none; an open transaction stays as it is. They are well formed: where the store doesn't take them
-    /// as such, it is not as it was a moment ago.
-    ///
-    /// # Errors
-    /// `VersionLimit` where a kept change would change at the greatest version; `Veto` where policy or commit hook refuse what
-    /// would come in; `Memory`, or `Store`. Then nothing is changed.
-    pub(crate) fn commit_changes<G: Guarding>(
+    // Commits changes, all or none, once the listener is told; outside of transactions. They are well formed: where the store doesn't
+    // take them as such, it is not as it was a moment ago.
+    fn commit_changes<G: Guarding>(
         &mut self,
         alloc: Global,
-        guard: &G,
+        guard: &mut G,
         changes: &[Change],
     ) -> Result<Reply, Refusal>
-        requires { G.is_faithful guard.now }
-        ensures { Commits (⟦<G as Watching>⟧.host guard.now) (honest C.is_honest) (clean C.is_clean) (standing C.holding) self.old changes.now result self.new }
+        requires { G.is_faithful guard.old }
+        ensures commits { Commits (⟦<G as Watching>⟧.host guard.old) (honest C.is_honest) (clean C.is_clean) (standing C.holding) self.old changes.now result self.new }
+        ensures guard { ⟦<G as Watching>⟧.stays guard.old guard.new }
+        ensures heard { C.is_clean self.new.0 → Hears (⟦<G as Watching>⟧.hears guard.old guard.new) (heard_between (standing C.holding self.old) (standing C.holding self.new)) result }
     {
         match self.take_all(alloc, guard, changes, None) {
             Ok(()) => Ok(Reply::Done),
@@ -72,20 +73,40 @@ impl<C: Cells> Session<C> {
         }
     }
 
-    // Commits the changes of a write, or keeps them with those of the open transaction, all or none. They are well formed for
-    // these tables, and the open transaction has none of other tables: else the store is not as it was a moment ago.
-    fn add_changes<G: Guarding>(
+    /// Commits the changes of a transaction, which rows show already, all or none: so the listener isn't told.
+    ///
+    /// # Errors
+    /// `VersionLimit` where a kept change would change at the greatest version; `Veto` where policy or commit hook refuse what
+    /// would come in; `Memory`, or `Store`. Then nothing is changed.
+    pub(crate) fn commit_shown<G: Guarding>(
         &mut self,
         alloc: Global,
         guard: &G,
+        changes: &[Change],
+    ) -> Result<Reply, Refusal>
+        requires { G.is_faithful guard.now }
+        ensures { Commits (⟦<G as Watching>⟧.host guard.now) (honest C.is_honest) (clean C.is_clean) (standing C.holding) self.old changes.now result self.new }
+    {
+        match self.take_shown(alloc, guard, changes) {
+            Ok(()) => Ok(Reply::Done),
+            Err(Refusal::BadChange(_)) => Err(Refusal::Store(StoreFault::Refused)),
+            Err(refusal) => Err(refusal),
+        }
+    }
+
+    // Keeps changes with those of the open transaction, all or none. They are well formed for these tables, there is one,
+    // and it has none of other tables: else the store is not as it was a moment ago.
+    fn keep_changes(
+        &mut self,
+        alloc: Global,
         tables: &[Table],
         changes: Vec<Change>,
     ) -> Result<Reply, Refusal>
-        requires { G.is_faithful guard.now }
-        ensures { Adds (⟦<G as Watching>⟧.host guard.now) (honest C.is_honest) (clean C.is_clean) (standing C.holding) self.old changes.items result self.new }
+        ensures adds { (host : Host) → Adds host (honest C.is_honest) (clean C.is_clean) (standing C.holding) self.old changes.items result self.new }
+        ensures wants { IfErr result IsWant }
     {
         let Some(mut pending) = self.pending.take() else {
-            return self.commit_changes(alloc, guard, &changes);
+            return Err(Refusal::Store(StoreFault::Refused));
         };
         let added = pending.add(alloc, tables, changes);
         self.pending = Some(pending);
@@ -95,16 +116,38 @@ impl<C: Cells> Session<C> {
         }
     }
 
+    // Commits the changes of a write, or keeps them with those of the open transaction, all or none, once the listener is told.
+    fn add_changes<G: Guarding>(
+        &mut self,
+        alloc: Global,
+        guard: &mut G,
+        tables: &[Table],
+        changes: Vec<Change>,
+    ) -> Result<Reply, Refusal>
+        requires { G.is_faithful guard.old }
+        ensures adds { Adds (⟦<G as Watching>⟧.host guard.old) (honest C.is_honest) (clean C.is_clean) (standing C.holding) self.old changes.items result self.new }
+        ensures guard { ⟦<G as Watching>⟧.stays guard.old guard.new }
+        ensures heard { C.is_clean self.new.0 → Hears (⟦<G as Watching>⟧.hears guard.old guard.new) (heard_between (standing C.holding self.old) (standing C.holding self.new)) result }
+    {
+        if !self.in_transaction() {
+            return self.commit_changes(alloc, guard, &changes);
+        }
+        if let Err(refusal) = self.tell(alloc, guard, &changes) {
+            return Err(refusal);
+        }
+        self.keep_changes(alloc, tables, changes)
+    }
+
     // Brings rows to a replicated table: what stands against them is told by what is kept of the keys that they have.
     fn bring<G: Guarding>(
         &mut self,
         alloc: Global,
-        guard: &G,
+        guard: &mut G,
         names: &Snapshot,
         insert: &Insert,
         rows: Vec<Row>,
     ) -> Result<Reply, Refusal>
-        requires guard { G.is_faithful guard.now }
+        requires guard { G.is_faithful guard.old }
         requires sound { C.is_clean self.old.0 → IsSound (C.holding self.old.0) }
         requires named { C.is_clean self.old.0 → IsNamed (standing C.holding self.old) names.now }
         requires whole { IsWhole names.now }
@@ -113,8 +156,10 @@ impl<C: Cells> Session<C> {
         requires replicated { not_replicated insert.now.relation ≡ Free }
         requires used { insert.now.is_ignored ≡ false }
         requires width { AreWide insert.now.relation.definition.columns rows.items }
-        ensures { (means : Means) (params : List Value) → IsBoth means params (insert_brings insert.now) rows.items
-            → Performed means params (⟦<G as Watching>⟧.host guard.now) (honest C.is_honest) (clean C.is_clean) (standing C.holding) self.old (r.Insert insert.now) result self.new }
+        ensures performs { (means : Means) (params : List Value) → IsBoth means params (insert_brings insert.now) rows.items
+            → Performed means params (⟦<G as Watching>⟧.host guard.old) (honest C.is_honest) (clean C.is_clean) (standing C.holding) self.old (r.Insert insert.now) result self.new }
+        ensures guard { ⟦<G as Watching>⟧.stays guard.old guard.new }
+        ensures heard { C.is_clean self.new.0 → Hears (⟦<G as Watching>⟧.hears guard.old guard.new) (heard_between (standing C.holding self.old) (standing C.holding self.new)) result }
     {
         let tables = names.tables.as_slice();
         if !self.is_of(tables) {
@@ -140,19 +185,21 @@ impl<C: Cells> Session<C> {
         &mut self,
         alloc: Global,
         functions: &F,
-        guard: &G,
+        guard: &mut G,
         names: Snapshot,
         insert: &Insert,
         params: &[Value],
     ) -> Result<Reply, Refusal>
         requires functions { F.is_faithful functions.now }
-        requires guard { G.is_faithful guard.now }
+        requires guard { G.is_faithful guard.old }
         requires sound { C.is_clean self.old.0 → IsSound (C.holding self.old.0) }
         requires named { C.is_clean self.old.0 → IsNamed (standing C.holding self.old) names }
         requires whole { IsWhole names }
         requires suits { HasRelation (catalog_of names) insert.now.relation }
         requires table { is_table insert.now.relation.held ≡ true }
-        ensures { Performed (⟦<F as Hosted>⟧.means functions.now) params.now (⟦<G as Watching>⟧.host guard.now) (honest C.is_honest) (clean C.is_clean) (standing C.holding) self.old (r.Insert insert.now) result self.new }
+        ensures performs { Performed (⟦<F as Hosted>⟧.means functions.now) params.now (⟦<G as Watching>⟧.host guard.old) (honest C.is_honest) (clean C.is_clean) (standing C.holding) self.old (r.Insert insert.now) result self.new }
+        ensures guard { ⟦<G as Watching>⟧.stays guard.old guard.new }
+        ensures heard { C.is_clean self.new.0 → Hears (⟦<G as Watching>⟧.hears guard.old guard.new) (heard_between (standing C.holding self.old) (standing C.holding self.new)) result }
     {
         check_replicated(alloc, &insert.relation)?;
         if insert.is_ignored {
@@ -170,18 +217,20 @@ impl<C: Cells> Session<C> {
         &mut self,
         alloc: Global,
         functions: &F,
-        guard: &G,
+        guard: &mut G,
         names: &Snapshot,
         insert: &Insert,
         params: &[Value],
     ) -> Result<Reply, Refusal>
         requires functions { F.is_faithful functions.now }
-        requires guard { G.is_faithful guard.now }
+        requires guard { G.is_faithful guard.old }
         requires named { C.is_clean self.old.0 → IsNamed (standing C.holding self.old) names.now }
         requires whole { IsWhole names.now }
         requires suits { HasRelation (catalog_of names.now) insert.now.relation }
         requires module { is_table insert.now.relation.held ≡ false }
-        ensures { Performed (⟦<F as Hosted>⟧.means functions.now) params.now (⟦<G as Watching>⟧.host guard.now) (honest C.is_honest) (clean C.is_clean) (standing C.holding) self.old (r.Insert insert.now) result self.new }
+        ensures performs { Performed (⟦<F as Hosted>⟧.means functions.now) params.now (⟦<G as Watching>⟧.host guard.old) (honest C.is_honest) (clean C.is_clean) (standing C.holding) self.old (r.Insert insert.now) result self.new }
+        ensures guard { ⟦<G as Watching>⟧.stays guard.old guard.new }
+        ensures heard { C.is_clean self.new.0 → Hears (⟦<G as Watching>⟧.hears guard.old guard.new) (heard_between (standing C.holding self.old) (standing C.holding self.new)) result }
     {
         if insert.is_ignored {
             return Ok(Reply::Done);
@@ -198,18 +247,20 @@ impl<C: Cells> Session<C> {
         &mut self,
         alloc: Global,
         functions: &F,
-        guard: &G,
+        guard: &mut G,
         names: Snapshot,
         insert: &Insert,
         params: &[Value],
     ) -> Result<Reply, Refusal>
         requires functions { F.is_faithful functions.now }
-        requires guard { G.is_faithful guard.now }
+        requires guard { G.is_faithful guard.old }
         requires sound { C.is_clean self.old.0 → IsSound (C.holding self.old.0) }
         requires named { C.is_clean self.old.0 → IsNamed (standing C.holding self.old) names }
         requires whole { IsWhole names }
         requires suits { HasRelation (catalog_of names) insert.now.relation }
-        ensures { Performed (⟦<F as Hosted>⟧.means functions.now) params.now (⟦<G as Watching>⟧.host guard.now) (honest C.is_honest) (clean C.is_clean) (standing C.holding) self.old (r.Insert insert.now) result self.new }
+        ensures performs { Performed (⟦<F as Hosted>⟧.means functions.now) params.now (⟦<G as Watching>⟧.host guard.old) (honest C.is_honest) (clean C.is_clean) (standing C.holding) self.old (r.Insert insert.now) result self.new }
+        ensures guard { ⟦<G as Watching>⟧.stays guard.old guard.new }
+        ensures heard { C.is_clean self.new.0 → Hears (⟦<G as Watching>⟧.hears guard.old guard.new) (heard_between (standing C.holding self.old) (standing C.holding self.new)) result }
     {
         match insert.relation.held {
             Held::Table(_, _) => self.insert_rows(alloc, functions, guard, names, insert, params),
@@ -222,18 +273,20 @@ impl<C: Cells> Session<C> {
         &mut self,
         alloc: Global,
         functions: &F,
-        guard: &G,
+        guard: &mut G,
         names: Snapshot,
         update: &Update,
         params: &[Value],
     ) -> Result<Reply, Refusal>
         requires functions { F.is_faithful functions.now }
-        requires guard { G.is_faithful guard.now }
+        requires guard { G.is_faithful guard.old }
         requires sound { C.is_clean self.old.0 → IsSound (C.holding self.old.0) }
         requires named { C.is_clean self.old.0 → IsNamed (standing C.holding self.old) names }
         requires whole { IsWhole names }
         requires suits { HasRelation (catalog_of names) update.now.relation }
-        ensures { Performed (⟦<F as Hosted>⟧.means functions.now) params.now (⟦<G as Watching>⟧.host guard.now) (honest C.is_honest) (clean C.is_clean) (standing C.holding) self.old (r.Update update.now) result self.new }
+        ensures performs { Performed (⟦<F as Hosted>⟧.means functions.now) params.now (⟦<G as Watching>⟧.host guard.old) (honest C.is_honest) (clean C.is_clean) (standing C.holding) self.old (r.Update update.now) result self.new }
+        ensures guard { ⟦<G as Watching>⟧.stays guard.old guard.new }
+        ensures heard { C.is_clean self.new.0 → Hears (⟦<G as Watching>⟧.hears guard.old guard.new) (heard_between (standing C.holding self.old) (standing C.holding self.new)) result }
     {
         if let Err(refusal) = check_table(alloc, &update.relation) {
             return Err(refusal);
@@ -254,18 +307,20 @@ impl<C: Cells> Session<C> {
         &mut self,
         alloc: Global,
         functions: &F,
-        guard: &G,
+        guard: &mut G,
         names: Snapshot,
         delete: &Delete,
         params: &[Value],
     ) -> Result<Reply, Refusal>
         requires functions { F.is_faithful functions.now }
-        requires guard { G.is_faithful guard.now }
+        requires guard { G.is_faithful guard.old }
         requires sound { C.is_clean self.old.0 → IsSound (C.holding self.old.0) }
         requires named { C.is_clean self.old.0 → IsNamed (standing C.holding self.old) names }
         requires whole { IsWhole names }
         requires suits { HasRelation (catalog_of names) delete.now.relation }
-        ensures { Performed (⟦<F as Hosted>⟧.means functions.now) params.now (⟦<G as Watching>⟧.host guard.now) (honest C.is_honest) (clean C.is_clean) (standing C.holding) self.old (r.Delete delete.now) result self.new }
+        ensures performs { Performed (⟦<F as Hosted>⟧.means functions.now) params.now (⟦<G as Watching>⟧.host guard.old) (honest C.is_honest) (clean C.is_clean) (standing C.holding) self.old (r.Delete delete.now) result self.new }
+        ensures guard { ⟦<G as Watching>⟧.stays guard.old guard.new }
+        ensures heard { C.is_clean self.new.0 → Hears (⟦<G as Watching>⟧.hears guard.old guard.new) (heard_between (standing C.holding self.old) (standing C.holding self.new)) result }
     {
         if let Err(refusal) = check_table(alloc, &delete.relation) {
             return Err(refusal);

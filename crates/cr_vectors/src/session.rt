@@ -30,8 +30,8 @@ fn replied<C: Cells>(
     session: &mut Session<C>,
     text: &str,
 ) -> Result<String, AllocError> {
-    let policy = Policy::new(alloc);
-    let outcome = session.execute(alloc, &BuiltIns, &policy, text, &[]);
+    let mut policy = Policy::new(alloc);
+    let outcome = session.execute(alloc, &BuiltIns, &mut policy, text, &[]);
     told(alloc, &outcome)
 }
 

@@ -1,9 +1,13 @@
-//! A host that embeds the engine: it registers two tables of its own with a session, has statements carried out, one with values
-//! for its parameters, and prints each with its answer.
+//! A host that embeds the engine: it registers two tables of its own with a session, listens to what becomes of rows, has statements
+//! carried out, one with values for its parameters, and prints each with what was heard of it and its answer.
 #![tactic(auto)]
 
+mod listening;
+
 use cr_cells::plain::PlainCells;
-use cr_guard::policy::Policy;
+use cr_guard::guard::Guard;
+use cr_guard::listener::Listener;
+use cr_guard::samples::Notes;
 use cr_host::functions::BuiltIns;
 use cr_hosted::session::HostedSession;
 use cr_lattice::change::Site;
@@ -16,14 +20,17 @@ use cr_value::text::Text;
 use cr_value::value::Value;
 use cr_world::command::Reply;
 use cr_world::refusal::Refusal;
+use listening::{Shared, Silent, print_heard};
 use std::alloc::{AllocError, Global};
+use std::cell::RefCell;
 use std::io::{self, LineWriter, Write};
+use std::rc::Rc;
 
 /// Changes of this replica bear its site.
 const SITE: Site = [0x0a; 16];
 
-/// `m` and `fixed` are the host's tables, `t` is one of the replica's.
-const STATEMENTS: [&str; 20] = [
+/// `m` and `fixed` are the host's tables, `t` and `w` are the replica's.
+const STATEMENTS: [&str; 29] = [
     "SELECT * FROM m WHERE v >= 2",
     "INSERT INTO m VALUES(4)",
     "SELECT * FROM m WHERE v >= 2",
@@ -44,9 +51,44 @@ const STATEMENTS: [&str; 20] = [
     "SELECT count(*) FROM m LEFT JOIN t ON id = v WHERE id IS NULL",
     "ROLLBACK",
     "SELECT count(*) FROM m LEFT JOIN t ON id = v WHERE id IS NULL",
+    "CREATE TABLE w(id INTEGER PRIMARY KEY, name TEXT)",
+    "SELECT crsql_as_crr('w')",
+    "INSERT INTO w VALUES(1, 'a'), (2, 'b')",
+    "UPDATE w SET id = id + 1",
+    "UPDATE w SET id = 5",
+    "BEGIN",
+    "DELETE FROM w WHERE id = 2",
+    "UPDATE w SET name = name",
+    "COMMIT",
 ];
 
-type Host = HostedSession<PlainCells, Listed>;
+/// A session, and who watches it.
+#[derive(Drop)]
+struct Host {
+    session: HostedSession<PlainCells, Listed>,
+    guard: Guard<Silent>,
+    notes: Rc<RefCell<Notes>>,
+}
+
+// A session whose listener's notes are here.
+fn new_host(alloc: Global) -> Result<Host, AllocError> {
+    let notes = Rc::new(alloc, RefCell::new(Notes::new(alloc)))?;
+    let notes_of_listener = notes.clone()?;
+    let listener: Box<dyn Listener> = Box::new(
+        alloc,
+        Shared {
+            notes: notes_of_listener,
+        },
+    )?;
+    let mut guard = Guard::new(alloc);
+    guard.set_listener(listener);
+    let session = HostedSession::new(alloc, Session::new(PlainCells::new(alloc, SITE)));
+    Ok(Host {
+        session,
+        guard,
+        notes,
+    })
+}
 
 // A table of one column, `v`, with the rows 1, 2 and 3, to which an INSERT may bring more, or none.
 fn numbers(alloc: Global, takes_rows: bool) -> Result<Listed, AllocError> {
@@ -94,45 +136,69 @@ fn print_reply<W: Write>(
 // Registers a table of the host under a name, and prints whether it may have that.
 fn register<W: Write>(
     alloc: Global,
-    session: &mut Host,
+    host: &mut Host,
     name: &str,
     takes_rows: bool,
     out: &mut W,
 ) -> io::Result<()> {
     writeln!(out, "register {name}")?;
-    match session.register_module(alloc, name, numbers(alloc, takes_rows)?) {
+    match host
+        .session
+        .register_module(alloc, name, numbers(alloc, takes_rows)?)
+    {
         Ok(()) => writeln!(out, "done"),
         Err(refusal) => print_refusal(&refusal, out),
     }
 }
 
-// Has a statement carried out with values for its parameters, and prints it with its answer.
+// Has a statement carried out with values for its parameters, and prints it with what was heard of it and its answer.
 fn ask<W: Write>(
     alloc: Global,
-    session: &mut Host,
+    host: &mut Host,
     text: &str,
     values: &[Value],
     out: &mut W,
 ) -> io::Result<()> {
     writeln!(out, "{text}")?;
-    let policy = Policy::new(alloc);
-    let outcome = session.execute(alloc, &BuiltIns, &policy, text, values);
+    let outcome = host
+        .session
+        .execute(alloc, &BuiltIns, &mut host.guard, text, values);
+    print_heard(alloc, &host.notes, out)?;
+    print_reply(alloc, &outcome, out)
+}
+
+// The same while the listener's notes are held, so that it has no room for what it hears.
+fn ask_unheard<W: Write>(
+    alloc: Global,
+    host: &mut Host,
+    text: &str,
+    out: &mut W,
+) -> io::Result<()> {
+    writeln!(out, "{text}")?;
+    let held = host.notes.try_borrow();
+    let outcome = host
+        .session
+        .execute(alloc, &BuiltIns, &mut host.guard, text, &[]);
+    drop(held);
     print_reply(alloc, &outcome, out)
 }
 
 fn run<W: Write>(alloc: Global, out: &mut W) -> io::Result<()> {
-    let mut session = HostedSession::new(alloc, Session::new(PlainCells::new(alloc, SITE)));
-    register(alloc, &mut session, "M", true, out)?;
-    register(alloc, &mut session, "m", true, out)?;
-    register(alloc, &mut session, "crsql_x", true, out)?;
-    register(alloc, &mut session, "fixed", false, out)?;
+    let mut host = new_host(alloc)?;
+    register(alloc, &mut host, "M", true, out)?;
+    register(alloc, &mut host, "m", true, out)?;
+    register(alloc, &mut host, "crsql_x", true, out)?;
+    register(alloc, &mut host, "fixed", false, out)?;
     for text in &STATEMENTS {
-        ask(alloc, &mut session, text, &[], out)?;
+        ask(alloc, &mut host, text, &[], out)?;
     }
+    ask_unheard(alloc, &mut host, "INSERT INTO w VALUES(4, 'd')", out)?;
+    ask(alloc, &mut host, "INSERT INTO w VALUES(5, 'e')", &[], out)?;
+    ask(alloc, &mut host, "SELECT * FROM w", &[], out)?;
     let name = Value::Text(Text::from_str(alloc, "a")?);
     let values = vec![in alloc; name, Value::Int(2), Value::Null]?;
-    ask(alloc, &mut session, "SELECT ? || ?1, ?3", &values, out)?;
-    ask(alloc, &mut session, "SELECT ? || ?1, ?3", &values[..2], out)
+    ask(alloc, &mut host, "SELECT ? || ?1, ?3", &values, out)?;
+    ask(alloc, &mut host, "SELECT ? || ?1, ?3", &values[..2], out)
 }
 
 fn main(rt: HostRuntime) -> io::Result<()> {

@@ -13,15 +13,18 @@ pub returns-in-Ok-clause-turns : goal.returns-in-Ok-clause-turns
 returns-in-Ok-clause-turns g c = λ has names. record {
   statement = c.in-Ok-Some.statement;
   is = found _ _ c.next_statement-next.result _ c.next_statement-next.ensures (search rules);
-  carries = c.in-Ok.ensures has names;
+  carries = c.in-Ok.ensures.carries has names;
 }
 
 pub returns-in-Ok-Some-clause-turns : goal.returns-in-Ok-Some-clause-turns
 returns-in-Ok-Some-clause-turns g c = λ has names.
-    inr (inl (c.in-Ok-Some.statement, c.in-Ok-Some.len, found _ _ c.next_statement-next.result _ c.next_statement-next.ensures (search rules), c.in-Err-statement.ensures has names))
+    inr (inl (c.in-Ok-Some.statement, c.in-Ok-Some.len, found _ _ c.next_statement-next.result _ c.next_statement-next.ensures (search rules), c.in-Err-statement.ensures.carries has names))
 
 pub returns-in-Ok-clause-takes : goal.returns-in-Ok-clause-takes
 returns-in-Ok-clause-takes g c = takes _ _ c.in-Ok-Some.statement c.in-Ok-Some.len (found _ _ c.next_statement-next.result _ c.next_statement-next.ensures (search rules))
 
 pub statement-requires-clause-folded : goal.statement-requires-clause-folded
 statement-requires-clause-folded g c = folded c.args.source.now c.args.tokens.now c.in-Ok-Some.statement c.in-Ok-Some.len (found c.args.source.now c.args.tokens.now c.next_statement-next.result _ c.next_statement-next.ensures (search rules))
+
+pub returns-in-Ok-clause-heard : goal.returns-in-Ok-clause-heard
+returns-in-Ok-clause-heard g c = λ clean. (c.in-Ok-Some.statement, c.in-Ok-Some.len, found _ _ c.next_statement-next.result _ c.next_statement-next.ensures (search rules), c.in-Ok.ensures.heard clean)

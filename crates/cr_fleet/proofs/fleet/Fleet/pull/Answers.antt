@@ -3,6 +3,7 @@ use Rattle.std.proofs.lemmas.List.{length-set}
 use Rattle.std.proofs.lemmas.Option.{slice_get-get_or}
 use Rattle.cr_lattice.specs.Check.{same_bytes}
 use Rattle.cr_world.specs.World.{item_at}
+use Rattle.cr_script.proofs.Staying.{same_closures}
 use Rattle.cr_session.specs.Sessions.{clean, honest, standing, state_of}
 use Rattle.cr_fleet.specs.declared.fleet.Named.{Named}
 use Rattle.cr_fleet.specs.Fleets.{AreClean}
@@ -12,8 +13,8 @@ use Rattle.cr_fleet.proofs.Stepping.{pair_at, place_paired}
 use Rattle.cr_fleet.proofs.Pulling.{pull_unknown, pull_in_transaction, pull_same_site, pull_unread, pull_taken}
 use Rattle.cr_fleet.proofs.fleet.Fleet.pull.Goals as goal
 
-pub returns-in_default-place_of : goal.returns-in_default-place_of
-returns-in_default-place_of g c = λ l.
+pub returns-in_default-place_of-clause-steps : goal.returns-in_default-place_of-clause-steps
+returns-in_default-place_of-clause-steps g c = λ l.
     let items = c.self.inside.replicas.items in
     let found = c.in-Some-get.ensures.lookup in
     let paired = pair_at items c.in-Some.at c.in-Some-get.taker.now (found_there c.deref.result.now items c.in-Some.at c.in-Some-get.taker.now c.deref.ensures.value found.3.0 found.1) in
@@ -21,8 +22,8 @@ returns-in_default-place_of g c = λ l.
     rw (← c.self.view_is) (pull_unknown l _ (clean g.C.Cells.is_clean) (standing g.C.Cells.holding) _ _ c.args.name.now c.in-Some.at _ place paired
     (ap (λ (o : Option ℕ). item_at o (map pair items)) (place_paired items c.self.inside.in_use c.args.name.now None (search rules))))
 
-pub returns-then-in_transaction : goal.returns-then-in_transaction
-returns-then-in_transaction g c = λ l.
+pub returns-then-in_transaction-clause-steps : goal.returns-then-in_transaction-clause-steps
+returns-then-in_transaction-clause-steps g c = λ l.
     let items = c.self.inside.replicas.items in
     let found = c.in-Some-get.ensures.lookup in
     let paired = pair_at items c.in-Some.at c.in-Some-get.taker.now (found_there c.deref.result.now items c.in-Some.at c.in-Some-get.taker.now c.deref.ensures.value found.3.0 found.1) in
@@ -32,8 +33,8 @@ returns-then-in_transaction g c = λ l.
     let from = place_paired items c.self.inside.in_use c.args.name.now (Some c.in-Some-place_of.from) (sym c.in-Some-place_of.is ∙ c.place_of.ensures ∙ (λ i. position (λ n. same_bytes n.name (c.as_str.ensures.value i)) (c.deref-2.ensures.value i))) in
     rw (← c.self.view_is) (pull_in_transaction l _ (clean g.C.Cells.is_clean) (standing g.C.Cells.holding) _ _ c.args.name.now c.in-Some.at _ place paired c.in-Some-place_of.from _ from there (sym c.in_transaction.ensures ∙ c.if-in_transaction.true))
 
-pub returns-then-same_bytes : goal.returns-then-same_bytes
-returns-then-same_bytes g c = λ l.
+pub returns-then-same_bytes-clause-steps : goal.returns-then-same_bytes-clause-steps
+returns-then-same_bytes-clause-steps g c = λ l.
     let items = c.self.inside.replicas.items in
     let found = c.in-Some-get.ensures.lookup in
     let paired = pair_at items c.in-Some.at c.in-Some-get.taker.now (found_there c.deref.result.now items c.in-Some.at c.in-Some-get.taker.now c.deref.ensures.value found.3.0 found.1) in
@@ -46,8 +47,8 @@ returns-then-same_bytes g c = λ l.
     (c.site-2.ensures (all_at (λ x. g.C.Cells.is_clean x.1.0) (map pair items) c.in-Some.at _ clean paired) i))
     ∙ sym c.same_bytes.ensures ∙ c.if-same_bytes.true))
 
-pub returns-in-Err : goal.returns-in-Err
-returns-in-Err g c = λ l.
+pub returns-in-Err-clause-steps : goal.returns-in-Err-clause-steps
+returns-in-Err-clause-steps g c = λ l.
     let items = c.self.inside.replicas.items in
     let found = c.in-Some-get.ensures.lookup in
     let paired = pair_at items c.in-Some.at c.in-Some-get.taker.now (found_there c.deref.result.now items c.in-Some.at c.in-Some-get.taker.now c.deref.ensures.value found.3.0 found.1) in
@@ -68,8 +69,8 @@ returns-in-Err g c = λ l.
     (pull_unread l _ (clean g.C.Cells.is_clean) (standing g.C.Cells.holding) _ _ c.args.name.now c.in-Some.at _ place paired c.in-Some-place_of.from _ from there (sym c.in_transaction.ensures ∙ c.if-in_transaction.false) _ refl c.changes_above.ensures.was_clean sites c.in-Err.error (c.in-Err.ensures.stays_clean (g.met.C.NewCells.always_honest _))
     (λ clean. ((λ i. state_of ((c.in-Err.ensures.reads clean).same i) (c.changes_above.ensures.pending i)), (c.in-Err.ensures.reads clean).answers)))))
 
-pub returns : goal.returns
-returns g c = λ l.
+pub returns-clause-steps : goal.returns-clause-steps
+returns-clause-steps g c = λ l.
     let items = c.self.inside.replicas.items in
     let found = c.in-Some-get.ensures.lookup in
     let paired = pair_at items c.in-Some.at c.in-Some-get.taker.now (found_there c.deref.result.now items c.in-Some.at c.in-Some-get.taker.now c.deref.ensures.value found.3.0 found.1) in
@@ -91,7 +92,10 @@ returns g c = λ l.
     let within_mid : c.in-Some.at < length mid = subst (λ (n : ℕ). c.in-Some.at < n) (ap length c.deref.ensures.value ∙ sym (length-set items c.in-Some-place_of.from peer)) found.3.0 in
     let at_mid : slice_get mid c.in-Some.at ≡ Some c.in-Some-get_mut-2.taker.now = slice_get-get_or mid c.in-Some.at c.in-Some-get_mut-2.taker.now within_mid ∙ ap Some (sym c.in-Some-get_mut-2.ensures.value) in
     let paired_mid = rw (map_set pair items c.in-Some-place_of.from peer) at (pair_at mid c.in-Some.at c.in-Some-get_mut-2.taker.now at_mid) in
-    rw c.reply_of.ensures (rw (← c.self.view_is) (rw (map_set pair mid c.in-Some.at _, map_set pair items c.in-Some-place_of.from peer)
+    rw (c.reply_of.ensures, c.take_all.ensures.guard.same_rules) (rw (← c.self.view_is) (rw (map_set pair mid c.in-Some.at _, map_set pair items c.in-Some-place_of.from peer)
     (pull_taken l _ (clean g.C.Cells.is_clean) (standing g.C.Cells.holding) _ _ c.args.name.now c.in-Some.at _ place paired c.in-Some-place_of.from _ from there (sym c.in_transaction.ensures ∙ c.if-in_transaction.false) _ refl c.changes_above.ensures.was_clean sites
     c.in-Ok.changes.items (c.in-Ok.ensures.stays_clean (g.met.C.NewCells.always_honest _)) (λ clean i. state_of ((c.in-Ok.ensures.reads clean).same i) (c.changes_above.ensures.pending i)) c.changes_above.ensures.sound (λ clean. (c.in-Ok.ensures.reads clean).answers)
-    _ _ paired_mid refl c.take_all.result (takes_always (honest g.C.Cells.is_honest) (clean g.C.Cells.is_clean) (standing g.C.Cells.holding) _ _ (g.met.C.NewCells.always_honest _) _ _ _ _ (rw c.deref-4.ensures.value at c.take_all.ensures)))))
+    _ _ paired_mid refl c.take_all.result (takes_always (honest g.C.Cells.is_honest) (clean g.C.Cells.is_clean) (standing g.C.Cells.holding) _ _ (g.met.C.NewCells.always_honest _) _ _ _ _ (rw c.deref-4.ensures.value at c.take_all.ensures.takes)))))
+
+pub returns-clause-closures : goal.returns-clause-closures
+returns-clause-closures g c = same_closures g.G.Guarding.is_faithful g.G.Guarding.rules g.G.Guarding.allows g.G.Guarding.refuses _ _ c.take_all.ensures.guard

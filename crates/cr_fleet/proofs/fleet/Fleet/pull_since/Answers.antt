@@ -12,8 +12,8 @@ use Rattle.cr_fleet.proofs.Stepping.{pair_at, place_paired}
 use Rattle.cr_fleet.proofs.PullingSince.{since_unknown, since_in_transaction, since_same_site, since_unseen, since_seen}
 use Rattle.cr_fleet.proofs.fleet.Fleet.pull_since.Goals as goal
 
-pub returns-in_default-place_of : goal.returns-in_default-place_of
-returns-in_default-place_of g c = λ l.
+pub returns-in_default-place_of-clause-steps : goal.returns-in_default-place_of-clause-steps
+returns-in_default-place_of-clause-steps g c = λ l.
     let items = c.self.inside.replicas.items in
     let found = c.in-Some-get.ensures.lookup in
     let paired = pair_at items c.in-Some.at c.in-Some-get.taker.now (found_there c.deref.result.now items c.in-Some.at c.in-Some-get.taker.now c.deref.ensures.value found.3.0 found.1) in
@@ -21,8 +21,8 @@ returns-in_default-place_of g c = λ l.
     rw (← c.self.view_is) (since_unknown l _ (clean g.C.Cells.is_clean) (standing g.C.Cells.holding) _ _ c.args.name.now c.in-Some.at _ place paired
     (ap (λ (o : Option ℕ). item_at o (map pair items)) (place_paired items c.self.inside.in_use c.args.name.now None (search rules))))
 
-pub returns-then-in_transaction : goal.returns-then-in_transaction
-returns-then-in_transaction g c = λ l.
+pub returns-then-in_transaction-clause-steps : goal.returns-then-in_transaction-clause-steps
+returns-then-in_transaction-clause-steps g c = λ l.
     let items = c.self.inside.replicas.items in
     let found = c.in-Some-get.ensures.lookup in
     let paired = pair_at items c.in-Some.at c.in-Some-get.taker.now (found_there c.deref.result.now items c.in-Some.at c.in-Some-get.taker.now c.deref.ensures.value found.3.0 found.1) in
@@ -32,8 +32,8 @@ returns-then-in_transaction g c = λ l.
     let from = place_paired items c.self.inside.in_use c.args.name.now (Some c.in-Some-place_of.from) (sym c.in-Some-place_of.is ∙ c.place_of.ensures ∙ (λ i. position (λ n. same_bytes n.name (c.as_str.ensures.value i)) (c.deref-2.ensures.value i))) in
     rw (← c.self.view_is) (since_in_transaction l _ (clean g.C.Cells.is_clean) (standing g.C.Cells.holding) _ _ c.args.name.now c.in-Some.at _ place paired c.in-Some-place_of.from _ from there (sym c.in_transaction.ensures ∙ c.if-in_transaction.true))
 
-pub returns-then-same_bytes : goal.returns-then-same_bytes
-returns-then-same_bytes g c = λ l.
+pub returns-then-same_bytes-clause-steps : goal.returns-then-same_bytes-clause-steps
+returns-then-same_bytes-clause-steps g c = λ l.
     let items = c.self.inside.replicas.items in
     let found = c.in-Some-get.ensures.lookup in
     let paired = pair_at items c.in-Some.at c.in-Some-get.taker.now (found_there c.deref.result.now items c.in-Some.at c.in-Some-get.taker.now c.deref.ensures.value found.3.0 found.1) in
@@ -46,8 +46,8 @@ returns-then-same_bytes g c = λ l.
     (c.site.ensures (all_at (λ x. g.C.Cells.is_clean x.1.0) (map pair items) c.in-Some.at _ clean paired) i))
     ∙ sym c.same_bytes.ensures ∙ c.if-same_bytes.true))
 
-pub returns-in-Err : goal.returns-in-Err
-returns-in-Err g c = λ l.
+pub returns-in-Err-clause-steps : goal.returns-in-Err-clause-steps
+returns-in-Err-clause-steps g c = λ l.
     let items = c.self.inside.replicas.items in
     let found = c.in-Some-get.ensures.lookup in
     let found_at = found_there c.deref.result.now items c.in-Some.at c.in-Some-get.taker.now c.deref.ensures.value found.3.0 found.1 in
@@ -69,8 +69,8 @@ returns-in-Err g c = λ l.
     (since_unseen l _ (clean g.C.Cells.is_clean) (standing g.C.Cells.holding) _ _ c.args.name.now c.in-Some.at _ place paired c.in-Some-place_of.from _ from there outside sites _ refl c.seen.ensures.was_clean c.in-Err.error (c.in-Err.ensures.stays_clean (g.met.C.NewCells.always_honest _))
     (λ clean. ((λ i. state_of ((c.in-Err.ensures.reads clean).same i) (c.seen.ensures.pending i)), (c.in-Err.ensures.reads clean).answers)))))
 
-pub returns : goal.returns
-returns g c = λ l.
+pub returns-clause-steps : goal.returns-clause-steps
+returns-clause-steps g c = λ l.
     let items = c.self.inside.replicas.items in
     let found = c.in-Some-get.ensures.lookup in
     let found_at = found_there c.deref.result.now items c.in-Some.at c.in-Some-get.taker.now c.deref.ensures.value found.3.0 found.1 in
@@ -91,8 +91,8 @@ returns g c = λ l.
     let taker : Named g.row.C.Denot = record { name = c.in-Some-get_mut.taker.now.name; session = c.seen.new.self } in
     let fits : SFits w64 c.in-Ok.seen = search rules in
     let seen_same : to_z w64 (of_z w64 c.in-Ok.seen) ≡ c.in-Ok.seen = to_z-of_z fits in
-    rw (← c.self.view_is)
+    rw (← c.self.view_is, c.take_since.ensures.rules)
     (since_seen l _ (clean g.C.Cells.is_clean) (standing g.C.Cells.holding) _ _ c.args.name.now c.in-Some.at _ place paired c.in-Some-place_of.from _ from there outside sites (pair taker) refl (ap is_some c.seen.ensures.pending ∙ outside) c.seen.ensures.was_clean (c.in-Ok.ensures.stays_clean (g.met.C.NewCells.always_honest _))
     (λ clean i. state_of ((c.in-Ok.ensures.reads clean).same i) (c.seen.ensures.pending i)) (to_z w64 (of_z w64 c.in-Ok.seen))
     (λ clean own. seen_same ∙ (c.in-Ok.ensures.reads own).answers ∙ ap (seen_of (g.C.Cells.holding c.in-Some-get_mut.taker.now.session.0).marks) (c.site-site.ensures (all_at (λ x. g.C.Cells.is_clean x.1.0) (map pair items) c.in-Some-place_of.from _ clean there)))
-    c.take_since.result c.take_since.new.self (rw (map_set pair items c.in-Some.at taker) at (c.take_since.ensures l c.args.name.now)))
+    c.take_since.result c.take_since.new.self (rw (map_set pair items c.in-Some.at taker) at (c.take_since.ensures.steps l c.args.name.now)))

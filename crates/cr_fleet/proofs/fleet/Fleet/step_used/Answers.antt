@@ -1,17 +1,21 @@
 use Rattle.std.proofs.Common.{rules, ◌≡◌, ◌<◌, Some, sym, ap, ◌∙◌, refl, length, slice_get, arith}
 use Rattle.std.proofs.lemmas.Option.{slice_get-get_or}
+use Rattle.cr_script.proofs.Staying.{same_closures}
 use Rattle.cr_session.specs.Sessions.{clean, honest, standing}
 use Rattle.cr_fleet.proofs.Honest.{does_always}
 use Rattle.cr_fleet.proofs.Stepping.{pair_at, viewed, own_steps}
 use Rattle.cr_fleet.proofs.fleet.Fleet.step_used.Goals as goal
 
-pub returns : goal.returns
-returns g c = λ has names.
-    let stepped = does_always (honest g.C.Cells.is_honest) (clean g.C.Cells.is_clean) (standing g.C.Cells.holding) _ _ (g.met.C.NewCells.always_honest _) _ _ _ _ (c.step.ensures has names) in
+pub returns-clause-steps : goal.returns-clause-steps
+returns-clause-steps g c = λ has names.
+    let stepped = does_always (honest g.C.Cells.is_honest) (clean g.C.Cells.is_clean) (standing g.C.Cells.holding) _ _ (g.met.C.NewCells.always_honest _) _ _ _ _ (c.step.ensures.does has names) in
     let replicas = c.self.inside.replicas in
     let within : c.in-Some.at < length replicas.items = (let h = c.in-Some-get_mut.ensures.variant.0 refl in let n = replicas.ok.0 in omega arith) in
     let at : slice_get replicas.items c.in-Some.at ≡ Some c.in-Some-get_mut.named.now = slice_get-get_or replicas.items c.in-Some.at c.in-Some-get_mut.named.now within ∙ ap Some (sym c.in-Some-get_mut.ensures.value) in
     let paired = pair_at replicas.items c.in-Some.at c.in-Some-get_mut.named.now at in
     let place : c.self.inside.in_use ≡ Some c.in-Some.at = search rules in
-    rw (← c.self.view_is) (viewed _ _ (clean g.C.Cells.is_clean) (standing g.C.Cells.holding) _ replicas.items c.self.inside.in_use c.in-Some.at _ _ _
+    rw (← c.self.view_is, c.step.ensures.guard.same_rules) (viewed _ _ (clean g.C.Cells.is_clean) (standing g.C.Cells.holding) _ replicas.items c.self.inside.in_use c.in-Some.at _ _ _
     (own_steps _ _ (clean g.C.Cells.is_clean) (standing g.C.Cells.holding) _ _ c.in-Some.at _ _ place paired stepped.was_clean c.args.command.now c.step.result c.requires.own refl stepped))
+
+pub returns-clause-closures : goal.returns-clause-closures
+returns-clause-closures g c = same_closures g.G.Guarding.is_faithful g.G.Guarding.rules g.G.Guarding.allows g.G.Guarding.refuses _ _ c.step.ensures.guard

@@ -6,18 +6,18 @@ use Rattle.cr_modules.specs.States.{made}
 use Rattle.cr_session.proofs.Carrying.{carries_performed, form_is, refuses_allowed, unread_refuses}
 use Rattle.cr_hosted.proofs.session.HostedSession.carry_out.Goals as goal
 
-pub returns-then-is_transaction : goal.returns-then-is_transaction
-returns-then-is_transaction g c = λ has names.
+pub returns-then-is_transaction-clause-carries : goal.returns-then-is_transaction-clause-carries
+returns-then-is_transaction-clause-carries g c = λ has names.
     let d = c.transact.ensures (map (λ r. made r.name (g.M.Module.columns_of r.host) (g.M.Module.rows_of r.host) (g.M.Module.updated r.host)) c.args.self.now.modules.list.items) has names in
     record { was_honest = d.was_honest; was_clean = d.was_clean; stays_clean = d.stays_clean; answers = d.answers; leaves = d.leaves }
 
-pub returns-in-Err : goal.returns-in-Err
-returns-in-Err g c = λ has names.
+pub returns-in-Err-clause-carries : goal.returns-in-Err-clause-carries
+returns-in-Err-clause-carries g c = λ has names.
     unread_refuses _ _ _ _ _ _ has _ names _ _ _ _ c.args.params.now c.args.self.now c.names.new.self c.args.statement.now c.in-Err.error c.from.result c.from.ensures (search rules)
     c.names.ensures.was_honest c.names.ensures.was_clean c.in-Err.ensures.stays_clean c.in-Err.ensures.names
 
-pub returns-in-Err-allowed : goal.returns-in-Err-allowed
-returns-in-Err-allowed g c = λ has names.
+pub returns-in-Err-allowed-clause-carries : goal.returns-in-Err-allowed-clause-carries
+returns-in-Err-allowed-clause-carries g c = λ has names.
     refuses_allowed _ _ _ _ _ _ has _ names _ _ _ _ c.args.params.now _ _ c.args.statement.now c.in-Ok.names c.in-Err-allowed.refusal
     c.in-Ok.ensures.was_honest c.in-Ok.ensures.was_clean c.in-Ok.ensures.stays_clean c.in-Ok.ensures.names c.in-Err-allowed.ensures
 
@@ -31,7 +31,7 @@ perform-requires-clause-form g c =
     form_is (known_by (g.F.Functions.function_of c.args.functions.now) (g.F.Functions.names_function c.args.functions.now) (g.F.Functions.order_of c.args.functions.now) c.in-Ok.names)
     (asked (g.G.Guarding.rules c.args.guard.now) (g.G.Guarding.allows c.args.guard.now)) c.args.statement.now c.in-Ok-allowed.resolved (search rules) c.in-Ok-allowed.ensures.0
 
-pub returns : goal.returns
-returns g c = λ has names.
+pub returns-clause-carries : goal.returns-clause-carries
+returns-clause-carries g c = λ has names.
     carries_performed _ _ _ _ _ _ has _ names _ _ _ _ c.args.params.now c.args.self.now c.names.new.self c.perform.new.self c.args.statement.now c.in-Ok.names c.in-Ok-allowed.resolved c.perform.result
-    c.in-Ok.ensures.names c.in-Ok-allowed.ensures c.perform.ensures c.in-Ok.ensures.was_honest c.in-Ok.ensures.was_clean c.in-Ok.ensures.stays_clean
+    c.in-Ok.ensures.names c.in-Ok-allowed.ensures c.perform.ensures.performs c.in-Ok.ensures.was_honest c.in-Ok.ensures.was_clean c.in-Ok.ensures.stays_clean

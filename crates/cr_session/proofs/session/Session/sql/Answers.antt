@@ -2,7 +2,7 @@ use Rattle.std.proofs.Common.{rules, ◌≡◌}
 use Rattle.cr_session.proofs.Scripting.{script_does}
 use Rattle.cr_session.proofs.session.Session.sql.Goals as goal
 
-pub returns : goal.returns
-returns g c = λ has names.
+pub returns-clause-does : goal.returns-clause-does
+returns-clause-does g c = λ has names.
     let same : c.args.source.now ≡ c.as_str.result.now = search rules in
-    rw same (script_does _ _ g.C.Cells.is_honest g.C.Cells.is_clean g.C.Cells.holding _ _ _ _ (c.script.ensures has names))
+    rw same (script_does _ _ g.C.Cells.is_honest g.C.Cells.is_clean g.C.Cells.holding _ _ _ _ (c.script.ensures.carries has names))

@@ -1,0 +1,6 @@
+pub mod Given
+pub mod Named
+pub mod ByName
+pub mod Seen
+pub mod Standing
+pub mod Telling
