@@ -62,32 +62,11 @@ const STATEMENTS: [&str; 29] = [
     "COMMIT",
 ];
 
-/// A session, and who watches it.
+/// A session, and what its listener noted.
 #[derive(Drop)]
 struct Host {
     session: HostedSession<PlainCells, Listed>,
-    guard: Guard<Silent>,
     notes: Rc<RefCell<Notes>>,
-}
-
-// A session whose listener's notes are here.
-fn new_host(alloc: Global) -> Result<Host, AllocError> {
-    let notes = Rc::new(alloc, RefCell::new(Notes::new(alloc)))?;
-    let notes_of_listener = notes.clone()?;
-    let listener: Box<dyn Listener> = Box::new(
-        alloc,
-        Shared {
-            notes: notes_of_listener,
-        },
-    )?;
-    let mut guard = Guard::new(alloc);
-    guard.set_listener(listener);
-    let session = HostedSession::new(alloc, Session::new(PlainCells::new(alloc, SITE)));
-    Ok(Host {
-        session,
-        guard,
-        notes,
-    })
 }
 
 // A table of one column, `v`, with the rows 1, 2 and 3, to which an INSERT may bring more, or none.
@@ -160,9 +139,17 @@ fn ask<W: Write>(
     out: &mut W,
 ) -> io::Result<()> {
     writeln!(out, "{text}")?;
+    let listener: Box<dyn Listener> = Box::new(
+        alloc,
+        Shared {
+            notes: host.notes.clone()?,
+        },
+    )?;
+    let mut guard: Guard<Silent> = Guard::new(alloc);
+    guard.set_listener(listener);
     let outcome = host
         .session
-        .execute(alloc, &BuiltIns, &mut host.guard, text, values);
+        .execute(alloc, &BuiltIns, &mut guard, text, values);
     print_heard(alloc, &host.notes, out)?;
     print_reply(alloc, &outcome, out)
 }
@@ -174,17 +161,18 @@ fn ask_unheard<W: Write>(
     text: &str,
     out: &mut W,
 ) -> io::Result<()> {
-    writeln!(out, "{text}")?;
-    let held = host.notes.try_borrow();
-    let outcome = host
-        .session
-        .execute(alloc, &BuiltIns, &mut host.guard, text, &[]);
+    let notes = host.notes.clone()?;
+    let held = notes.try_borrow();
+    let asked = ask(alloc, host, text, &[], out);
     drop(held);
-    print_reply(alloc, &outcome, out)
+    asked
 }
 
 fn run<W: Write>(alloc: Global, out: &mut W) -> io::Result<()> {
-    let mut host = new_host(alloc)?;
+    let mut host = Host {
+        session: HostedSession::new(alloc, Session::new(PlainCells::new(alloc, SITE))),
+        notes: Rc::new(alloc, RefCell::new(Notes::new(alloc)))?,
+    };
     register(alloc, &mut host, "M", true, out)?;
     register(alloc, &mut host, "m", true, out)?;
     register(alloc, &mut host, "crsql_x", true, out)?;
