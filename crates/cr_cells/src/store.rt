@@ -11,24 +11,31 @@ use cr_lattice::change::{Change, Site};
 use cr_lattice::stamped::Stamped;
 use cr_lattice::table::{ColumnDef, Table, TableDef};
 use std::alloc::{AllocError, Global};
+use thiserror::Error;
 
 /// How a store itself refuses a call.
-#[derive(Clone, Copy, Debug, PartialEq, Eq)]
+#[derive(Clone, Copy, Debug, PartialEq, Eq, Error)]
 pub enum StoreFault {
     /// Where a store is made, a table of it is there already.
+    #[error("a table of a store is there already")]
     Taken,
     /// What is opened as a store is none that this project's stores write.
+    #[error("the database holds no sound store")]
     Damaged,
     /// Any other cause, as a device that fails.
+    #[error("the store failed")]
     Refused,
 }
 
 /// Why a call of a store is refused.
-#[derive(Clone, Copy, Debug, PartialEq, Eq, Drop)]
+#[derive(Clone, Copy, Debug, PartialEq, Eq, Drop, Error)]
 pub enum CellsError {
+    #[error("out of memory")]
     Memory,
+    #[error(transparent)]
     Store(StoreFault),
     /// The commit would change a kept change, and the version is the greatest that there is.
+    #[error("the greatest version is reached")]
     VersionLimit,
 }
 

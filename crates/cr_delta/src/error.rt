@@ -1,13 +1,16 @@
 //! Why a write has no changes to give.
 
 use std::alloc::{AllocError, AllocFailed};
+use thiserror::Error;
 
 /// Why the changes of a write are not given.
-#[derive(Debug, Drop)]
+#[derive(Debug, Drop, Error)]
 pub enum DeltaError {
     /// Memory ran out.
+    #[error("out of memory")]
     Memory,
     /// A version or a causal length would pass 9223372036854775807.
+    #[error("the greatest version or causal length is reached")]
     VersionLimit,
 }
 

@@ -15,6 +15,7 @@ use cr_store::store::{Store, has_tables};
 use sqlite::{Connection, File, FileStore};
 use std::alloc::Global;
 use std::fs;
+use thiserror::Error;
 
 /// A store over a database in a file.
 #[derive(Drop)]
@@ -23,13 +24,16 @@ pub struct FileCells {
 }
 
 /// Why a file gives no store.
-#[derive(Clone, Copy, Debug, PartialEq, Eq, Drop)]
+#[derive(Clone, Copy, Debug, PartialEq, Eq, Drop, Error)]
 pub enum FileFault {
     /// There is no store, and no site to make one with.
+    #[error("the file holds no store, and no site was given to make one with")]
     NoSite,
     /// The file can't be opened as a database.
+    #[error("the file can not be opened as a database")]
     Unopened,
     /// The store refuses, or memory ran out.
+    #[error(transparent)]
     Cells(CellsError),
 }
 

@@ -14,6 +14,7 @@ use cr_value::affinity::{Affinity, int_of_text};
 use cr_value::order::same_bytes;
 use cr_value::packing::SIZE_LIMIT;
 use cr_value::value::Value;
+use thiserror::Error;
 
 /// The greatest number of columns of a table.
 pub const COLUMN_LIMIT: usize = 200;
@@ -28,21 +29,28 @@ pub const BINARY: &str = "binary";
 const LONGEST_IN_KEY: usize = SIZE_LIMIT - 6;
 
 /// The first rule that a definition breaks, in the order in which the rules are tested.
-#[derive(Clone, Copy, Debug, PartialEq, Eq)]
+#[derive(Clone, Copy, Debug, PartialEq, Eq, Error)]
 pub enum ProfileFault {
     /// No column is in the key, or the places in the key are not 1 up to their number, each once.
+    #[error("no column is in the primary key, or its places are not 1, 2 and so on")]
     PrimaryKey,
     /// A key column has another collation than `binary`.
+    #[error("a key column has another collation than binary")]
     Collation,
     /// A column has the name `-1`, which speaks of the row itself.
+    #[error("a column has the name -1")]
     RowCid,
     /// A default, after the column's affinity, makes a packed key of over 1,000,000 bytes.
+    #[error("a default is too long for a packed key")]
     Default,
     /// There are over 200 columns.
+    #[error("the table has over 200 columns")]
     Columns,
     /// There are over 8 key columns.
+    #[error("the key has over 8 columns")]
     KeyColumns,
     /// The table's name is empty, or begins with `sqlite_` or `crsql_`.
+    #[error("the name of the table is empty or reserved")]
     Name,
 }
 

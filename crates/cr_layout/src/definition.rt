@@ -12,12 +12,15 @@ use cr_value::affinity::Affinity;
 use cr_value::packing::{PackError, pack};
 use cr_value::value::Value;
 use std::alloc::{AllocError, AllocFailed, Global};
+use thiserror::Error;
 
 /// Why a definition could not be written.
-#[derive(Debug, Drop)]
+#[derive(Debug, Drop, Error)]
 pub enum LayoutError {
+    #[error("out of memory")]
     Memory,
     /// A count or a length does not fit its bytes, or a default is longer than a packed key may be.
+    #[error("a count or a length does not fit its bytes")]
     TooLong,
 }
 

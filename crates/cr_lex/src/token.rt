@@ -1,6 +1,7 @@
 //! Tokens, and why a text is refused.
 
 use std::alloc::{AllocError, AllocFailed};
+use thiserror::Error;
 
 /// What a token is.
 #[derive(Clone, Copy, Debug, PartialEq, Eq)]
@@ -34,11 +35,13 @@ pub struct Token {
 }
 
 /// Why there are no tokens.
-#[derive(Clone, Copy, Debug, PartialEq, Eq)]
+#[derive(Clone, Copy, Debug, PartialEq, Eq, Error)]
 pub enum LexError {
     /// Memory ran out.
+    #[error("out of memory")]
     Memory,
     /// The text is over 1,000,000 bytes.
+    #[error("the text is over 1,000,000 bytes")]
     Limit,
 }
 

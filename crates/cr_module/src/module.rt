@@ -8,6 +8,7 @@ use cr_lattice::table::{ColumnDef, Items, Row};
 use cr_value::text::Text;
 use cr_value::value::Value;
 use std::alloc::{AllocError, Global};
+use thiserror::Error;
 
 /// Where a reading of a module stands.
 #[derive(Debug, Drop)]
@@ -21,13 +22,16 @@ pub struct Cursor {
 }
 
 /// Why a module takes no rows.
-#[derive(Debug, Drop)]
+#[derive(Debug, Drop, Error)]
 pub enum UpdateError {
     /// Its rows can't be changed.
+    #[error("the table may not be modified")]
     ReadOnly,
     /// What the host says.
+    #[error("{0}")]
     Host(Text),
     /// Memory ran out.
+    #[error("out of memory")]
     Memory,
 }
 

@@ -1,10 +1,14 @@
 use cr_tree::limits::LimitKind;
 use std::alloc::{AllocError, AllocFailed};
+use thiserror::Error;
 
-#[derive(Debug, Drop)]
+#[derive(Debug, Drop, Error)]
 pub enum Fault {
+    #[error("out of memory")]
     Memory,
+    #[error("syntax error")]
     Syntax,
+    #[error(transparent)]
     Limit(LimitKind),
 }
 

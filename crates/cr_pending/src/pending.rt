@@ -18,15 +18,19 @@ use cr_value::text::{Bytes, Text};
 use std::alloc::{AllocError, Global};
 use std::collections::BTreeSet;
 use std::marker::Model;
+use thiserror::Error;
 
 /// Why changes are not added to those of a transaction. Nothing of it is changed then.
-#[derive(Clone, Copy, Debug, PartialEq, Eq, Drop)]
+#[derive(Clone, Copy, Debug, PartialEq, Eq, Drop, Error)]
 pub enum PendingError {
     /// Memory ran out.
+    #[error("out of memory")]
     Memory,
     /// The transaction has changes of other tables than these.
+    #[error("the transaction has changes of other tables")]
     OtherTables,
     /// The first change that is not well formed for these tables, and why.
+    #[error("the change is not well formed: {0}")]
     Bad(BadChange),
 }
 

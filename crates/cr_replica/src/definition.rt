@@ -10,24 +10,32 @@ use cr_host::functions::Functions;
 use cr_lattice::profile::{ProfileFault, duplicate, no_default, profile};
 use cr_lattice::table::{ColumnDef, Table, TableDef};
 use std::alloc::AllocError;
+use thiserror::Error;
 
 /// Why a table is not defined. Of several causes the first of this order is told: the profile, the table's name, its
 /// columns' names, their collations, their defaults.
-#[derive(Clone, Copy, Debug, PartialEq, Eq, Drop)]
+#[derive(Clone, Copy, Debug, PartialEq, Eq, Drop, Error)]
 pub enum DefineError {
     /// Memory ran out.
+    #[error("out of memory")]
     Memory,
     /// The store refused.
+    #[error(transparent)]
     Store(StoreFault),
     /// The definition breaks a rule of the profile.
+    #[error(transparent)]
     Profile(ProfileFault),
     /// A table has the name.
+    #[error("a table has the name")]
     TableExists,
     /// The column at this place, from 0, has the name of one before it.
+    #[error("the column at place {0} has the name of one before it")]
     Duplicate(usize),
     /// The column at this place has a collation that there is not.
+    #[error("the column at place {0} has an unknown collation")]
     NoSuchCollation(usize),
     /// The column at this place is NOT NULL, outside the key, and has no default.
+    #[error("the column at place {0} is NOT NULL, outside the key, and has no default")]
     NoDefault(usize),
 }
 

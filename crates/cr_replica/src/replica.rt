@@ -24,30 +24,39 @@ use cr_value::order::same_bytes;
 use cr_value::text::{Bytes, Text};
 use std::alloc::{AllocError, Global};
 use std::marker::Model;
+use thiserror::Error;
 
 /// Why changes are not taken. Nothing of them is taken then.
-#[derive(Clone, Copy, Debug, PartialEq, Eq, Drop)]
+#[derive(Clone, Copy, Debug, PartialEq, Eq, Drop, Error)]
 pub enum TakeError {
     /// Memory ran out.
+    #[error("out of memory")]
     Memory,
     /// A store refused.
+    #[error(transparent)]
     Store(StoreFault),
     /// The first change that is not well formed, and why.
+    #[error("the change is not well formed: {0}")]
     Bad(BadChange),
     /// A kept change would change at the greatest version.
+    #[error("the greatest version is reached")]
     VersionLimit,
     /// The peer's site is the taker's own.
+    #[error("both replicas have one site")]
     SameSite,
 }
 
 /// Why rows are not shown.
-#[derive(Clone, Copy, Debug, PartialEq, Eq, Drop)]
+#[derive(Clone, Copy, Debug, PartialEq, Eq, Drop, Error)]
 pub enum RowsError {
     /// Memory ran out.
+    #[error("out of memory")]
     Memory,
     /// The store refused.
+    #[error(transparent)]
     Store(StoreFault),
     /// No table has the name.
+    #[error("no such table")]
     NoSuchTable,
 }
 

@@ -16,6 +16,7 @@ use cr_world::command::FleetReply;
 use cr_world::refusal::{Limit, Refusal};
 use std::alloc::{AllocError, Global};
 use std::io::{Read, Write};
+use thiserror::Error;
 
 /// The length at which an input is refused, in bytes.
 pub const INPUT_LIMIT: usize = 16_000_000;
@@ -30,11 +31,13 @@ pub enum End {
 }
 
 /// Why a run ended before its input did.
-#[derive(Clone, Copy, Debug, PartialEq, Eq, Drop)]
+#[derive(Clone, Copy, Debug, PartialEq, Eq, Drop, Error)]
 pub enum ServeFault {
     /// The reader failed, or the input reached 16,000,000 bytes.
+    #[error("the reader failed, or the input is too long")]
     Read,
     /// The writer failed.
+    #[error("the writer failed")]
     Write,
 }
 

@@ -6,9 +6,11 @@ ghost use Rattle.cr_shell.specs.Reading.{ReadsByte};
 
 use std::io::{Read, Write};
 use std::marker::Model;
+use thiserror::Error;
 
 /// The device failed.
-#[derive(Clone, Copy, Debug, PartialEq, Eq, Drop)]
+#[derive(Clone, Copy, Debug, PartialEq, Eq, Drop, Error)]
+#[error("the device failed")]
 pub struct Failed;
 
 /// A device, and whether a call of it has failed.

@@ -1,5 +1,7 @@
 //! The limits of statements. They are this project's own.
 
+use thiserror::Error;
+
 /// The most parentheses that are open at once in an expression, those of types aside.
 pub const PARENTHESIS_LIMIT: u8 = 200;
 
@@ -13,13 +15,16 @@ pub const ARGUMENT_LIMIT: u8 = 100;
 pub const TABLE_LIMIT: u8 = 16;
 
 /// What a statement has too much of.
-#[derive(Clone, Copy, Debug, PartialEq, Eq)]
+#[derive(Clone, Copy, Debug, PartialEq, Eq, Error)]
 pub enum LimitKind {
     /// The depth of an expression, or its open parentheses.
+    #[error("an expression is over 100 deep, or has over 200 open parentheses")]
     Depth,
     /// The arguments of a call.
+    #[error("a call has over 100 arguments")]
     Arguments,
     /// The tables of a FROM.
+    #[error("a FROM has over 16 tables")]
     Tables,
 }
 

@@ -10,6 +10,7 @@ use crate::collation::without_leading_spaces;
 use crate::text::{Bytes, Text};
 use crate::value::Value;
 use std::alloc::{AllocError, Global};
+use thiserror::Error;
 
 /// The types that a value may be cast to.
 #[derive(Clone, Copy, Debug, PartialEq, Eq)]
@@ -20,11 +21,13 @@ pub enum CastTo {
 }
 
 /// Why a value was not cast.
-#[derive(Debug, Drop)]
+#[derive(Debug, Drop, Error)]
 pub enum CastError {
     /// Memory ran out.
+    #[error("out of memory")]
     Memory,
     /// A blob that goes by way of text is no UTF-8.
+    #[error("the blob is no text in UTF-8")]
     NotUtf8,
 }
 

@@ -10,16 +10,21 @@ use crate::long::has_long_key;
 use crate::nulls::lacks_value;
 use cr_lattice::table::{Row, TableDef};
 use std::alloc::{AllocError, Global};
+use thiserror::Error;
 
 /// Why a table does not take the rows that are wanted of it.
-#[derive(Clone, Copy, Debug, PartialEq, Eq)]
+#[derive(Clone, Copy, Debug, PartialEq, Eq, Error)]
 pub enum Against {
     /// The packed key of some row has over 1,000,000 bytes.
+    #[error("a packed key is over 1,000,000 bytes")]
     LongKey,
     /// Some row has NULL in a key column or in a NOT NULL column.
+    #[error("NOT NULL constraint failed")]
     LackingValue,
     /// Two rows have one key.
+    #[error("UNIQUE constraint failed: two rows have one key")]
     KeyTwice,
+    #[error("out of memory")]
     Memory,
 }
 
