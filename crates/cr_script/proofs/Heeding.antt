@@ -106,4 +106,4 @@ module _ {E C G : Type 0} (l : Language Statement E) (host : Host) (is_honest is
   pub was_clean : (source : List ℕ) (rest : List Token) (now new : C) (r : Refusal) → Stops l host is_honest is_clean stands now (next source rest) r new → is_clean new → is_clean now
   was_clean source rest now new r (inl (why, e, told, same)) clean = subst is_clean same clean
   was_clean source rest now new r (inr (inl (x, k, e, carries))) clean = carries.was_clean clean
-  was_clean source rest now new r (inr (inr (e, same))) clean = subst is_clean same clean
+  was_clean source rest now new r (inr (inr want)) clean = subst is_clean want.1 clean

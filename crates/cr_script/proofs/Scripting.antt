@@ -1,5 +1,5 @@
 -- Scripts: what turns come to.
-use Rattle.std.proofs.Common.{◌≡◌, ◌⊎◌, inl, inr, ℕ, ◌<◌, ◌≤◌, nat_lt, arith, Bool, true, false, List, [], ◌∷◌, Option, Some, Result, Ok, Err, refl, sym, ap, subst, ◌∙◌, map, length}
+use Rattle.std.proofs.Common.{◌≡◌, ◌⊎◌, inl, inr, ℕ, ◌<◌, ◌≤◌, nat_lt, arith, Bool, true, false, List, [], ◌∷◌, Option, Some, None, Result, Ok, Err, refl, sym, ap, subst, ◌∙◌, map, length}
 use Rattle.std.specs.Prelude.{if◌then◌else◌}
 use Rattle.cr_value.specs.declared.value.Value.{Value}
 use Rattle.cr_host.specs.declared.function.Definition.{Definition}
@@ -11,7 +11,7 @@ use Rattle.cr_tree.specs.declared.statement.Statement.{Statement}
 use Rattle.cr_meaning.specs.View.{Ordered}
 use Rattle.cr_statement.specs.declared.error.SqlError.{SqlError}
 use Rattle.cr_statement.specs.declared.error.SqlError.TheVariants as sql
-use Rattle.cr_statement.specs.Sql.{says}
+use Rattle.cr_statement.specs.Sql.{Refusal as Unread, says}
 use Rattle.cr_statement.specs.Scripts as scripts
 use Rattle.cr_fit.specs.Folded.{DefinesFolded}
 use Rattle.cr_fit.proofs.Folding.{are_names_folded}
@@ -40,6 +40,14 @@ use Rattle.cr_script.proofs.Turning.{wanting}
 abbrev pub ReadsNext : List ℕ → List Token → Result (Option (Statement × ℕ)) SqlError → Type 0
 ReadsNext source tokens answer = (answer ≡ Err sql.Memory → ⊥) → scripts.says_next answer ≡ scripts.next source tokens
 
+-- another is left than none
+pub not_none : (answer : Result (Option (Statement × ℕ)) Unread) (x : Statement × ℕ) → answer ≡ Ok (Some x) → answer ≡ Ok None → ⊥
+not_none answer x e none = let q : Ok (Some x) ≡ Ok None = sym e ∙ none in let z : ⊥ = cc in z
+
+-- where nothing is left, that is told
+abbrev pub EndsNext : List ℕ → List Token → Result (Option (Statement × ℕ)) SqlError → Type 0
+EndsNext source tokens answer = scripts.next source tokens ≡ Ok None → answer ≡ Ok None
+
 pub found : (source : List ℕ) (tokens : List Token) (answer : Result (Option (Statement × ℕ)) SqlError) (x : Option (Statement × ℕ)) → ReadsNext source tokens answer → answer ≡ Ok x → next source tokens ≡ Ok x
 unfolding next
 found source tokens answer x reads e =
@@ -54,9 +62,9 @@ abbrev pub Told : SqlError → Refusal → Type 0
 Told error r = (r ≡ of_unread (says error)) ⊎ (r ≡ Memory)
 
 module _ {E C : Type 0} (l : Language Statement E) (host : Host) (is_honest is_clean : C → Type 0) (stands : C → State) where
-  wants : (old : C) (x : Result (Option (Statement × ℕ)) _) (r : Refusal) → (r ≡ Memory) ⊎ (r ≡ Memory) → Stops l host is_honest is_clean stands old x r old
-  wants old x r (inl e) = inr (inr (e, refl))
-  wants old x r (inr e) = inr (inr (e, refl))
+  wants : (old : C) (x : Result (Option (Statement × ℕ)) _) (r : Refusal) → (x ≡ Ok None → ⊥) → (r ≡ Memory) ⊎ (r ≡ Memory) → Stops l host is_honest is_clean stands old x r old
+  wants old x r some (inl e) = inr (inr (e, refl, some))
+  wants old x r some (inr e) = inr (inr (e, refl, some))
 
   unread : (source : List ℕ) (tokens : List Token) (old : C) (answer : Result (Option (Statement × ℕ)) SqlError) (error : SqlError) (r : Refusal) → (error ≡ sql.Memory → ⊥)
       → ReadsNext source tokens answer → answer ≡ Err error → Told error r → Stops l host is_honest is_clean stands old (next source tokens) r old
@@ -65,11 +73,13 @@ module _ {E C : Type 0} (l : Language Statement E) (host : Host) (is_honest is_c
       inl (says error, sym (reads (λ f. let q : Err error ≡ Err sql.Memory = sym e ∙ f in other cc)) ∙ ap scripts.says_next e, told, refl)
 
   pub stops_unread : (source : List ℕ) (tokens : List Token) (old : C) (answer : Result (Option (Statement × ℕ)) SqlError) (error : SqlError) (r : Refusal)
-      → ReadsNext source tokens answer → answer ≡ Err error → Told error r → Stops l host is_honest is_clean stands old (next source tokens) r old
-  stops_unread source tokens old answer sql.Memory r reads e told = wants old (next source tokens) r told
-  stops_unread source tokens old answer (sql.Syntax at) r reads e told = unread source tokens old answer (sql.Syntax at) r (λ q. let z : ⊥ = cc in z) reads e told
-  stops_unread source tokens old answer (sql.OutOfProfile word) r reads e told = unread source tokens old answer (sql.OutOfProfile word) r (λ q. let z : ⊥ = cc in z) reads e told
-  stops_unread source tokens old answer (sql.Limit which) r reads e told = unread source tokens old answer (sql.Limit which) r (λ q. let z : ⊥ = cc in z) reads e told
+      → ReadsNext source tokens answer → EndsNext source tokens answer → answer ≡ Err error → Told error r → Stops l host is_honest is_clean stands old (next source tokens) r old
+  unfolding next
+  stops_unread source tokens old answer sql.Memory r reads ends e told =
+      wants old (next source tokens) r (λ none. let q : Err sql.Memory ≡ Ok None = sym e ∙ ends none in let z : ⊥ = cc in z) told
+  stops_unread source tokens old answer (sql.Syntax at) r reads ends e told = unread source tokens old answer (sql.Syntax at) r (λ q. let z : ⊥ = cc in z) reads e told
+  stops_unread source tokens old answer (sql.OutOfProfile word) r reads ends e told = unread source tokens old answer (sql.OutOfProfile word) r (λ q. let z : ⊥ = cc in z) reads e told
+  stops_unread source tokens old answer (sql.Limit which) r reads ends e told = unread source tokens old answer (sql.Limit which) r (λ q. let z : ⊥ = cc in z) reads e told
 
 -- ---- whole scripts
 
@@ -111,7 +121,7 @@ module _ {C : Type 0} (function_of : List ℕ → ℕ → Option Definition) (sc
     was_honest = λ honest. honest;
     was_clean = λ clean. clean;
     stays_clean = λ honest clean told. clean;
-    runs = λ clean. subst (λ (ps : List (Piece Statement)). Runs language host (stands old) ps [] (Some (Limit limit.Script)) (stands old)) (sym (too_long_is long)) (inl refl, refl);
+    runs = λ clean. subst (λ (ps : List (Piece Statement)). Runs language host (stands old) ps [] (Some (Limit limit.Script)) (stands old)) (sym (too_long_is long)) (inl (inl refl, refl));
   }
 
   pub wants_at_once : CarriesAll language host is_honest is_clean stands old (language.pieces source) [] (Some Memory) old

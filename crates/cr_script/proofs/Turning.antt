@@ -19,7 +19,7 @@ use Rattle.cr_world.specs.Language.{Language, Piece}
 use Rattle.cr_world.specs.Language as language
 use Rattle.cr_world.specs.State.{State}
 use Rattle.cr_world.specs.Statement.{Host}
-use Rattle.cr_world.specs.Scripts.{Runs}
+use Rattle.cr_world.specs.Scripts.{Runs, RunsEach}
 use Rattle.cr_language.specs.Sql.{piece, of_unread}
 use Rattle.cr_script.specs.Scripts.{Carries, CarriesAll, Stops, Goes, Turns, next, pieces_left}
 
@@ -128,8 +128,8 @@ module _ {E C : Type 0} (l : Language Statement E) (host : Host) (is_honest is_c
     pub stays_clean : is_honest now → is_clean old → is_clean now
     pub turns : ℕ
     pub enough : length rest ≤ turns
-    pub leads : is_clean now → (xs : List Reply) (why : Option Refusal) (new : State) → Runs l host (stands now) (pieces_left turns source rest) xs why new
-        → Runs l host (stands old) all (replies ++ xs) why new
+    pub leads : is_clean now → (xs : List Reply) (why : Option Refusal) (new : State) → RunsEach l host (stands now) (pieces_left turns source rest) xs why new
+        → RunsEach l host (stands old) all (replies ++ xs) why new
 
   -- what a turn answers
   pub turned : (old new : C) (found : Result (Option (Statement × ℕ)) Unread) (o p : Option (Reply × ℕ)) → o ≡ p → Turns l host is_honest is_clean stands old found (Ok o) new → Turns l host is_honest is_clean stands old found (Ok p) new
@@ -142,12 +142,12 @@ module _ {E C : Type 0} (l : Language Statement E) (host : Host) (is_honest is_c
     stays_clean = λ honest clean. clean;
     turns = length tokens;
     enough = omega arith;
-    leads = λ clean xs why new run. subst (λ (r : List Reply). Runs l host (stands c) (pieces_left (length tokens) source tokens) (r ++ xs) why new) (sym e) run;
+    leads = λ clean xs why new run. subst (λ (r : List Reply). RunsEach l host (stands c) (pieces_left (length tokens) source tokens) (r ++ xs) why new) (sym e) run;
   }
 
   -- a statement leads on
   one_run : (source : List ℕ) (all : List (Piece Statement)) (old now : C) (rest rest' : List Token) (replies : List Reply) (t : Reply × ℕ) (now' : C) (turns : ℕ) → length rest ≤ turns
-      → (is_clean now → (xs : List Reply) (why : Option Refusal) (new : State) → Runs l host (stands now) (pieces_left turns source rest) xs why new → Runs l host (stands old) all (replies ++ xs) why new)
+      → (is_clean now → (xs : List Reply) (why : Option Refusal) (new : State) → RunsEach l host (stands now) (pieces_left turns source rest) xs why new → RunsEach l host (stands old) all (replies ++ xs) why new)
       → (is_honest now' → is_honest old) → (is_clean now' → is_clean old) → (is_honest now' → is_clean old → is_clean now')
       → (g : Goes l host is_honest is_clean stands now (next source rest) t now') → rest' ≡ drop t.1 rest → Led source all old now' rest' (replies ++ t.0 ∷ [])
   one_run source all old now rest rest' replies t now' zero few leads honest_was was stays g same =
@@ -163,10 +163,10 @@ module _ {E C : Type 0} (l : Language Statement E) (host : Host) (is_honest is_c
         turns = n;
         enough = fewer;
         leads = λ clean xs why new run.
-            subst (λ (r : List Reply). Runs l host (stands old) all r why new) (sym (append_assoc replies (t.0 ∷ []) xs))
+            subst (λ (r : List Reply). RunsEach l host (stands old) all r why new) (sym (append_assoc replies (t.0 ∷ []) xs))
             (leads (g.carries.was_clean clean) (t.0 ∷ xs) why new
-            (subst (λ (ps : List (Piece Statement)). Runs l host (stands now) ps (t.0 ∷ xs) why new) (sym (one_left n source rest g.statement t.1 g.is))
-            ((stands now').modules, (g.carries.answers clean, subst (λ (st : State). Runs l host st (pieces_left n source (drop t.1 rest)) xs why new) (sym (g.carries.leaves clean)) run))));
+            (subst (λ (ps : List (Piece Statement)). RunsEach l host (stands now) ps (t.0 ∷ xs) why new) (sym (one_left n source rest g.statement t.1 g.is))
+            ((stands now').modules, (g.carries.answers clean, subst (λ (st : State). RunsEach l host st (pieces_left n source (drop t.1 rest)) xs why new) (sym (g.carries.leaves clean)) run))));
       })
 
   pub more : (source : List ℕ) (all : List (Piece Statement)) (old now : C) (rest rest' : List Token) (replies replies' : List Reply) (t : Reply × ℕ) (now' : C)
@@ -183,49 +183,57 @@ module _ {E C : Type 0} (l : Language Statement E) (host : Host) (is_honest is_c
     was_honest = d.was_honest;
     was_clean = d.was_clean;
     stays_clean = λ honest clean told. d.stays_clean honest clean;
-    runs = λ clean.
-        subst (λ (r : List Reply). Runs l host (stands old) all r None (stands now)) (append-nil replies)
+    runs = λ clean. inl (
+        subst (λ (r : List Reply). RunsEach l host (stands old) all r None (stands now)) (append-nil replies)
         (d.leads clean [] None (stands now)
-        (subst (λ (ps : List (Piece Statement)). Runs l host (stands now) ps [] None (stands now)) (sym (none_left d.turns source rest e)) refl));
+        (subst (λ (ps : List (Piece Statement)). RunsEach l host (stands now) ps [] None (stands now)) (sym (none_left d.turns source rest e)) refl)));
   }
 
-  -- want of memory ends a script anywhere
+  -- want of memory may be told of a script at once, and of each of its statements
+  wants_first : (st : State) (p : Piece Statement) (ps : List (Piece Statement)) → RunsEach l host st (p ∷ ps) [] (Some Memory) st
+  wants_first st (language.Unread why) ps = (inr refl, refl)
+  wants_first st (language.Statement s) ps = ((inl (inl refl), refl), refl)
+
   pub wanting : (st : State) (ps : List (Piece Statement)) → Runs l host st ps [] (Some Memory) st
-  wanting st [] = (refl, refl)
-  wanting st (language.Unread why ∷ ps) = (inr refl, refl)
-  wanting st (language.Statement s ∷ ps) = ((inl (inl refl), refl), refl)
+  wanting st [] = inr (refl, refl, refl, refl)
+  wanting st (p ∷ ps) = inl (wants_first st p ps)
 
   -- what is left ends with this refusal
   refused : (source : List ℕ) (all : List (Piece Statement)) (old now : C) (rest : List Token) (replies : List Reply) (r : Refusal) (new : C)
       → (d : Led source all old now rest replies) → (is_honest new → is_honest now) → (is_clean new → is_clean now) → (is_honest new → is_clean now → is_want r ≡ false → is_clean new)
-      → (is_clean new → Runs l host (stands now) (pieces_left d.turns source rest) [] (Some r) (stands new)) → CarriesAll l host is_honest is_clean stands old all replies (Some r) new
+      → (is_clean new → RunsEach l host (stands now) (pieces_left d.turns source rest) [] (Some r) (stands new)) → CarriesAll l host is_honest is_clean stands old all replies (Some r) new
   refused source all old now rest replies r new d honest_was was stays run = record {
     was_honest = λ honest. d.was_honest (honest_was honest);
     was_clean = λ clean. d.was_clean (was clean);
     stays_clean = λ honest clean told. stays honest (d.stays_clean (honest_was honest) clean) told;
-    runs = λ clean.
-        subst (λ (x : List Reply). Runs l host (stands old) all x (Some r) (stands new)) (append-nil replies)
-        (d.leads (was clean) [] (Some r) (stands new) (run clean));
+    runs = λ clean. inl (
+        subst (λ (x : List Reply). RunsEach l host (stands old) all x (Some r) (stands new)) (append-nil replies)
+        (d.leads (was clean) [] (Some r) (stands new) (run clean)));
   }
-
-  pub wants : (source : List ℕ) (all : List (Piece Statement)) (old now : C) (rest : List Token) (replies : List Reply)
-      → Led source all old now rest replies → CarriesAll l host is_honest is_clean stands old all replies (Some Memory) now
-  wants source all old now rest replies d =
-      refused source all old now rest replies Memory now d (λ honest. honest) (λ clean. clean) (λ honest clean told. clean) (λ clean. wanting (stands now) (pieces_left d.turns source rest))
 
   -- what is left begins with a piece, where there is a next statement or why it isn't read
   unread_runs : (source : List ℕ) (rest : List Token) (st : State) (n : ℕ) (why : Unread) (r : Refusal) → length rest ≤ n → next source rest ≡ Err why → (r ≡ of_unread why) ⊎ (r ≡ Memory)
-      → Runs l host st (pieces_left n source rest) [] (Some r) st
+      → RunsEach l host st (pieces_left n source rest) [] (Some r) st
   unread_runs source [] st zero why r few e told = absurd (let q : Ok None ≡ Err why = sym (no_tokens source) ∙ e in let z : ⊥ = cc in z)
   unread_runs source (t ∷ ts) st zero why r few e told = absurd (omega (arith, few))
   unread_runs source rest st (suc n) why r few e told =
-      subst (λ (ps : List (Piece Statement)). Runs l host st ps [] (Some r) st) (sym (unread_left n source rest why e)) (told, refl)
+      subst (λ (ps : List (Piece Statement)). RunsEach l host st ps [] (Some r) st) (sym (unread_left n source rest why e)) (told, refl)
+
+  -- want of memory may be told of it
+  wants_runs : (source : List ℕ) (rest : List Token) (st : State) (n : ℕ) (found : Result (Option (Statement × ℕ)) Unread) → length rest ≤ n → next source rest ≡ found → (found ≡ Ok None → ⊥)
+      → RunsEach l host st (pieces_left n source rest) [] (Some Memory) st
+  wants_runs source rest st n (Ok None) few e some = absurd (some refl)
+  wants_runs source [] st zero (Ok (Some x)) few e some = absurd (let q : Ok None ≡ Ok (Some x) = sym (no_tokens source) ∙ e in let z : ⊥ = cc in z)
+  wants_runs source (t ∷ ts) st zero (Ok (Some x)) few e some = absurd (omega (arith, few))
+  wants_runs source rest st (suc n) (Ok (Some x)) few e some =
+      subst (λ (ps : List (Piece Statement)). RunsEach l host st ps [] (Some Memory) st) (sym (one_left n source rest x.0 x.1 e)) (wants_first st (language.Statement x.0) (pieces_left n source (drop x.1 rest)))
+  wants_runs source rest st n (Err why) few e some = unread_runs source rest st n why Memory few e (inr refl)
 
   refuses_runs : (source : List ℕ) (rest : List Token) (now new : C) (n : ℕ) (x : Statement) (k : ℕ) (r : Refusal) → length rest ≤ n → next source rest ≡ Ok (Some (x, k))
-      → Carries l host is_honest is_clean stands now [] x (Err r) new → is_clean new → Runs l host (stands now) (pieces_left n source rest) [] (Some r) (stands new)
+      → Carries l host is_honest is_clean stands now [] x (Err r) new → is_clean new → RunsEach l host (stands now) (pieces_left n source rest) [] (Some r) (stands new)
   refuses_runs source rest now new zero x k r few e carries clean = let some = takes source rest x k e in absurd (omega (arith, few, some.0, some.1))
   refuses_runs source rest now new (suc n) x k r few e carries clean =
-      subst (λ (ps : List (Piece Statement)). Runs l host (stands now) ps [] (Some r) (stands new)) (sym (one_left n source rest x k e)) (((carries.answers clean).0, refl), sym (carries.leaves clean))
+      subst (λ (ps : List (Piece Statement)). RunsEach l host (stands now) ps [] (Some r) (stands new)) (sym (one_left n source rest x k e)) (((carries.answers clean).0, refl), sym (carries.leaves clean))
 
   pub stops : (source : List ℕ) (all : List (Piece Statement)) (old now : C) (rest : List Token) (replies : List Reply) (r : Refusal) (new : C)
       → Led source all old now rest replies → Stops l host is_honest is_clean stands now (next source rest) r new → CarriesAll l host is_honest is_clean stands old all replies (Some r) new
@@ -234,6 +242,7 @@ module _ {E C : Type 0} (l : Language Statement E) (host : Host) (is_honest is_c
       (refused source all old now rest replies r now d (λ honest. honest) (λ clean. clean) (λ honest clean told. clean) (λ clean. unread_runs source rest (stands now) d.turns why r d.enough e told))
   stops source all old now rest replies r new d (inr (inl (x, k, e, carries))) =
       refused source all old now rest replies r new d carries.was_honest carries.was_clean carries.stays_clean (refuses_runs source rest now new d.turns x k r d.enough e carries)
-  stops source all old now rest replies r new d (inr (inr (e, same))) =
-      subst (CarriesAll l host is_honest is_clean stands old all replies (Some r)) (sym same)
-      (subst (λ (x : Refusal). CarriesAll l host is_honest is_clean stands old all replies (Some x) now) (sym e) (wants source all old now rest replies d))
+  stops source all old now rest replies r new d (inr (inr want)) =
+      subst (CarriesAll l host is_honest is_clean stands old all replies (Some r)) (sym want.1)
+      (subst (λ (x : Refusal). CarriesAll l host is_honest is_clean stands old all replies (Some x) now) (sym want.0)
+      (refused source all old now rest replies Memory now d (λ honest. honest) (λ clean. clean) (λ honest clean told. clean) (λ clean. wants_runs source rest (stands now) d.turns (next source rest) d.enough refl want.2)))

@@ -1,5 +1,5 @@
 -- What is made of the statements of a script, one after another. Source: this project's own.
-use Rattle.std.specs.Prelude.{◌≡◌, ◌⊎◌, ℕ, Bool, true, false, List, [], ◌∷◌, map, Option, Some, None, Result, Ok, Err}
+use Rattle.std.specs.Prelude.{◌≡◌, ◌≢◌, ◌⊎◌, ℕ, Bool, true, false, List, [], ◌∷◌, map, Option, Some, None, Result, Ok, Err}
 use Rattle.cr_value.specs.declared.value.Value.{Value}
 use Rattle.cr_lex.specs.declared.token.Token.{Token}
 use Rattle.cr_tree.specs.declared.statement.Statement.{Statement}
@@ -65,12 +65,13 @@ module _ {S E C : Type 0} (l : Language S E) (host : Host) (is_honest is_clean :
     pub runs : is_clean new → Runs l host (stands old) pieces replies why (stands new)
 
 module _ {E C : Type 0} (l : Language Statement E) (host : Host) (is_honest is_clean : C → Type 0) (stands : C → State) where
-  -- The next statement of a script is refused: it can't be read, or it can't be carried out, or there is no memory for it.
+  -- The next statement of a script is refused: it can't be read, or it can't be carried out, or there is no memory for it, which is
+  -- never told where no statement is left.
   abbrev pub Stops : C → Result (Option (Statement × ℕ)) Unread → Refusal → C → Type 0
   Stops old found r new =
       ((why : Unread) × (found ≡ Err why) × ((r ≡ of_unread why) ⊎ (r ≡ refusal.Memory)) × (new ≡ old))
       ⊎ (((x : Statement) × (n : ℕ) × (found ≡ Ok (Some (x, n))) × Carries l host is_honest is_clean stands old [] x (Err r) new)
-      ⊎ ((r ≡ refusal.Memory) × (new ≡ old)))
+      ⊎ ((r ≡ refusal.Memory) × (new ≡ old) × (found ≢ Ok None)))
 
   pub record Goes (old : C) (found : Result (Option (Statement × ℕ)) Unread) (t : Reply × ℕ) (new : C) : Type 0 where
     pub statement : Statement

@@ -1,6 +1,7 @@
 //! Scripts: their statements in order, up to the first that is refused.
 
-ghost use Rattle.std.specs.Prelude.{◌≡◌, ◌⊎◌, ◌<◌, ◌≤◌, ℕ, Bool, List, [], IfOk, IfSome, drop, length};
+ghost use Rattle.std.specs.Prelude.{◌≡◌, ◌⊎◌, ◌<◌, ◌≤◌, ◌+◌, ℕ, Bool, List, [], IfOk, IfSome, drop, length};
+ghost use Rattle.std.specs.Vec.{vec_capacity, vec_len};
 ghost use Rattle.cr_statement.specs.Sql.{says};
 ghost use Rattle.cr_statement.specs.Sql as read;
 ghost use Rattle.cr_world.specs.declared.refusal.Refusal.TheVariants.{Memory};
@@ -61,7 +62,7 @@ pub(crate) fn behind(tokens: &[Token], len: usize) -> &[Token]
 }
 
 // Carries out the next statement of a script, and tells how many tokens stand up to its end; none where no statement is
-// left.
+// left. There is room for the reply then.
 fn turn<E: Executor, F: Functions, G: Guarding>(
     alloc: Global,
     executor: &mut E,
@@ -69,10 +70,13 @@ fn turn<E: Executor, F: Functions, G: Guarding>(
     guard: &mut G,
     source: &str,
     tokens: &[Token],
+    replies: &mut Vec<Reply>,
 ) -> Result<Option<(Reply, usize)>, Refusal>
     requires functions { F.is_faithful functions.now }
     requires guard { G.is_faithful guard.old }
     ensures takes { IfOk result (λ o. IfSome o (λ t. (0 < t.1) × (t.1 ≤ length tokens.now))) }
+    ensures replies { replies.new.items ≡ replies.old.items }
+    ensures room { IfOk result (λ o. IfSome o (λ t. vec_len replies.new + 1 ≤ vec_capacity replies.new)) }
     ensures turns { (has : List ℕ → Bool) → ⟦<F as Speaking>⟧.are_names functions.now has
         → Turns (⟦<F as Speaking>⟧.language functions.now has) (⟦<G as Watching>⟧.host guard.old) E.is_honest E.is_clean E.stands executor.old (next source.now tokens.now) result executor.new }
     ensures guard { ⟦<G as Watching>⟧.stays guard.old guard.new }
@@ -82,6 +86,10 @@ fn turn<E: Executor, F: Functions, G: Guarding>(
     match &next {
         Ok(None) => Ok(None),
         Ok(Some((statement, len))) => {
+            // Memory for the reply first: what a statement did can't be taken back.
+            if replies.reserve(1).is_err() {
+                return Err(Refusal::Memory);
+            }
             match executor.statement(alloc, functions, guard, statement, &[]) {
                 Ok(reply) => Ok(Some((reply, *len))),
                 Err(refusal) => Err(refusal),
@@ -112,11 +120,7 @@ fn turns<E: Executor, F: Functions, G: Guarding>(
 {
     let mut rest = tokens;
     loop {
-        // Memory for the reply first: what a statement did can't be taken back.
-        if replies.reserve(1).is_err() {
-            return Some(Refusal::Memory);
-        }
-        match turn(alloc, executor, functions, guard, source, rest) {
+        match turn(alloc, executor, functions, guard, source, rest, replies) {
             Ok(None) => return None,
             Ok(Some((reply, len))) => {
                 replies.push(reply).unwrap();
@@ -130,7 +134,7 @@ fn turns<E: Executor, F: Functions, G: Guarding>(
 /// Runs a script: carries out its statements in order, up to the first that is refused. What was done before it stands.
 ///
 /// # Errors
-/// The script's `refusal`: `Limit` where it is longer than 1,000,000 bytes; `Syntax`, `OutOfProfile` or `Limit` where a
+/// The script's `refusal`, and none where all its statements are accepted: `Limit` where it is longer than 1,000,000 bytes; `Syntax`, `OutOfProfile` or `Limit` where a
 /// statement can't be read; else why a statement is refused.
 pub fn run_script<E: Executor, F: Functions, G: Guarding>(
     alloc: Global,

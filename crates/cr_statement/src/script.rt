@@ -27,13 +27,14 @@ fn semicolons(source: &[u8], tokens: &[Token]) -> usize
 /// out. Takes time in proportion to the tokens of the statement and the `;` before it.
 ///
 /// # Errors
-/// Those of [`statement`], of the tokens behind the `;` at the front.
+/// Those of [`statement`], of the tokens behind the `;` at the front; none where no other token is left.
 pub fn next_statement(
     alloc: Global,
     source: &str,
     tokens: &[Token],
 ) -> Result<Option<(Statement, usize)>, SqlError>
-    ensures { result ≢ Err SqlError.Memory → says_next result ≡ next source.now tokens.now }
+    ensures value { result ≢ Err SqlError.Memory → says_next result ≡ next source.now tokens.now }
+    ensures end { next source.now tokens.now ≡ Ok None → result ≡ Ok None }
 {
     let skipped = semicolons(source.as_bytes(), tokens);
     let rest = &tokens[skipped..];

@@ -1,5 +1,5 @@
 -- A script leaves a replica that keeps what all that it ever held keeps.
-use Rattle.std.proofs.Common.{◌≡◌, ℕ, zero, suc, pos, Bool, true, false, not, ◌&&◌, cond, List, [], ◌∷◌, ◌++◌, Option, Some, None, Ok, Err, refl, sym, ap, subst, ◌∙◌, append_assoc}
+use Rattle.std.proofs.Common.{◌≡◌, inl, inr, ℕ, zero, suc, pos, Bool, true, false, not, ◌&&◌, cond, List, [], ◌∷◌, ◌++◌, Option, Some, None, Ok, Err, refl, sym, ap, subst, ◌∙◌, append_assoc}
 use Rattle.std.specs.Prelude.{unwrap_or, is_some}
 use Rattle.std.specs.Option.{option_map_or}
 use Rattle.cr_lattice.specs.declared.change.Change.{Change}
@@ -20,7 +20,7 @@ use Rattle.cr_world.specs.Resolved.{Resolved, Select, Mark as Marks, Insert, Upd
 use Rattle.cr_world.specs.Language.{Language, Piece, Statement, Unread}
 use Rattle.cr_world.specs.State.{State, ModuleState}
 use Rattle.cr_world.specs.Statement.{Host, Answers, ModulesLeave, adding, ended, writes, changes_by, commits, left_by, is_memory, ends, stepped, allowed_of, rows_of}
-use Rattle.cr_world.specs.Scripts.{Moment, Runs, accepted, moment, after_script, added_by, added_by_script}
+use Rattle.cr_world.specs.Scripts.{Moment, Runs, RunsEach, accepted, moment, after_script, added_by, added_by_script}
 use Rattle.cr_world.specs.World.{World, Member, Keeps, Closures, host_of}
 use Rattle.cr_world.specs.Answers.{script_run}
 use Rattle.cr_world.specs.Headline.{PullsKeep, IncrementalPullsKeep}
@@ -128,20 +128,24 @@ module _ {S E : Type 0} (l : Language S E) (host : Host) where
   accepted_modules st None n = n
   accepted_modules st (Some r) n = left_modules st r (rows_of l host st [] r) ∙ n
 
-  -- a session without modules stands where its script left it
-  pub runs_leave : (st : State) (ps : List (Piece S)) (xs : List Reply) (f : Option Refusal) (new : State) → st.modules ≡ [] → Runs l host st ps xs f new → after_script l host st ps xs f ≡ new
-  runs_leave st [] [] None new n run = sym run
-  runs_leave st [] [] (Some r) new n run = sym run.1
-  runs_leave st [] (x ∷ xs) f new n run = absurd run
-  runs_leave st (Unread why ∷ ps) [] None new n run = absurd run
-  runs_leave st (Unread why ∷ ps) [] (Some r) new n run = sym run.1
-  runs_leave st (Unread why ∷ ps) (x ∷ xs) f new n run = absurd run
-  runs_leave st (Statement s ∷ ps) [] None new n run = absurd run
-  runs_leave st (Statement s ∷ ps) [] (Some r) new n run = sym run.1
-  runs_leave st (Statement s ∷ ps) (x ∷ xs) f new n run =
+  -- a session without modules stands where the statements of a script left it
+  each_leaves : (st : State) (ps : List (Piece S)) (xs : List Reply) (f : Option Refusal) (new : State) → st.modules ≡ [] → RunsEach l host st ps xs f new → after_script l host st ps xs f ≡ new
+  each_leaves st [] [] None new n run = sym run
+  each_leaves st [] [] (Some r) new n run = absurd run
+  each_leaves st [] (x ∷ xs) f new n run = absurd run
+  each_leaves st (Unread why ∷ ps) [] None new n run = absurd run
+  each_leaves st (Unread why ∷ ps) [] (Some r) new n run = sym run.1
+  each_leaves st (Unread why ∷ ps) (x ∷ xs) f new n run = absurd run
+  each_leaves st (Statement s ∷ ps) [] None new n run = absurd run
+  each_leaves st (Statement s ∷ ps) [] (Some r) new n run = sym run.1
+  each_leaves st (Statement s ∷ ps) (x ∷ xs) f new n run =
       let same = none_left _ _ st.modules run.0 n run.1.0.2 in
-      runs_leave (accepted l host st s x) ps xs f new (accepted_modules st (allowed_of l host st [] s) n)
-      (subst (λ (ms : List ModuleState). Runs l host (stepped l host st [] s (Ok x) ms) ps xs f new) same run.1.1)
+      each_leaves (accepted l host st s x) ps xs f new (accepted_modules st (allowed_of l host st [] s) n)
+      (subst (λ (ms : List ModuleState). RunsEach l host (stepped l host st [] s (Ok x) ms) ps xs f new) same run.1.1)
+
+  pub runs_leave : (st : State) (ps : List (Piece S)) (xs : List Reply) (f : Option Refusal) (new : State) → st.modules ≡ [] → Runs l host st ps xs f new → after_script l host st ps xs f ≡ new
+  runs_leave st ps xs f new n (inl run) = each_leaves st ps xs f new n run
+  runs_leave st ps xs f new n (inr want) = ap (λ (qs : List (Piece S)). after_script l host st qs xs f) want.0 ∙ sym want.3
 
   -- a moment of a session that keeps what it held has an answer for where the session stood
   pub record IsMoment (m : Moment S) : Type 0 where
@@ -155,20 +159,25 @@ module _ {S E : Type 0} (l : Language S E) (host : Host) where
   no_moment : {A : Type 0} (n : Moment S) → None ≡ Some n → A
   no_moment n e = absurd (let q : ⊥ = cc in q)
 
+  each_answers : (st : State) (held : List Change) (ps : List (Piece S)) (xs : List Reply) (f : Option Refusal) (new : State) (i : ℕ) (n : Moment S)
+      → Stays st held → RunsEach l host st ps xs f new → moment l host st held ps xs f i ≡ Some n → IsMoment n
+  each_answers st held [] xs f new i n k run e = no_moment n e
+  each_answers st held (Unread why ∷ ps) xs f new i n k run e = no_moment n e
+  each_answers st held (Statement s ∷ ps) [] None new i n k run e = no_moment n e
+  each_answers st held (Statement s ∷ ps) [] (Some r) new zero n k run e =
+      some_moment (record { state = st; held = held; statement = s; reply = Err r }) n e (record { stays = k; modules = st.modules; answers = run.0 })
+  each_answers st held (Statement s ∷ ps) [] (Some r) new (suc i) n k run e = no_moment n e
+  each_answers st held (Statement s ∷ ps) (x ∷ xs) f new zero n k run e =
+      some_moment (record { state = st; held = held; statement = s; reply = Ok x }) n e (record { stays = k; modules = run.0; answers = run.1.0 })
+  each_answers st held (Statement s ∷ ps) (x ∷ xs) f new (suc i) n k run e =
+      let same = none_left _ _ st.modules run.0 k.none run.1.0.2 in
+      each_answers (accepted l host st s x) (held ++ added_by l host st s) ps xs f new i n (accepted_stays st (allowed_of l host st [] s) held k)
+      (subst (λ (ms : List ModuleState). RunsEach l host (stepped l host st [] s (Ok x) ms) ps xs f new) same run.1.1) e
+
   pub moments_answer : (st : State) (held : List Change) (ps : List (Piece S)) (xs : List Reply) (f : Option Refusal) (new : State) (i : ℕ) (n : Moment S)
       → Stays st held → Runs l host st ps xs f new → moment l host st held ps xs f i ≡ Some n → IsMoment n
-  moments_answer st held [] xs f new i n k run e = no_moment n e
-  moments_answer st held (Unread why ∷ ps) xs f new i n k run e = no_moment n e
-  moments_answer st held (Statement s ∷ ps) [] None new i n k run e = no_moment n e
-  moments_answer st held (Statement s ∷ ps) [] (Some r) new zero n k run e =
-      some_moment (record { state = st; held = held; statement = s; reply = Err r }) n e (record { stays = k; modules = st.modules; answers = run.0 })
-  moments_answer st held (Statement s ∷ ps) [] (Some r) new (suc i) n k run e = no_moment n e
-  moments_answer st held (Statement s ∷ ps) (x ∷ xs) f new zero n k run e =
-      some_moment (record { state = st; held = held; statement = s; reply = Ok x }) n e (record { stays = k; modules = run.0; answers = run.1.0 })
-  moments_answer st held (Statement s ∷ ps) (x ∷ xs) f new (suc i) n k run e =
-      let same = none_left _ _ st.modules run.0 k.none run.1.0.2 in
-      moments_answer (accepted l host st s x) (held ++ added_by l host st s) ps xs f new i n (accepted_stays st (allowed_of l host st [] s) held k)
-      (subst (λ (ms : List ModuleState). Runs l host (stepped l host st [] s (Ok x) ms) ps xs f new) same run.1.1) e
+  moments_answer st held ps xs f new i n k (inl run) e = each_answers st held ps xs f new i n k run e
+  moments_answer st held ps xs f new i n k (inr want) e = no_moment n (sym (ap (λ (qs : List (Piece S)). moment l host st held qs xs f i) want.0) ∙ e)
 
 pub script_keeps : {S E : Type 0} (l : Language S E) (k : Closures) (w : World) (text : List ℕ) (x : TheScript) (m : Member) → Keeps m → Keeps (script_run l k w text x m)
 script_keeps l k w text x m h =

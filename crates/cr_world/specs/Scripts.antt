@@ -20,18 +20,22 @@ pub record Moment (S : Type 0) : Type 0 where
   pub reply : Result Reply Refusal
 
 module _ {S E : Type 0} (l : Language S E) (host : Host) where
-  -- The script has these replies, one for each statement that is accepted, and then this refusal, if one is refused; and
-  -- then the session stands there. Want of memory may end it anywhere.
+  -- These statements have these replies, one for each that is accepted, and then this refusal, if one is refused; and then the
+  -- session stands there. Want of memory may be the refusal of any, and where all are accepted nothing is refused.
+  abbrev pub RunsEach : State → List (Piece S) → List Reply → Option Refusal → State → Type 0
+  RunsEach st [] [] None new = new ≡ st
+  RunsEach st [] [] (Some r) new = ⊥
+  RunsEach st [] (x ∷ xs) f new = ⊥
+  RunsEach st (Unread why ∷ ps) [] (Some r) new = ((r ≡ why) ⊎ (r ≡ refusal.Memory)) × (new ≡ st)
+  RunsEach st (Unread why ∷ ps) [] None new = ⊥
+  RunsEach st (Unread why ∷ ps) (x ∷ xs) f new = ⊥
+  RunsEach st (Statement s ∷ ps) [] None new = ⊥
+  RunsEach st (Statement s ∷ ps) [] (Some r) new = Answers l host st [] s (Err r) st.modules × (new ≡ stepped l host st [] s (Err r) st.modules)
+  RunsEach st (Statement s ∷ ps) (x ∷ xs) f new = (ms : List ModuleState) × (Answers l host st [] s (Ok x) ms × RunsEach (stepped l host st [] s (Ok x) ms) ps xs f new)
+
+  -- The same of a whole script: one that has no statement may be refused for want of memory, too.
   abbrev pub Runs : State → List (Piece S) → List Reply → Option Refusal → State → Type 0
-  Runs st [] [] None new = new ≡ st
-  Runs st [] (x ∷ xs) f new = ⊥
-  Runs st [] [] (Some r) new = (r ≡ refusal.Memory) × (new ≡ st)
-  Runs st (Unread why ∷ ps) [] (Some r) new = ((r ≡ why) ⊎ (r ≡ refusal.Memory)) × (new ≡ st)
-  Runs st (Unread why ∷ ps) [] None new = ⊥
-  Runs st (Unread why ∷ ps) (x ∷ xs) f new = ⊥
-  Runs st (Statement s ∷ ps) [] None new = ⊥
-  Runs st (Statement s ∷ ps) [] (Some r) new = Answers l host st [] s (Err r) st.modules × (new ≡ stepped l host st [] s (Err r) st.modules)
-  Runs st (Statement s ∷ ps) (x ∷ xs) f new = (ms : List ModuleState) × (Answers l host st [] s (Ok x) ms × Runs (stepped l host st [] s (Ok x) ms) ps xs f new)
+  Runs st ps xs f new = RunsEach st ps xs f new ⊎ ((ps ≡ []) × (xs ≡ []) × (f ≡ Some refusal.Memory) × (new ≡ st))
 
   -- what a statement adds to all that was ever held: what it commits
   abbrev pub added_by : State → S → List Change

@@ -7,8 +7,8 @@ use Rattle.cr_script.proofs.Turning.{Led}
 use Rattle.cr_script.proofs.script.turns.Given as goal
 
 -- the statements so far led here, they were heard of, and the guard answers as before
-abbrev pub invariant-loop-rest : goal.invariant-loop-rest
-invariant-loop-rest g l = record {
+abbrev pub invariant-loop-reply : goal.invariant-loop-reply
+invariant-loop-reply g l = record {
   led : (has : List ℕ → Bool) → has ≡ g.F.Functions.names_function l.functions
       → Led (spoken (g.F.Functions.function_of l.functions) (g.F.Functions.scalar l.functions) (g.F.Functions.step l.functions) (g.F.Functions.finish l.functions) (g.F.Functions.order_of l.functions) (g.F.Functions.orders_total l.functions) has)
       (host_under (closures (g.G.Guarding.allows l.fn.guard) (g.G.Guarding.refuses l.fn.guard)) (g.G.Guarding.rules l.fn.guard)) g.E.Executor.is_honest g.E.Executor.is_clean g.E.Executor.stands
@@ -21,5 +21,5 @@ invariant-loop-rest g l = record {
   stays : Stays g.G.Guarding.is_faithful g.G.Guarding.rules g.G.Guarding.allows g.G.Guarding.refuses l.fn.guard l.guard;
 }
 
-abbrev pub decreases-loop-rest : goal.decreases-loop-rest
-decreases-loop-rest g l = length l.rest
+abbrev pub decreases-loop-reply : goal.decreases-loop-reply
+decreases-loop-reply g l = length l.rest
