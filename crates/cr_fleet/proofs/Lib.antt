@@ -2,6 +2,7 @@ pub mod Honest
 pub mod Places
 pub mod Marking
 pub mod Stepping
+pub mod Hearing
 pub mod Opening
 pub mod Reading
 pub mod Pulling

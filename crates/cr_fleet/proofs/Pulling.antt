@@ -10,6 +10,8 @@ use Rattle.cr_cells.specs.Calls as calls
 use Rattle.cr_cells.specs.Calls.{Reads, IsRefusal}
 use Rattle.cr_cells.specs.Holding.{IsSound}
 use Rattle.cr_guard.specs.Policy.{Rules}
+use Rattle.cr_guard.specs.declared.event.Event.{Event}
+use Rattle.cr_tree.specs.declared.statement.Statement.{Statement}
 use Rattle.cr_world.specs.declared.command.Command.TheVariants.{Pull}
 use Rattle.cr_world.specs.declared.command.FleetReply.{FleetReply}
 use Rattle.cr_world.specs.declared.command.FleetReply.TheVariants.{Done, Refused}
@@ -18,17 +20,20 @@ use Rattle.cr_world.specs.declared.refusal.Refusal.TheVariants.{NoReplica, SameS
 use Rattle.cr_world.specs.Refusals.{of_store}
 use Rattle.cr_world.specs.Language.{Language}
 use Rattle.cr_world.specs.Causes.{Cause}
-use Rattle.cr_world.specs.State.{State, in_transaction}
+use Rattle.cr_world.specs.State.{State, in_transaction, heard_between}
 use Rattle.cr_world.specs.Takings.{taking_cause, taking, changes_above, pulling}
 use Rattle.cr_world.specs.World.{World, Member, Keeps, Closures, host_of, used, named, item_at}
 use Rattle.cr_world.specs.Answers.{Answers, IsDone, IsDoneUnless, Pulls}
 use Rattle.cr_world.proofs.Keeping.{pull_keeps}
 use Rattle.cr_fleet.proofs.Honest.{always}
 use Rattle.cr_fleet.specs.Fleets.{FleetOf, AreClean, Shows, Steps, seen, name_and_state, place_in}
+use Rattle.cr_fleet.specs.Hearing.{HearsStep}
+use Rattle.cr_script.specs.Hearing.{Hears}
 use Rattle.cr_script.specs.Speaking.{host_under}
 use Rattle.cr_session.specs.Sessions.{TakesAll, reply_of}
 use Rattle.cr_fleet.proofs.Marking.{Moves, moves, same_grows, commit_grows}
-use Rattle.cr_fleet.proofs.Places.{same_at, none_at, stays_at, all_at, all_set, all_before, all_after}
+use Rattle.cr_fleet.proofs.Hearing.{taking_heard}
+use Rattle.cr_fleet.proofs.Places.{same_at, none_at, stays_at, set_there, all_at, all_set, all_before, all_after}
 use Rattle.cr_fleet.proofs.Stepping.{place_same, unused, refused_steps, pull_none, of_used, used_steps, clean_before, unchanged}
 use Rattle.cr_session.proofs.Takings.{want_of_store, wanting}
 
@@ -52,7 +57,7 @@ pub within_one : (t b : Bool) (c : Cause) → t ≡ true → IsDoneUnless (unles
 within_one true b c o = refl
 within_one false b c o = absurd (let q : false ≡ true = o in cc)
 
-module _ {S E C : Type 0} (l : Language S E) (k : Closures) (is_clean : C → Type 0) (stands : C → State) (rules : Rules) (old : FleetOf C) (name : List ℕ) where
+module _ {E C : Type 0} (l : Language Statement E) (k : Closures) (is_clean : C → Type 0) (stands : C → State) (rules : Rules) (old : FleetOf C) (name : List ℕ) where
   pub pull_unused : item_at old.1 old.0 ≡ None → Steps l k is_clean stands rules old (Pull name) (Refused NoReplica) rules old
   pull_unused e = refused_steps l k is_clean stands rules old (Pull name) NoReplica (λ clean w s. pull_none l k w name (unused l k is_clean stands rules w old s e))
 
@@ -201,3 +206,15 @@ module _ {S E C : Type 0} (l : Language S E) (k : Closures) (is_clean : C → Ty
                 → Steps l k is_clean stands rules old (Pull name) (reply_of result) rules (slice_set mid.0 i t', mid.1)
             pull_taken (Ok u) takes = pull_done takes
             pull_taken (Err e) takes = pull_refused e takes
+
+            -- and what becomes of rows is heard
+            pub pull_told : {G : Type 0} (hears : G → G → List Event → Type 0) (result : Result (Unit {0}) Refusal) → TakesAll (host_under k rules) always is_clean stands t.1 changes None result t'.1 → (g h : G)
+                → (is_clean t'.1 → Hears (hears g h) (heard_between (stands t.1) (stands t'.1)) result)
+                → Steps l k is_clean stands rules old (Pull name) (reply_of result) rules (slice_set mid.0 i t', mid.1)
+                × HearsStep l k hears is_clean stands g rules old (Pull name) (reply_of result) (slice_set mid.0 i t', mid.1) h
+            pull_told hears result takes g h heard =
+                let step = pull_taken result takes in (
+                  step,
+                  λ clean w s. taking_heard l k hears is_clean stands rules rules old (slice_set mid.0 i t', mid.1) i r t' place at (set_there mid.0 i t t' at_mid) (Pull name) (λ w. pulling (named w name)) (λ w. refl) result (stands t.1) g h
+                      (taker_stands (clean_before l k is_clean stands rules mid i t t' place at_mid takes.was_clean clean)) (heard (all_set (λ x. is_clean x.1) mid.0 i t t' clean at_mid)) step clean w s,
+                )

@@ -9,6 +9,8 @@ use Rattle.cr_cells.specs.Calls as calls
 use Rattle.cr_cells.specs.Calls.{IsRefusal}
 use Rattle.cr_cells.specs.Marks.{Mark, seen_of}
 use Rattle.cr_guard.specs.Policy.{Rules}
+use Rattle.cr_guard.specs.declared.event.Event.{Event}
+use Rattle.cr_tree.specs.declared.statement.Statement.{Statement}
 use Rattle.cr_world.specs.declared.command.Command.TheVariants.{PullSince}
 use Rattle.cr_world.specs.declared.command.FleetReply.{FleetReply}
 use Rattle.cr_world.specs.declared.command.FleetReply.TheVariants.{Done, Refused}
@@ -17,19 +19,22 @@ use Rattle.cr_world.specs.declared.refusal.Refusal.TheVariants.{NoReplica, SameS
 use Rattle.cr_world.specs.Refusals.{of_store}
 use Rattle.cr_world.specs.Language.{Language}
 use Rattle.cr_world.specs.Causes.{Cause, IsWant}
-use Rattle.cr_world.specs.State.{State, in_transaction}
+use Rattle.cr_world.specs.State.{State, in_transaction, heard_between}
 use Rattle.cr_world.specs.Takings.{taking_cause, taking, changes_above, seen_at, pulling_since}
 use Rattle.cr_world.specs.World.{World, Member, Keeps, Closures, host_of, named, item_at}
 use Rattle.cr_world.specs.Answers.{Answers, IsDone, PullsSince}
 use Rattle.cr_world.proofs.Keeping.{incremental_pull_keeps}
 use Rattle.cr_fleet.proofs.Honest.{always}
 use Rattle.cr_fleet.specs.Fleets.{FleetOf, AreClean, Shows, Steps, IsOffered, name_and_state, place_in}
+use Rattle.cr_fleet.specs.Hearing.{HearsStep}
+use Rattle.cr_script.specs.Hearing.{Hears}
 use Rattle.cr_script.specs.Speaking.{host_under}
 use Rattle.cr_session.specs.Sessions.{TakesAll, reply_of}
 use Rattle.cr_fleet.proofs.Marking.{Moves, moves, same_grows, pull_moves}
-use Rattle.cr_fleet.proofs.Places.{none_at, within, some_within, set_there}
+use Rattle.cr_fleet.proofs.Hearing.{taking_heard}
+use Rattle.cr_fleet.proofs.Places.{none_at, within, some_within, set_there, all_set}
 use Rattle.cr_fleet.proofs.Pulling.{apart, one, within_one, taker, peer}
-use Rattle.cr_fleet.proofs.Reading.{before_read, clean_read, place_read, stands_read, shows_before, steps_read, refused_read}
+use Rattle.cr_fleet.proofs.Reading.{before_read, clean_read, place_read, stands_read, shows_before, shows_read, steps_read, refused_read}
 use Rattle.cr_fleet.proofs.Stepping.{place_same, unused, refused_steps, pull_since_none, of_used, used_steps, clean_before, unchanged}
 use Rattle.cr_session.proofs.Takings.{want_of_store, wanting}
 
@@ -51,7 +56,7 @@ module _ {C : Type 0} (is_clean : C → Type 0) (stands : C → State) (old : Fl
     seen = λ clean. subst (λ (x : List ℕ × C). version ≡ seen_of (stands o.taker.1).holding.marks (stands x.1).holding.site) (peer_is i j version o p e) (o.seen clean);
   }
 
-module _ {S E C : Type 0} (l : Language S E) (k : Closures) (is_clean : C → Type 0) (stands : C → State) (rules : Rules) (old : FleetOf C) (name : List ℕ) where
+module _ {E C : Type 0} (l : Language Statement E) (k : Closures) (is_clean : C → Type 0) (stands : C → State) (rules : Rules) (old : FleetOf C) (name : List ℕ) where
   pub since_unused : item_at old.1 old.0 ≡ None → Steps l k is_clean stands rules old (PullSince name) (Refused NoReplica) rules old
   since_unused e = refused_steps l k is_clean stands rules old (PullSince name) NoReplica (λ clean w s. pull_since_none l k w name (unused l k is_clean stands rules w old s e))
 
@@ -103,16 +108,18 @@ module _ {S E C : Type 0} (l : Language S E) (k : Closures) (is_clean : C → Ty
         -- it was asked, and what the peer offers above the mark is then taken
         pub since_seen : (r' : List ℕ × C) → r'.0 ≡ r.0 → in_transaction (stands r'.1) ≡ false → (is_clean r'.1 → is_clean r.1) → (is_clean r.1 → is_clean r'.1) → (is_clean r'.1 → stands r'.1 ≡ stands r.1)
             → (version : ℤ) → (AreClean is_clean old → is_clean r'.1 → version ≡ seen_of (stands r.1).holding.marks (stands p.1).holding.site) → (reply : FleetReply) (new : FleetOf C)
-            → (IsOffered is_clean stands (slice_set old.0 i r', old.1) name i j version → Steps l k is_clean stands rules (slice_set old.0 i r', old.1) (PullSince name) reply rules new)
-            → Steps l k is_clean stands rules old (PullSince name) reply rules new
-        since_seen r' same_name still cleans lasts same version seen_is reply new step =
+            → {G : Type 0} (hears : G → G → List Event → Type 0) (g h : G)
+            → (IsOffered is_clean stands (slice_set old.0 i r', old.1) name i j version → Steps l k is_clean stands rules (slice_set old.0 i r', old.1) (PullSince name) reply rules new
+            × HearsStep l k hears is_clean stands g rules (slice_set old.0 i r', old.1) (PullSince name) reply new h)
+            → Steps l k is_clean stands rules old (PullSince name) reply rules new × HearsStep l k hears is_clean stands g rules old (PullSince name) reply new h
+        since_seen r' same_name still cleans lasts same version seen_is reply new hears g h step =
             let mid : FleetOf C = (slice_set old.0 i r', old.1) in
             let shorter = within old.0 j p there in
             let reached = some_within mid.0 j (omega (arith, shorter, length-set old.0 i r')) in
             let before = before_read is_clean stands old i r r' at same_name cleans in
             let site_is : AreClean is_clean mid → (stands reached.0.1).holding.site ≡ (stands p.1).holding.site = (λ clean.
             ap (λ (st : State). st.holding.site) (stands_read is_clean stands old i r r' at same_name cleans same clean j reached.0 p reached.1 there)) in
-            steps_read is_clean stands old i r r' at same_name cleans same l k rules (PullSince name) lasts reply rules new (step (record {
+            let told = step (record {
               taker = r';
               peer = reached.0;
               in_use = place;
@@ -124,7 +131,10 @@ module _ {S E C : Type 0} (l : Language S E) (k : Closures) (is_clean : C → Ty
               seen = λ clean.
                   let own = clean_read is_clean stands old i r r' at same_name cleans clean in
                   seen_is (before clean) own ∙ sym (λ x. seen_of (same own x).holding.marks (site_is clean x));
-            }))
+            }) in (
+              steps_read is_clean stands old i r r' at same_name cleans same l k rules (PullSince name) lasts reply rules new told.0,
+              λ clean w s. told.1 clean w (shows_read is_clean stands old i r r' at same_name cleans same rules (told.0.was_clean clean) w s),
+            )
 
   -- ---- what is offered is taken
 
@@ -214,3 +224,15 @@ module _ {S E C : Type 0} (l : Language S E) (k : Closures) (is_clean : C → Ty
             → Steps l k is_clean stands rules old (PullSince name) (reply_of result) rules (slice_set mid.0 i t', mid.1)
         since_taken (Ok u) takes = steps_read is_clean stands old j p p' o.peer_at same_name cleans same l k rules (PullSince name) lasts Done rules _ (since_done takes)
         since_taken (Err e) takes = steps_read is_clean stands old j p p' o.peer_at same_name cleans same l k rules (PullSince name) lasts (Refused e) rules _ (since_refused e takes)
+
+        -- and what becomes of rows is heard
+        pub since_told : {G : Type 0} (hears : G → G → List Event → Type 0) (result : Result (Unit {0}) Refusal) → TakesAll (host_under k rules) always is_clean stands t.1 changes (Some mark) result t'.1 → (g h : G)
+            → (is_clean t'.1 → Hears (hears g h) (heard_between (stands t.1) (stands t'.1)) result)
+            → Steps l k is_clean stands rules old (PullSince name) (reply_of result) rules (slice_set mid.0 i t', mid.1)
+            × HearsStep l k hears is_clean stands g rules old (PullSince name) (reply_of result) (slice_set mid.0 i t', mid.1) h
+        since_told hears result takes g h heard =
+            let step = since_taken result takes in (
+              step,
+              λ clean w s. taking_heard l k hears is_clean stands rules rules old (slice_set mid.0 i t', mid.1) i r t' o.in_use o.taker_at (set_there mid.0 i t t' at_mid) (PullSince name) (λ w. pulling_since (named w name)) (λ w. refl) result (stands t.1) g h
+                  (taker_stands (clean_before l k is_clean stands rules mid i t t' o.in_use at_mid takes.was_clean clean)) (heard (all_set (λ x. is_clean x.1) mid.0 i t t' clean at_mid)) step clean w s,
+            )

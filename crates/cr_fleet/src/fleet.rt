@@ -95,6 +95,7 @@ impl<C: NewCells> Fleet<C> {
     ghost use Rattle.cr_session.specs.Sessions.{clean, is_own, reply_of, standing};
     ghost use Rattle.cr_world.specs.Headline.{Converges, RowsConverge};
     ghost use Rattle.cr_world.specs.Run.{Run, world_after};
+    ghost use Rattle.cr_fleet.specs.Hearing.{HearsRun, HearsStep};
     ghost use Rattle.cr_fleet.specs.Fleets.{Steps, AreClean, IsUnharmed, Shows, IsOffered, is_free_name};
 
     /// A fleet without replicas.
@@ -161,6 +162,7 @@ impl<C: NewCells> Fleet<C> {
     fn set_rule<G: Guarding>(&self, alloc: Global, guard: &mut G, rule: &PolicyRule) -> FleetReply
         requires { G.is_faithful guard.old }
         ensures steps { (l : Language Statement Ordered) → Steps l (⟦<G as Watching>⟧.closures guard.old) (clean C.is_clean) (standing C.holding) (G.rules guard.old) self.now (Policy rule.now) result (G.rules guard.new) self.now }
+        ensures heard { (l : Language Statement Ordered) → HearsStep l (⟦<G as Watching>⟧.closures guard.old) (⟦<G as Watching>⟧.hears) (clean C.is_clean) (standing C.holding) guard.old (G.rules guard.old) self.now (Policy rule.now) result self.now guard.new }
         ensures closures { ⟦<G as Watching>⟧.closures guard.new ≡ ⟦<G as Watching>⟧.closures guard.old }
         ensures faithful { G.is_faithful guard.new }
     {
@@ -183,7 +185,8 @@ impl<C: NewCells> Fleet<C> {
         requires ready { IsReady command.now }
         requires own { is_own command.now ≡ true }
         ensures steps { (has : List ℕ → Bool) → ⟦<F as Speaking>⟧.are_names functions.now has
-            → Steps (⟦<F as Speaking>⟧.language functions.now has) (⟦<G as Watching>⟧.closures guard.old) (clean C.is_clean) (standing C.holding) (G.rules guard.old) self.old command.now result (G.rules guard.new) self.new }
+            → Steps (⟦<F as Speaking>⟧.language functions.now has) (⟦<G as Watching>⟧.closures guard.old) (clean C.is_clean) (standing C.holding) (G.rules guard.old) self.old command.now result (G.rules guard.new) self.new
+            × HearsStep (⟦<F as Speaking>⟧.language functions.now has) (⟦<G as Watching>⟧.closures guard.old) (⟦<G as Watching>⟧.hears) (clean C.is_clean) (standing C.holding) guard.old (G.rules guard.old) self.old command.now result self.new guard.new }
         ensures closures { ⟦<G as Watching>⟧.closures guard.new ≡ ⟦<G as Watching>⟧.closures guard.old }
         ensures faithful { G.is_faithful guard.new }
     {
@@ -198,7 +201,8 @@ impl<C: NewCells> Fleet<C> {
 
     fn pull<G: Guarding>(&mut self, alloc: Global, guard: &mut G, name: &Text) -> FleetReply
         requires { G.is_faithful guard.old }
-        ensures steps { (l : Language Statement Ordered) → Steps l (⟦<G as Watching>⟧.closures guard.old) (clean C.is_clean) (standing C.holding) (G.rules guard.old) self.old (Pull name.now) result (G.rules guard.new) self.new }
+        ensures steps { (l : Language Statement Ordered) → Steps l (⟦<G as Watching>⟧.closures guard.old) (clean C.is_clean) (standing C.holding) (G.rules guard.old) self.old (Pull name.now) result (G.rules guard.new) self.new
+            × HearsStep l (⟦<G as Watching>⟧.closures guard.old) (⟦<G as Watching>⟧.hears) (clean C.is_clean) (standing C.holding) guard.old (G.rules guard.old) self.old (Pull name.now) result self.new guard.new }
         ensures closures { ⟦<G as Watching>⟧.closures guard.new ≡ ⟦<G as Watching>⟧.closures guard.old }
         ensures faithful { G.is_faithful guard.new }
     {
@@ -244,7 +248,8 @@ impl<C: NewCells> Fleet<C> {
     ) -> FleetReply
         requires { G.is_faithful guard.old }
         ensures steps { (l : Language Statement Ordered) (name : List ℕ) → IsOffered (clean C.is_clean) (standing C.holding) self.old name at from seen
-            → Steps l (⟦<G as Watching>⟧.closures guard.old) (clean C.is_clean) (standing C.holding) (G.rules guard.old) self.old (PullSince name) result (G.rules guard.old) self.new }
+            → Steps l (⟦<G as Watching>⟧.closures guard.old) (clean C.is_clean) (standing C.holding) (G.rules guard.old) self.old (PullSince name) result (G.rules guard.old) self.new
+            × HearsStep l (⟦<G as Watching>⟧.closures guard.old) (⟦<G as Watching>⟧.hears) (clean C.is_clean) (standing C.holding) guard.old (G.rules guard.old) self.old (PullSince name) result self.new guard.new }
         ensures rules { G.rules guard.new ≡ G.rules guard.old }
         ensures closures { ⟦<G as Watching>⟧.closures guard.new ≡ ⟦<G as Watching>⟧.closures guard.old }
         ensures faithful { G.is_faithful guard.new }
@@ -273,7 +278,8 @@ impl<C: NewCells> Fleet<C> {
 
     fn pull_since<G: Guarding>(&mut self, alloc: Global, guard: &mut G, name: &Text) -> FleetReply
         requires { G.is_faithful guard.old }
-        ensures steps { (l : Language Statement Ordered) → Steps l (⟦<G as Watching>⟧.closures guard.old) (clean C.is_clean) (standing C.holding) (G.rules guard.old) self.old (PullSince name.now) result (G.rules guard.new) self.new }
+        ensures steps { (l : Language Statement Ordered) → Steps l (⟦<G as Watching>⟧.closures guard.old) (clean C.is_clean) (standing C.holding) (G.rules guard.old) self.old (PullSince name.now) result (G.rules guard.new) self.new
+            × HearsStep l (⟦<G as Watching>⟧.closures guard.old) (⟦<G as Watching>⟧.hears) (clean C.is_clean) (standing C.holding) guard.old (G.rules guard.old) self.old (PullSince name.now) result self.new guard.new }
         ensures closures { ⟦<G as Watching>⟧.closures guard.new ≡ ⟦<G as Watching>⟧.closures guard.old }
         ensures faithful { G.is_faithful guard.new }
     {
@@ -319,6 +325,8 @@ impl<C: NewCells> Fleet<C> {
         requires ready { IsReady command.now }
         ensures steps { (has : List ℕ → Bool) → ⟦<F as Speaking>⟧.are_names functions.now has
             → Steps (⟦<F as Speaking>⟧.language functions.now has) (⟦<G as Watching>⟧.closures guard.old) (clean C.is_clean) (standing C.holding) (G.rules guard.old) self.old command.now result (G.rules guard.new) self.new }
+        ensures heard { (has : List ℕ → Bool) → ⟦<F as Speaking>⟧.are_names functions.now has
+            → HearsStep (⟦<F as Speaking>⟧.language functions.now has) (⟦<G as Watching>⟧.closures guard.old) (⟦<G as Watching>⟧.hears) (clean C.is_clean) (standing C.holding) guard.old (G.rules guard.old) self.old command.now result self.new guard.new }
         ensures closures { ⟦<G as Watching>⟧.closures guard.new ≡ ⟦<G as Watching>⟧.closures guard.old }
         ensures faithful { G.is_faithful guard.new }
     {
@@ -362,6 +370,9 @@ impl<C: NewCells> Fleet<C> {
         ensures selects_converge { IfOk result (λ replies. (has : List ℕ → Bool) → ⟦<F as Speaking>⟧.are_names functions.now has
             → IsUnharmed (clean C.is_clean) self.old replies.items self.new → (w : World) → Shows (standing C.holding) w (G.rules guard.old) self.old
             → Converges (⟦<F as Speaking>⟧.language functions.now has) (⟦<G as Watching>⟧.closures guard.old) w commands.now replies.items) }
+        ensures heard { IfOk result (λ replies. (has : List ℕ → Bool) → ⟦<F as Speaking>⟧.are_names functions.now has
+            → IsUnharmed (clean C.is_clean) self.old replies.items self.new → (w : World) → Shows (standing C.holding) w (G.rules guard.old) self.old
+            → HearsRun (⟦<F as Speaking>⟧.language functions.now has) (⟦<G as Watching>⟧.closures guard.old) (⟦<G as Watching>⟧.hears) guard.old w commands.now replies.items guard.new) }
         ensures refused { OnErr result (self.new ≡ self.old) }
         ensures closures { ⟦<G as Watching>⟧.closures guard.new ≡ ⟦<G as Watching>⟧.closures guard.old }
         ensures faithful { G.is_faithful guard.new }

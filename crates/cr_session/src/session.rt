@@ -79,6 +79,7 @@ impl<C: Cells> Session<C> {
     ghost use Rattle.cr_script.specs.Hearing.{Hears};
     ghost use Rattle.cr_meaning.specs.View.{Ordered};
     ghost use Rattle.cr_tree.specs.declared.statement.Statement.{Statement};
+    ghost use Rattle.cr_session.specs.Hearing.{HearsOwn, HearsScript, HearsTaking};
     ghost use Rattle.cr_session.specs.Sessions.{Approves, CommitsTaking, Does, Names, TakesAll, TakesFrom, Sees, SeesKeys, clean, honest, is_own, standing};
 
     /// A session over the store, which may hold something already.
@@ -388,6 +389,7 @@ impl<C: Cells> Session<C> {
         requires { G.is_faithful guard.old }
         ensures does { (l : Language Statement Ordered) → Does l (⟦<G as Watching>⟧.host guard.old) (honest C.is_honest) (clean C.is_clean) (standing C.holding) self.old (Take row.now) result self.new }
         ensures guard { ⟦<G as Watching>⟧.stays guard.old guard.new }
+        ensures heard { C.is_clean self.new.0 → HearsTaking (⟦<G as Watching>⟧.hears) guard.old (heard_between (standing C.holding self.old) (standing C.holding self.new)) result guard.new }
     {
         if self.in_transaction() {
             return FleetReply::Refused(Refusal::TransactionState);
@@ -430,6 +432,8 @@ impl<C: Cells> Session<C> {
         ensures does { (has : List ℕ → Bool) → ⟦<F as Speaking>⟧.are_names functions.now has
             → Does (⟦<F as Speaking>⟧.language functions.now has) (⟦<G as Watching>⟧.host guard.old) (honest C.is_honest) (clean C.is_clean) (standing C.holding) self.old (Sql source.now) result self.new }
         ensures guard { ⟦<G as Watching>⟧.stays guard.old guard.new }
+        ensures heard { (has : List ℕ → Bool) → ⟦<F as Speaking>⟧.are_names functions.now has → C.is_clean self.new.0
+            → HearsScript (⟦<G as Watching>⟧.hears) (⟦<F as Speaking>⟧.language functions.now has) (⟦<G as Watching>⟧.host guard.old) guard.old (standing C.holding self.old) source.now result guard.new }
     {
         FleetReply::Script(self.script(alloc, functions, guard, source.as_str()))
     }
@@ -449,6 +453,8 @@ impl<C: Cells> Session<C> {
         ensures does { (has : List ℕ → Bool) → ⟦<F as Speaking>⟧.are_names functions.now has
             → Does (⟦<F as Speaking>⟧.language functions.now has) (⟦<G as Watching>⟧.host guard.old) (honest C.is_honest) (clean C.is_clean) (standing C.holding) self.old command.now result self.new }
         ensures guard { ⟦<G as Watching>⟧.stays guard.old guard.new }
+        ensures heard { (has : List ℕ → Bool) → ⟦<F as Speaking>⟧.are_names functions.now has → C.is_clean self.new.0
+            → HearsOwn (⟦<G as Watching>⟧.hears) (⟦<F as Speaking>⟧.language functions.now has) (⟦<G as Watching>⟧.host guard.old) guard.old (standing C.holding self.old) command.now result (standing C.holding self.new) guard.new }
     {
         match command {
             Command::Define(declaration) => self.define(alloc, functions, declaration),

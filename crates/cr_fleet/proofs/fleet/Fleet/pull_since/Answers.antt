@@ -9,6 +9,8 @@ use Rattle.cr_fleet.specs.declared.fleet.Named.{Named}
 use Rattle.cr_fleet.specs.Fleets.{AreClean}
 use Rattle.cr_fleet.proofs.Places.{pair, map_set, all_at, found_there}
 use Rattle.cr_fleet.proofs.Stepping.{pair_at, place_paired}
+use Rattle.cr_script.specs.Speaking.{closures, HasHeard}
+use Rattle.cr_fleet.proofs.Hearing.{quiet_pull_since}
 use Rattle.cr_fleet.proofs.PullingSince.{since_unknown, since_in_transaction, since_same_site, since_unseen, since_seen}
 use Rattle.cr_fleet.proofs.fleet.Fleet.pull_since.Goals as goal
 
@@ -18,8 +20,11 @@ returns-in_default-place_of-clause-steps g c = λ l.
     let found = c.in-Some-get.ensures.lookup in
     let paired = pair_at items c.in-Some.at c.in-Some-get.taker.now (found_there c.deref.result.now items c.in-Some.at c.in-Some-get.taker.now c.deref.ensures.value found.3.0 found.1) in
     let place : c.self.inside.in_use ≡ Some c.in-Some.at = search rules in
-    rw (← c.self.view_is) (since_unknown l _ (clean g.C.Cells.is_clean) (standing g.C.Cells.holding) _ _ c.args.name.now c.in-Some.at _ place paired
-    (ap (λ (o : Option ℕ). item_at o (map pair items)) (place_paired items c.self.inside.in_use c.args.name.now None (search rules))))
+    rw (← c.self.view_is) (
+      since_unknown l _ (clean g.C.Cells.is_clean) (standing g.C.Cells.holding) _ _ c.args.name.now c.in-Some.at _ place paired
+          (ap (λ (o : Option ℕ). item_at o (map pair items)) (place_paired items c.self.inside.in_use c.args.name.now None (search rules))),
+      λ clean w s. quiet_pull_since l (closures (g.G.Guarding.allows c.args.guard.now) (g.G.Guarding.refuses c.args.guard.now)) (λ from to events. HasHeard (g.G.Guarding.noted from) (g.G.Guarding.noted_with from) (g.G.Guarding.noted to) events) w c.args.name.now _ _ _ refl,
+    )
 
 pub returns-then-in_transaction-clause-steps : goal.returns-then-in_transaction-clause-steps
 returns-then-in_transaction-clause-steps g c = λ l.
@@ -30,7 +35,10 @@ returns-then-in_transaction-clause-steps g c = λ l.
     let met = c.in-Some-get-2.ensures.lookup in
     let there = pair_at items c.in-Some-place_of.from c.in-Some-get-2.peer.now (found_there c.deref-3.result.now items c.in-Some-place_of.from c.in-Some-get-2.peer.now c.deref-3.ensures.value met.3.0 met.1) in
     let from = place_paired items c.self.inside.in_use c.args.name.now (Some c.in-Some-place_of.from) (sym c.in-Some-place_of.is ∙ c.place_of.ensures ∙ (λ i. position (λ n. same_bytes n.name (c.as_str.ensures.value i)) (c.deref-2.ensures.value i))) in
-    rw (← c.self.view_is) (since_in_transaction l _ (clean g.C.Cells.is_clean) (standing g.C.Cells.holding) _ _ c.args.name.now c.in-Some.at _ place paired c.in-Some-place_of.from _ from there (sym c.in_transaction.ensures ∙ c.if-in_transaction.true))
+    rw (← c.self.view_is) (
+      since_in_transaction l _ (clean g.C.Cells.is_clean) (standing g.C.Cells.holding) _ _ c.args.name.now c.in-Some.at _ place paired c.in-Some-place_of.from _ from there (sym c.in_transaction.ensures ∙ c.if-in_transaction.true),
+      λ clean w s. quiet_pull_since l (closures (g.G.Guarding.allows c.args.guard.now) (g.G.Guarding.refuses c.args.guard.now)) (λ from to events. HasHeard (g.G.Guarding.noted from) (g.G.Guarding.noted_with from) (g.G.Guarding.noted to) events) w c.args.name.now _ _ _ refl,
+    )
 
 pub returns-then-same_bytes-clause-steps : goal.returns-then-same_bytes-clause-steps
 returns-then-same_bytes-clause-steps g c = λ l.
@@ -41,10 +49,13 @@ returns-then-same_bytes-clause-steps g c = λ l.
     let met = c.in-Some-get-2.ensures.lookup in
     let there = pair_at items c.in-Some-place_of.from c.in-Some-get-2.peer.now (found_there c.deref-3.result.now items c.in-Some-place_of.from c.in-Some-get-2.peer.now c.deref-3.ensures.value met.3.0 met.1) in
     let from = place_paired items c.self.inside.in_use c.args.name.now (Some c.in-Some-place_of.from) (sym c.in-Some-place_of.is ∙ c.place_of.ensures ∙ (λ i. position (λ n. same_bytes n.name (c.as_str.ensures.value i)) (c.deref-2.ensures.value i))) in
-    rw (← c.self.view_is) (since_same_site l _ (clean g.C.Cells.is_clean) (standing g.C.Cells.holding) _ _ c.args.name.now c.in-Some.at _ place paired c.in-Some-place_of.from _ from there (sym c.in_transaction.ensures ∙ c.if-in_transaction.false) (λ clean.
-    sym (λ i. same_bytes (c.site-site.ensures (all_at (λ x. g.C.Cells.is_clean x.1.0) (map pair items) c.in-Some-place_of.from _ clean there) i)
-    (c.site.ensures (all_at (λ x. g.C.Cells.is_clean x.1.0) (map pair items) c.in-Some.at _ clean paired) i))
-    ∙ sym c.same_bytes.ensures ∙ c.if-same_bytes.true))
+    rw (← c.self.view_is) (
+      since_same_site l _ (clean g.C.Cells.is_clean) (standing g.C.Cells.holding) _ _ c.args.name.now c.in-Some.at _ place paired c.in-Some-place_of.from _ from there (sym c.in_transaction.ensures ∙ c.if-in_transaction.false) (λ clean.
+          sym (λ i. same_bytes (c.site-site.ensures (all_at (λ x. g.C.Cells.is_clean x.1.0) (map pair items) c.in-Some-place_of.from _ clean there) i)
+          (c.site.ensures (all_at (λ x. g.C.Cells.is_clean x.1.0) (map pair items) c.in-Some.at _ clean paired) i))
+          ∙ sym c.same_bytes.ensures ∙ c.if-same_bytes.true),
+      λ clean w s. quiet_pull_since l (closures (g.G.Guarding.allows c.args.guard.now) (g.G.Guarding.refuses c.args.guard.now)) (λ from to events. HasHeard (g.G.Guarding.noted from) (g.G.Guarding.noted_with from) (g.G.Guarding.noted to) events) w c.args.name.now _ _ _ refl,
+    )
 
 pub returns-in-Err-clause-steps : goal.returns-in-Err-clause-steps
 returns-in-Err-clause-steps g c = λ l.
@@ -65,9 +76,11 @@ returns-in-Err-clause-steps g c = λ l.
     sym (λ i. same_bytes (c.site-site.ensures (all_at (λ x. g.C.Cells.is_clean x.1.0) (map pair items) c.in-Some-place_of.from _ clean there) i)
     (site_told (all_at (λ x. g.C.Cells.is_clean x.1.0) (map pair items) c.in-Some.at _ clean paired) i))
     ∙ sym c.same_bytes.ensures ∙ c.if-same_bytes.false) in
-    rw c.from.ensures (rw (← c.self.view_is) (rw (map_set pair items c.in-Some.at _)
-    (since_unseen l _ (clean g.C.Cells.is_clean) (standing g.C.Cells.holding) _ _ c.args.name.now c.in-Some.at _ place paired c.in-Some-place_of.from _ from there outside sites _ refl c.seen.ensures.was_clean c.in-Err.error (c.in-Err.ensures.stays_clean (g.met.C.NewCells.always_honest _))
-    (λ clean. ((λ i. state_of ((c.in-Err.ensures.reads clean).same i) (c.seen.ensures.pending i)), (c.in-Err.ensures.reads clean).answers)))))
+    rw c.from.ensures (rw (← c.self.view_is) (rw (map_set pair items c.in-Some.at _) (
+      since_unseen l _ (clean g.C.Cells.is_clean) (standing g.C.Cells.holding) _ _ c.args.name.now c.in-Some.at _ place paired c.in-Some-place_of.from _ from there outside sites _ refl c.seen.ensures.was_clean c.in-Err.error (c.in-Err.ensures.stays_clean (g.met.C.NewCells.always_honest _))
+          (λ clean. ((λ i. state_of ((c.in-Err.ensures.reads clean).same i) (c.seen.ensures.pending i)), (c.in-Err.ensures.reads clean).answers)),
+      λ clean w s. quiet_pull_since l (closures (g.G.Guarding.allows c.args.guard.now) (g.G.Guarding.refuses c.args.guard.now)) (λ from to events. HasHeard (g.G.Guarding.noted from) (g.G.Guarding.noted_with from) (g.G.Guarding.noted to) events) w c.args.name.now _ _ _ refl,
+    )))
 
 pub returns-clause-steps : goal.returns-clause-steps
 returns-clause-steps g c = λ l.
@@ -95,4 +108,4 @@ returns-clause-steps g c = λ l.
     (since_seen l _ (clean g.C.Cells.is_clean) (standing g.C.Cells.holding) _ _ c.args.name.now c.in-Some.at _ place paired c.in-Some-place_of.from _ from there outside sites (pair taker) refl (ap is_some c.seen.ensures.pending ∙ outside) c.seen.ensures.was_clean (c.in-Ok.ensures.stays_clean (g.met.C.NewCells.always_honest _))
     (λ clean i. state_of ((c.in-Ok.ensures.reads clean).same i) (c.seen.ensures.pending i)) (to_z w64 (of_z w64 c.in-Ok.seen))
     (λ clean own. seen_same ∙ (c.in-Ok.ensures.reads own).answers ∙ ap (seen_of (g.C.Cells.holding c.in-Some-get_mut.taker.now.session.0).marks) (c.site-site.ensures (all_at (λ x. g.C.Cells.is_clean x.1.0) (map pair items) c.in-Some-place_of.from _ clean there)))
-    c.take_since.result c.take_since.new.self (rw (map_set pair items c.in-Some.at taker) at (c.take_since.ensures.steps l c.args.name.now)))
+    c.take_since.result c.take_since.new.self (λ from to events. HasHeard (g.G.Guarding.noted from) (g.G.Guarding.noted_with from) (g.G.Guarding.noted to) events) _ _ (rw (map_set pair items c.in-Some.at taker) at (c.take_since.ensures.steps l c.args.name.now)))

@@ -6,3 +6,8 @@ pub returns-clause-does : goal.returns-clause-does
 returns-clause-does g c = λ has names.
     let same : c.args.source.now ≡ c.as_str.result.now = search rules in
     rw same (script_does _ _ g.C.Cells.is_honest g.C.Cells.is_clean g.C.Cells.holding _ _ _ _ (c.script.ensures.carries has names))
+
+pub returns-clause-heard : goal.returns-clause-heard
+returns-clause-heard g c = λ has names clean.
+    let same : c.args.source.now ≡ c.as_str.result.now = search rules in
+    rw same (c.script.ensures.heard has names clean)
