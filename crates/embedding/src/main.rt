@@ -1,26 +1,30 @@
-//! A host that embeds the engine: it registers two tables of its own with a session, listens to what becomes of rows, has statements
-//! carried out, one with values for its parameters, and prints each with what was heard of it and its answer.
+//! A host that embeds the engine: it registers tables of its own with a session, listens to what becomes of rows, has statements
+//! carried out, one with values for its parameters, and prints each with what was heard of it and its answer. A second host has an
+//! authorizer in place of the listener, and prints each statement with what the authorizer was asked about it.
 #![tactic(auto)]
 
+mod asking;
 mod listening;
+mod module;
 
+use asking::{Questions, note, print_asked};
 use cr_cells::plain::PlainCells;
+use cr_guard::closures::AuthorizerFn;
 use cr_guard::guard::Guard;
 use cr_guard::listener::Listener;
 use cr_guard::samples::Notes;
 use cr_host::functions::BuiltIns;
+use cr_host::meaning::{Action, Auth};
 use cr_hosted::session::HostedSession;
 use cr_lattice::change::Site;
-use cr_lattice::table::ColumnDef;
-use cr_module::samples::Listed;
 use cr_session::session::Session;
-use cr_value::affinity::Affinity;
 use cr_value::literal::literal_text;
 use cr_value::text::Text;
 use cr_value::value::Value;
 use cr_world::command::Reply;
 use cr_world::refusal::Refusal;
 use listening::{Shared, Silent, print_heard};
+use module::Numbers;
 use std::alloc::{AllocError, Global};
 use std::cell::RefCell;
 use std::io::{self, LineWriter, Write};
@@ -62,29 +66,113 @@ const STATEMENTS: [&str; 29] = [
     "COMMIT",
 ];
 
+/// `empty` has no rows at first. A reading of `broken` breaks behind the second of three rows: what is read is read to its end,
+/// whatever LIMIT leaves of it.
+const MODULE_STATEMENTS: [&str; 25] = [
+    "SELECT * FROM empty",
+    "SELECT count(*), max(v) FROM empty",
+    "SELECT v, count(*) FROM empty GROUP BY v",
+    "SELECT id, v FROM w LEFT JOIN empty",
+    "SELECT id, empty.v, m.v FROM w LEFT JOIN empty ON empty.v = id JOIN m ON m.v = id",
+    "SELECT count(*) FROM w, empty",
+    "INSERT INTO empty VALUES(5)",
+    "SELECT id, v FROM w LEFT JOIN empty ON v = id",
+    "SELECT * FROM broken",
+    "SELECT * FROM w",
+    "SELECT count(*) FROM broken",
+    "SELECT v FROM broken LIMIT 1",
+    "SELECT v FROM broken WHERE v = 1 ORDER BY v LIMIT 1",
+    "SELECT 1 FROM broken LIMIT 0",
+    "SELECT id FROM w LEFT JOIN broken ON v = id",
+    "SELECT nope FROM broken",
+    "INSERT INTO broken VALUES(4)",
+    "SELECT max(v) FROM broken",
+    "INSERT INTO w VALUES(6, 'f')",
+    "BEGIN",
+    "INSERT INTO w VALUES(7, 'g')",
+    "SELECT * FROM broken",
+    "INSERT INTO w VALUES(8, 'h')",
+    "COMMIT",
+    "SELECT * FROM w",
+];
+
+/// `m` is the host's table. The authorizer is asked once all names are known, and before anything else may refuse a statement.
+const ASKED_STATEMENTS: [&str; 39] = [
+    "CREATE TABLE t(id INTEGER PRIMARY KEY, name TEXT, n INT DEFAULT 0)",
+    "SELECT crsql_as_crr('t')",
+    "ALTER TABLE t ADD note TEXT",
+    "INSERT INTO t(id, name) VALUES(abs(-1), upper(lower('A'))), (length('bc'), lower('B')), (3, NULL)",
+    "UPDATE t SET name = coalesce(note, name, upper('z')), n = n + length(hex(id)) WHERE abs(id) < 3 AND note IS NULL",
+    "CREATE TABLE u(id INTEGER PRIMARY KEY)",
+    "INSERT INTO u VALUES(abs(2))",
+    "SELECT crsql_as_crr('U')",
+    "INSERT INTO u VALUES(2), (3)",
+    "SELECT * FROM t",
+    "SELECT n, a.*, n FROM t AS a WHERE a.id = 1",
+    "SELECT id AS name, n AS k FROM t ORDER BY k DESC, name",
+    "SELECT a.name, b.id FROM t AS a JOIN t AS b ON b.id = a.id + 1 WHERE a.n > 0",
+    "SELECT upper(t.name), u.id FROM t LEFT JOIN u ON u.id = t.id AND length(t.name) = 1 WHERE t.n IS NOT NULL",
+    "SELECT count(*) FROM t JOIN u ON u.id = t.id LEFT JOIN m ON m.v = abs(t.n) WHERE hex(t.name) <> ''",
+    "SELECT name, count(*) FROM t WHERE id > 0 GROUP BY lower(name), name HAVING sum(n) >= 0 ORDER BY max(id) LIMIT 1",
+    "SELECT DISTINCT typeof(note) FROM t ORDER BY 1 LIMIT 5 OFFSET 0",
+    "SELECT upper(hex(abs(id))) FROM t ORDER BY n",
+    "SELECT min(id), max(coalesce(n, 0)), count(note), sum(length(name)) FROM t",
+    "SELECT min(id, n), nullif(ifnull(n, id), 2) FROM t",
+    "SELECT CASE n WHEN length(name) THEN upper(name) ELSE note END, CASE WHEN id > 1 THEN n END FROM t",
+    "SELECT id IN (1, length(name), n), n BETWEEN id AND abs(9), name LIKE note FROM t",
+    "SELECT count(*) FROM t",
+    "SELECT 1 FROM t, u, t AS again WHERE u.id = 2",
+    "SELECT 1, 'a' || NULL",
+    "SELECT crsql_db_version(), length(hex(crsql_site_id()))",
+    "SELECT * FROM m WHERE v > 1",
+    "INSERT INTO m VALUES(abs(-4)), (length('12345'))",
+    "UPDATE m SET v = abs(v)",
+    "SELECT cid, val FROM crsql_changes WHERE \"table\" = 't' AND pk = X'01010000000000000003'",
+    "INSERT INTO crsql_changes VALUES('u', X'01010000000000000005', '-1', NULL, abs(-1), 0, crsql_site_id(), 1, 0)",
+    "BEGIN",
+    "DELETE FROM t WHERE id = length('a') OR abs(n) > 100",
+    "ROLLBACK",
+    "BEGIN",
+    "INSERT INTO u VALUES(9)",
+    "COMMIT",
+    "SELECT ?1, abs(?2)",
+    "SELECT abs(nope) FROM t",
+];
+
 /// A session, and what its listener noted.
 #[derive(Drop)]
 struct Host {
-    session: HostedSession<PlainCells, Listed>,
+    session: HostedSession<PlainCells, Numbers>,
     notes: Rc<RefCell<Notes>>,
 }
 
-// A table of one column, `v`, with the rows 1, 2 and 3, to which an INSERT may bring more, or none.
-fn numbers(alloc: Global, takes_rows: bool) -> Result<Listed, AllocError> {
-    let column = ColumnDef {
-        name: Text::from_str(alloc, "v")?,
-        affinity: Affinity::Integer,
-        collation: Text::from_str(alloc, "binary")?,
-        not_null: false,
-        key: None,
-        default: Value::Null,
-    };
-    let rows = vec![in alloc; Value::Int(1), Value::Int(2), Value::Int(3)]?;
-    Listed::new(alloc, column, rows, takes_rows)
+// A host whose session has no tables.
+fn new_host(alloc: Global) -> Result<Host, AllocError> {
+    Ok(Host {
+        session: HostedSession::new(alloc, Session::new(PlainCells::new(alloc, SITE))),
+        notes: Rc::new(alloc, RefCell::new(Notes::new(alloc)))?,
+    })
+}
+
+// Three rows, to which an INSERT may bring more, or none.
+fn three(alloc: Global, takes_rows: bool) -> Result<Numbers, AllocError> {
+    Numbers::up_to(alloc, 3, takes_rows)
+}
+
+// No rows, to which an INSERT may bring some.
+fn empty(alloc: Global) -> Result<Numbers, AllocError> {
+    Numbers::up_to(alloc, 0, true)
+}
+
+// Three rows, of which a reading gives two.
+fn broken(alloc: Global) -> Result<Numbers, AllocError> {
+    let mut numbers = three(alloc, true)?;
+    numbers.breaks_at = Some(1);
+    Ok(numbers)
 }
 
 fn print_refusal<W: Write>(refusal: &Refusal, out: &mut W) -> io::Result<()> {
-    writeln!(out, "error {} {}", refusal.code(), refusal.name())
+    writeln!(out, "error {} {}: {refusal}", refusal.code(), refusal.name())
 }
 
 fn print_row<W: Write>(alloc: Global, row: &[Value], out: &mut W) -> io::Result<()> {
@@ -117,14 +205,11 @@ fn register<W: Write>(
     alloc: Global,
     host: &mut Host,
     name: &str,
-    takes_rows: bool,
+    numbers: Numbers,
     out: &mut W,
 ) -> io::Result<()> {
     writeln!(out, "register {name}")?;
-    match host
-        .session
-        .register_module(alloc, name, numbers(alloc, takes_rows)?)
-    {
+    match host.session.register_module(alloc, name, numbers) {
         Ok(()) => writeln!(out, "done"),
         Err(refusal) => print_refusal(&refusal, out),
     }
@@ -168,15 +253,42 @@ fn ask_unheard<W: Write>(
     asked
 }
 
-fn run<W: Write>(alloc: Global, out: &mut W) -> io::Result<()> {
-    let mut host = Host {
-        session: HostedSession::new(alloc, Session::new(PlainCells::new(alloc, SITE))),
-        notes: Rc::new(alloc, RefCell::new(Notes::new(alloc)))?,
-    };
-    register(alloc, &mut host, "M", true, out)?;
-    register(alloc, &mut host, "m", true, out)?;
-    register(alloc, &mut host, "crsql_x", true, out)?;
-    register(alloc, &mut host, "fixed", false, out)?;
+// Has a statement carried out, and prints it with what the authorizer was asked about it and its answer.
+fn ask_authorized<W: Write>(
+    alloc: Global,
+    host: &mut Host,
+    text: &str,
+    out: &mut W,
+) -> io::Result<()> {
+    writeln!(out, "{text}")?;
+    let questions = Rc::new(alloc, RefCell::new(Questions::new(alloc)))?;
+    let noted = questions.clone()?;
+    let answer: AuthorizerFn = Box::new(alloc, move |action: Action, a: &str, b: &str| {
+        note(&noted, action, a, b);
+        Auth::Ok
+    })?;
+    let mut guard: Guard<Silent> = Guard::new(alloc);
+    guard.set_authorizer(0, answer);
+    let outcome = host
+        .session
+        .execute(alloc, &BuiltIns, &mut guard, text, &[]);
+    print_asked(&questions, out)?;
+    print_reply(alloc, &outcome, out)
+}
+
+// Registers the tables of the host that listens. A name may be neither another in other case nor one of the engine's own.
+fn register_tables<W: Write>(alloc: Global, host: &mut Host, out: &mut W) -> io::Result<()> {
+    register(alloc, host, "M", three(alloc, true)?, out)?;
+    register(alloc, host, "m", three(alloc, true)?, out)?;
+    register(alloc, host, "crsql_x", three(alloc, true)?, out)?;
+    register(alloc, host, "fixed", three(alloc, false)?, out)?;
+    register(alloc, host, "empty", empty(alloc)?, out)?;
+    register(alloc, host, "broken", broken(alloc)?, out)
+}
+
+fn run_listening<W: Write>(alloc: Global, out: &mut W) -> io::Result<()> {
+    let mut host = new_host(alloc)?;
+    register_tables(alloc, &mut host, out)?;
     for text in &STATEMENTS {
         ask(alloc, &mut host, text, &[], out)?;
     }
@@ -186,11 +298,25 @@ fn run<W: Write>(alloc: Global, out: &mut W) -> io::Result<()> {
     let name = Value::Text(Text::from_str(alloc, "a")?);
     let values = vec![in alloc; name, Value::Int(2), Value::Null]?;
     ask(alloc, &mut host, "SELECT ? || ?1, ?3", &values, out)?;
-    ask(alloc, &mut host, "SELECT ? || ?1, ?3", &values[..2], out)
+    ask(alloc, &mut host, "SELECT ? || ?1, ?3", &values[..2], out)?;
+    for text in &MODULE_STATEMENTS {
+        ask(alloc, &mut host, text, &[], out)?;
+    }
+    Ok(())
+}
+
+fn run_authorized<W: Write>(alloc: Global, out: &mut W) -> io::Result<()> {
+    let mut host = new_host(alloc)?;
+    register(alloc, &mut host, "m", three(alloc, true)?, out)?;
+    for text in &ASKED_STATEMENTS {
+        ask_authorized(alloc, &mut host, text, out)?;
+    }
+    Ok(())
 }
 
 fn main(rt: HostRuntime) -> io::Result<()> {
     let mut out = LineWriter::new(rt.alloc(), rt.stdout())?;
-    run(rt.alloc(), &mut out)?;
+    run_listening(rt.alloc(), &mut out)?;
+    run_authorized(rt.alloc(), &mut out)?;
     out.flush()
 }
