@@ -1,5 +1,5 @@
 -- What a host's listener hears of a step of a fleet, from what it hears of the replica in use.
-use Rattle.std.proofs.Common.{◌≡◌, ◌⊎◌, inr, ℕ, zero, suc, Bool, true, false, List, [], ◌∷◌, ◌++◌, Option, Some, None, Result, Ok, Err, refl, sym, ap, subst, ◌∙◌, map, slice_get, slice_set}
+use Rattle.std.proofs.Common.{◌≡◌, inr, ℕ, zero, suc, true, false, List, [], ◌∷◌, ◌++◌, Option, Some, None, Result, Ok, Err, refl, sym, ap, subst, ◌∙◌, slice_get}
 use Rattle.cr_guard.specs.declared.event.Event.{Event}
 use Rattle.cr_guard.specs.Policy.{Rules}
 use Rattle.cr_tree.specs.declared.statement.Statement.{Statement}
@@ -19,7 +19,7 @@ use Rattle.cr_script.specs.Hearing.{Hears}
 use Rattle.cr_script.specs.Speaking.{host_under}
 use Rattle.cr_session.specs.Hearing.{HearsOwn, HearsTaking}
 use Rattle.cr_session.specs.Sessions.{is_own, own_after, reply_of}
-use Rattle.cr_fleet.specs.Fleets.{FleetOf, AreClean, Shows, Steps, name_and_state}
+use Rattle.cr_fleet.specs.Fleets.{FleetOf, AreClean, Shows, Steps}
 use Rattle.cr_fleet.specs.Hearing.{HearsUsed, HearsCommand, HearsRun, HearsStep}
 use Rattle.cr_fleet.proofs.Places.{same_at}
 use Rattle.cr_fleet.proofs.Stepping.{own_leaves}

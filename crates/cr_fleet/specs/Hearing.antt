@@ -1,5 +1,5 @@
 -- What a host's listener hears of the commands of a fleet. Source: this project's own.
-use Rattle.std.specs.Prelude.{◌≡◌, ℕ, List, [], ◌∷◌, Option, Some, None}
+use Rattle.std.specs.Prelude.{◌≡◌, List, [], ◌∷◌, Option, Some, None}
 use Rattle.cr_guard.specs.declared.event.Event.{Event}
 use Rattle.cr_guard.specs.Policy.{Rules}
 use Rattle.cr_replica.specs.ChangeRow.{change_of}

@@ -1,4 +1,4 @@
-use Rattle.std.proofs.Common.{inl, refl, rules, subst, Some, Ok, Err}
+use Rattle.std.proofs.Common.{rules, subst, Some, Ok, Err}
 use Rattle.cr_script.specs.Scripts.{next}
 use Rattle.cr_script.specs.Speaking.{HasHeard}
 use Rattle.cr_script.proofs.Heeding.{heard_of, heeded, heeds_more, heeds_none, heeds_refused, turns_alike, was_clean}
