@@ -134,8 +134,9 @@ fn turns<E: Executor, F: Functions, G: Guarding>(
 /// Runs a script: carries out its statements in order, up to the first that is refused. What was done before it stands.
 ///
 /// # Errors
-/// The script's `refusal`, and none where all its statements are accepted: `Limit` where it is longer than 1,000,000 bytes; `Syntax`, `OutOfProfile` or `Limit` where a
-/// statement can't be read; else why a statement is refused.
+/// The script's `refusal`, which is none where all its statements are accepted: `Limit` where it is longer than 1,000,000
+/// bytes; `Syntax`, `OutOfProfile` or `Limit` where a statement can't be read; else why a statement is refused. `Memory`, also
+/// of a script that has no statement.
 pub fn run_script<E: Executor, F: Functions, G: Guarding>(
     alloc: Global,
     executor: &mut E,

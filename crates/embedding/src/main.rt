@@ -172,7 +172,12 @@ fn broken(alloc: Global) -> Result<Numbers, AllocError> {
 }
 
 fn print_refusal<W: Write>(refusal: &Refusal, out: &mut W) -> io::Result<()> {
-    writeln!(out, "error {} {}: {refusal}", refusal.code(), refusal.name())
+    writeln!(
+        out,
+        "error {} {}: {refusal}",
+        refusal.code(),
+        refusal.name()
+    )
 }
 
 fn print_row<W: Write>(alloc: Global, row: &[Value], out: &mut W) -> io::Result<()> {
