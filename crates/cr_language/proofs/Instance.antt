@@ -49,7 +49,7 @@ use Rattle.cr_language.proofs.Standing.{Seen, are_seen, masked_at}
 
 -- ---- what a name stands for
 
-abbrev of_definition : TableDef → Relation
+abbrev pub of_definition : TableDef → Relation
 of_definition d = record { held = held.Module 0; definition = d }
 
 same_name : (m n : Name) → bytes_eq m n ≡ same_bytes n m
@@ -93,7 +93,7 @@ either_is None p (Some d) y e f = absurd (let z : ⊥ = cc in z)
 either_is (Some a) p None y e f = absurd (let z : ⊥ = cc in z)
 either_is (Some a) p (Some d) y e f = e
 
-stands_for : (k : Known) (name : Name) → option_map unplaced (relation_of k name) ≡ option_map of_definition (definition_in k.catalog name)
+pub stands_for : (k : Known) (name : Name) → option_map unplaced (relation_of k name) ≡ option_map of_definition (definition_in k.catalog name)
 stands_for k name =
     either_is (table_at name 0 k.catalog.tables) (module_at name 0 k.catalog.modules) (option_map (λ t. t.definition) (find (is_named name) k.catalog.tables)) (find (λ d. same_bytes d.name name) k.catalog.modules)
     (table_is name 0 k.catalog.tables) (module_is name 0 k.catalog.modules)
@@ -166,9 +166,9 @@ module _ (e : Engine) where
       ∙ viewed_unplaced (resolved (known e d) ask (s.Select h.select)))
 
   -- what an accepted select is
-  record Accepted (x : Statement) (y : world.Resolved Ordered) : Type 0 where
-    query : Query Ordered
-    is : y ≡ world.Select (names x) query
+  pub record Accepted (x : Statement) (y : world.Resolved Ordered) : Type 0 where
+    pub query : Query Ordered
+    pub is : y ≡ world.Select (names x) query
 
   by_outcome : (k : Known) (ask : Answers) (q : Select) (o : Result Resolved Unresolved) (y : world.Resolved Ordered) → marked q ≡ None → resolved k ask (s.Select q) ≡ o → viewed o ≡ Ok y
       → (z : Query Ordered) × (y ≡ world.Select (table_names q) z)
@@ -178,7 +178,7 @@ module _ (e : Engine) where
       let is : view w ≡ y = cc in
       (query t.0, sym is ∙ ap view t.1.0 ∙ ap (λ (ns : List Name). world.Select ns (query t.0)) t.1.1)
 
-  accepted : (x : Statement) (c : Catalog) (ask : Answers) (y : world.Resolved Ordered) → is_select x ≡ true → viewed (resolved (known e c) ask x) ≡ Ok y → Accepted x y
+  pub accepted : (x : Statement) (c : Catalog) (ask : Answers) (y : world.Resolved Ordered) → is_select x ≡ true → viewed (resolved (known e c) ask x) ≡ Ok y → Accepted x y
   accepted x c ask y sel v =
       let h = select_of x sel in
       let t = by_outcome (known e c) ask h.select (resolved (known e c) ask (s.Select h.select)) y h.unmarked refl
@@ -196,7 +196,7 @@ module _ (e : Engine) where
     shift [] = refl
     shift (y ∷ ys) = ap (λ l. y ∷ l) (shift ys)
 
-  same_names : (ms ns : List Name) (p q : Query Ordered) → world.Select ms p ≡ world.Select ns q → ms ≡ ns
+  pub same_names : (ms ns : List Name) (p q : Query Ordered) → world.Select ms p ≡ world.Select ns q → ms ≡ ns
   same_names ms ns p q e = cc
 
   reads_ : (x : Statement) (c : Catalog) (ask : Answers) (ns : List Name) (q : Query Ordered) → is_select x ≡ true → viewed (resolved (known e c) ask x) ≡ Ok (world.Select ns q)

@@ -8,3 +8,15 @@ pub mod Masks
 pub mod Standing
 pub mod Instance
 pub mod Texts
+pub mod Members
+pub mod Layers
+pub mod Leaving
+pub mod Resolving
+pub mod Placing
+pub mod Selecting
+pub mod Sighted
+pub mod Writing
+pub mod Allowing
+pub mod Masking
+pub mod Widths
+pub mod Hiding

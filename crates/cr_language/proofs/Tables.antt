@@ -24,11 +24,11 @@ use Rattle.cr_language.proofs.Lists.{both, map_map}
 
 -- ---- nothing stands against a list of parts
 
-none_first : {X : Type 0} (xs ys : List X) → xs ++ ys ≡ [] → xs ≡ []
+pub none_first : {X : Type 0} (xs ys : List X) → xs ++ ys ≡ [] → xs ≡ []
 none_first [] ys e = refl
 none_first (x ∷ xs) ys e = absurd (let z : ⊥ = cc in z)
 
-none_second : {X : Type 0} (xs ys : List X) → xs ++ ys ≡ [] → ys ≡ []
+pub none_second : {X : Type 0} (xs ys : List X) → xs ++ ys ≡ [] → ys ≡ []
 none_second [] ys e = e
 none_second (x ∷ xs) ys e = absurd (let z : ⊥ = cc in z)
 
@@ -59,7 +59,7 @@ either_found : (name : Name) (o p : Option Relation) (x : Relation) → (o ≡ S
 either_found name (Some y) p x f g e = f e
 either_found name None p x f g e = g e
 
-relation_found : (known : Known) (name : Name) (x : Relation) → relation_of known name ≡ Some x → x.definition.name ≡ name
+pub relation_found : (known : Known) (name : Name) (x : Relation) → relation_of known name ≡ Some x → x.definition.name ≡ name
 relation_found known name x e =
     either_found name (table_at name 0 known.catalog.tables) (module_at name 0 known.catalog.modules) x
     (table_found name 0 known.catalog.tables x) (module_found name 0 known.catalog.modules x) e
@@ -90,7 +90,7 @@ joined_named known ss n (w ∷ ws) (x ∷ xs) e =
     both (λ n ns. n ∷ ns) _ _ _ _ first (joined_named known ss (suc n) ws xs more)
 
 -- what stands against a select's sources stands against it
-sources_fine : (known : Known) (q : Select) → (named known q).bad ≡ [] → (sources_of known (written q.from)).bad ≡ []
+pub sources_fine : (known : Known) (q : Select) → (named known q).bad ≡ [] → (sources_of known (written q.from)).bad ≡ []
 sources_fine known q bad = firsts (sources_of known (written q.from)).bad _ _ _ _ _ _ _ bad where
   firsts : (a b c d e f g h : List Refusal) → a ++ b ++ c ++ d ++ e ++ f ++ g ++ h ≡ [] → a ≡ []
   firsts a b c d e f g h p =
@@ -105,15 +105,15 @@ query_named known q bad =
 
 -- ---- what is accepted
 
-record Accepted (answers : Answers) (x : Resolved) (bad : List Refusal) (y : Resolved) : Type 0 where
-  none : bad ≡ []
-  is : y ≡ left_of answers x
+pub record Accepted (answers : Answers) (x : Resolved) (bad : List Refusal) (y : Resolved) : Type 0 where
+  pub none : bad ≡ []
+  pub is : y ≡ left_of answers x
 
 by_denied : (answers : Answers) (x : Resolved) (o : Option Question) (y : Resolved) → or_allowed answers x o ≡ Ok y → y ≡ left_of answers x
 by_denied answers x None y e = let is : left_of answers x ≡ y = cc in sym is
 by_denied answers x (Some q) y e = absurd (let z : ⊥ = cc in z)
 
-by_bad : (answers : Answers) (x : Resolved) (bad : List Refusal) (y : Resolved) → judged answers x bad ≡ Ok y → Accepted answers x bad y
+pub by_bad : (answers : Answers) (x : Resolved) (bad : List Refusal) (y : Resolved) → judged answers x bad ≡ Ok y → Accepted answers x bad y
 by_bad answers x (f ∷ fs) y e = absurd (let z : ⊥ = cc in z)
 by_bad answers x [] y e = record { none = refl; is = by_denied answers x (first_denied answers (questions x)) y e }
 

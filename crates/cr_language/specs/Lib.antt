@@ -3,3 +3,5 @@ pub mod Laws
 pub mod Texts
 pub mod Sql
 pub mod Engines
+pub mod Reads
+pub mod Readable

@@ -2,6 +2,8 @@
 
 ghost use Rattle.cr_world.specs.Language.{IsLanguage};
 ghost use Rattle.cr_language.specs.Laws.{SelectsLookAtTheirNames, SelectsReadTheirTables};
+ghost use Rattle.cr_language.specs.Reads.{ReadsAreAllowed};
+ghost use Rattle.cr_language.specs.Readable.{OnlyReadableColumnsStand, UnreadableColumnsChangeNoAnswer};
 ghost use Rattle.cr_language.specs.Texts.{TextsHaveTokens};
 ghost use Rattle.cr_language.specs.Sql.{Engine, sql};
 
@@ -23,4 +25,19 @@ pub fn sql_is_a_language()
 /// Each text has tokens.
 pub fn texts_have_tokens()
     ensures { TextsHaveTokens }
+{}
+
+/// Each column that stands in an accepted statement is one whose READ the authorizer answers with OK.
+pub fn reads_are_allowed()
+    ensures { ReadsAreAllowed }
+{}
+
+/// The columns that stand in an accepted select are among those whose READ the authorizer answers with OK.
+pub fn only_readable_columns_stand()
+    ensures { (e : Engine) → OnlyReadableColumnsStand e }
+{}
+
+/// What stands in columns whose READ is not answered with OK changes no answer to a select.
+pub fn unreadable_columns_change_no_answer()
+    ensures { (e : Engine) → UnreadableColumnsChangeNoAnswer e }
 {}
