@@ -76,7 +76,7 @@ fn has_site<C: NewCells>(replicas: &[Named<C>], site: &Site) -> bool
         → result ≡ list_any (λ r. same_bytes (C.holding r.session.0).site site.now) replicas.now }
 {
     for named in replicas {
-        if same_bytes(&named.session.site(), site) {
+        if same_bytes(&named.session.site_id(), site) {
             return true;
         }
     }
@@ -221,7 +221,7 @@ impl<C: NewCells> Fleet<C> {
         if taker.session.in_transaction() {
             return FleetReply::Refused(Refusal::TransactionState);
         }
-        if same_bytes(&peer.session.site(), &taker.session.site()) {
+        if same_bytes(&peer.session.site_id(), &taker.session.site_id()) {
             return FleetReply::Refused(Refusal::SameSite);
         }
         let Some(peer) = self.replicas.get_mut(from) else {
@@ -261,8 +261,8 @@ impl<C: NewCells> Fleet<C> {
             Ok(changes) => changes,
             Err(error) => return FleetReply::Refused(Refusal::from(error)),
         };
-        let site = peer.session.site();
-        let version = peer.session.version();
+        let site = peer.session.site_id();
+        let version = peer.session.db_version();
         if version < 0 {
             return FleetReply::Refused(Refusal::Store(StoreFault::Refused));
         }
@@ -298,8 +298,8 @@ impl<C: NewCells> Fleet<C> {
         if taker.session.in_transaction() {
             return FleetReply::Refused(Refusal::TransactionState);
         }
-        let site = peer.session.site();
-        if same_bytes(&site, &taker.session.site()) {
+        let site = peer.session.site_id();
+        if same_bytes(&site, &taker.session.site_id()) {
             return FleetReply::Refused(Refusal::SameSite);
         }
         let Some(taker) = self.replicas.get_mut(at) else {

@@ -1,13 +1,12 @@
 -- What a listener has heard of changes, and what there was to hear of them once they are kept.
-use Rattle.std.proofs.Common.{◌≡◌, ◌⊎◌, inl, inr, List, [], ◌∷◌, ◌++◌, Option, Some, None, Result, Ok, Err, refl, sym, ap, subst, ◌∙◌}
-use Rattle.std.specs.Prelude.{Bool, true, false, cond, is_some, unwrap_or, if◌then◌else◌, IfErr}
+use Rattle.std.proofs.Common.{◌≡◌, inl, inr, List, [], ◌∷◌, ◌++◌, Option, Some, None, Result, Ok, Err, refl, sym, ap, subst, ◌∙◌}
+use Rattle.std.specs.Prelude.{Bool, true, false, cond, is_some, unwrap_or, IfErr}
 use Rattle.std.specs.List.{flat_map}
 use Rattle.cr_value.specs.declared.value.Value.{Value}
 use Rattle.cr_lattice.specs.declared.change.Change.{Change}
 use Rattle.cr_lattice.specs.declared.table.Table.{Table}
 use Rattle.cr_lattice.specs.Keep.{join}
 use Rattle.cr_lattice.proofs.KeepLaws.{join_assoc, join_comm, join_keeps_second}
-use Rattle.cr_cells.specs.Commit.{committed}
 use Rattle.cr_cells.specs.Holding.{Holding, IsSound, kept_of}
 use Rattle.cr_cells.specs.Marks.{Mark}
 use Rattle.cr_cells.proofs.LawLemmas.{kept-committed}

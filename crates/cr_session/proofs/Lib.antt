@@ -18,3 +18,4 @@ pub mod Receiving
 pub mod Newest
 pub mod Hearing
 pub mod Telling
+pub mod Pulls

@@ -1,5 +1,5 @@
 -- Takings: what the two steps of a replica mean for a session.
-use Rattle.std.proofs.Common.{◌≡◌, ◌⊎◌, inl, inr, Bool, true, false, List, [], ◌∷◌, Option, Some, None, Result, Ok, Err, refl, sym, ap, subst, ◌∙◌}
+use Rattle.std.proofs.Common.{◌≡◌, ◌⊎◌, inl, inr, ℕ, ℤ, Bool, true, false, List, [], ◌∷◌, Option, Some, None, Result, Ok, Err, refl, sym, ap, subst, ◌∙◌}
 use Rattle.std.specs.Prelude.{is_some, if◌then◌else◌}
 use Rattle.std.specs.Option.{option_map}
 use Rattle.cr_lattice.specs.declared.change.Change.{Change}
@@ -9,7 +9,7 @@ use Rattle.cr_cells.specs.declared.store.CellsError.{CellsError}
 use Rattle.cr_cells.specs.declared.store.CellsError.TheVariants as cells
 use Rattle.cr_cells.specs.Calls as calls
 use Rattle.cr_cells.specs.Calls.{IsRefusal, is_past_limit}
-use Rattle.cr_cells.specs.Commit.{committed, newly_kept}
+use Rattle.cr_cells.specs.Commit.{newly_kept}
 use Rattle.cr_cells.specs.Holding.{Holding, kept_of}
 use Rattle.cr_cells.specs.Marks.{Mark}
 use Rattle.cr_cells.specs.Tables.{first_fault}
@@ -25,9 +25,9 @@ use Rattle.cr_world.specs.Refusals.{is_want, of_store, of_taking}
 use Rattle.cr_world.specs.Causes.{Cause, Free, Is, Evaluation, Tells, IsWant, first_cause, of_option, or_else, where_true}
 use Rattle.cr_world.specs.State.{State}
 use Rattle.cr_world.specs.Statement.{Host}
-use Rattle.cr_world.specs.Takings.{take_cause, taking, taking_cause}
+use Rattle.cr_world.specs.Takings.{at_once, own_site, take_cause, taking, taking_cause}
 use Rattle.cr_session.specs.Listening.{TellsListener}
-use Rattle.cr_session.specs.Sessions.{Approves, CommitsTaking, IsCommitted, SessionOf, Taken, TakesAll, TakesFrom, clean, honest, standing, state_of}
+use Rattle.cr_session.specs.Sessions.{Approves, CommitsTaking, IsCommitted, TakenUnless, TakesAll, TakesUnless, clean, honest, standing, state_of, unless}
 
 pub want_of_taking : (e : TakeError) → is_want (of_taking e) ≡ takings.is_want e
 want_of_taking take.Memory = refl
@@ -136,7 +136,7 @@ module _ {C : Type 0} (host : Host) (is_honest is_clean : C → Type 0) (stands 
 
   -- it is approved, and then the session stands where it stood
   module _ (t : Taking) (mid : C) (a : Approves host is_honest is_clean stands old more (Ok t) mid) where
-    taken_by : (result : Result (Unit {0}) Refusal) (at : State) (new : State) → at ≡ stands old → taking_cause host (stands old) more ≡ Free → IsCommitted at more mark result new → Taken host (stands old) more mark result new
+    taken_by : (result : Result (Unit {0}) Refusal) (at : State) (new : State) → at ≡ stands old → taking_cause host (stands old) more ≡ Free → IsCommitted at more mark result new → TakenUnless (taking_cause host (stands old) more) (stands old) more mark result new
     taken_by (Ok u) at new e free c = (free, c ∙ ap (taking more mark) e)
     taken_by (Err r) at new e free c = (inl c.0, c.1 ∙ e)
 
@@ -167,56 +167,76 @@ module _ {C : Type 0} (host : Host) (is_honest is_clean : C → Type 0) (stands 
         takes = λ clean. (inl (t.refused clean), t.same clean ∙ a.same (t.was_clean clean));
       }
 
--- ---- what a peer sent
+-- ---- takings by a call
 
 or_free_behind : (c : Cause) → or_else c Free ≡ c
 or_free_behind Free = refl
 or_free_behind (Is f) = refl
 or_free_behind (Evaluation b) = refl
 
-module _ {C : Type 0} (host : Host) (is_honest is_clean : C → Type 0) (holding : C → Holding) (old : SessionOf C) (more : List Change) (mark : Mark) where
-  abbrev at : State
-  at = standing holding old
+-- the causes of a taking by a call, by what is told at once
+abbrev call_cause : Option Refusal → Cause → Cause
+call_cause first rest = first_cause (of_option first ∷ rest ∷ [])
 
-  -- the cause, by whether a transaction is open, and whether the site is one's own
-  abbrev peer_cause : Bool → Bool → Cause
-  peer_cause opened own = first_cause (of_option (if opened then Some refusal.TransactionState else (if own then Some refusal.SameSite else None)) ∷ taking_cause host at more ∷ [])
+told_at_once : (o : Option Refusal) (rest : Cause) (r : Refusal) → o ≡ Some r → Tells (call_cause o rest) r
+told_at_once o rest r e = subst (λ (o : Option Refusal). Tells (call_cause o rest) r) (sym e) refl
 
-  abbrev TakesPeer : Result (Unit {0}) Refusal → SessionOf C → Type 0
-  TakesPeer result new = TakesFrom host (honest is_honest) (clean is_clean) (standing holding) old more mark result new
+not_at_once : (o : Option Refusal) (rest : Cause) → o ≡ None → call_cause o rest ≡ rest
+not_at_once o rest e = ap (λ (o : Option Refusal). call_cause o rest) e ∙ or_free_behind rest
+
+pub unless_some : (o : Option Refusal) (r : Refusal) → Err r ≡ unless o → o ≡ Some r
+unless_some None r e = absurd (let q : Err r ≡ Ok tt = e in cc)
+unless_some (Some f) r e = cc
+
+pub unless_none : (o : Option Refusal) (u : Unit {0}) → Ok u ≡ unless o → o ≡ None
+unless_none None u e = refl
+unless_none (Some f) u e = absurd (let q : Ok u ≡ Err f = e in cc)
+
+abbrev opened_cause : Bool → Option Refusal → Option Refusal
+opened_cause opened own = if opened then Some refusal.TransactionState else own
+
+pub at_once_inside : (st : State) (mark : Option Mark) → is_some st.pending ≡ true → at_once st mark ≡ Some refusal.TransactionState
+at_once_inside st mark e = ap (λ (b : Bool). opened_cause b (own_site st mark)) e
+
+pub at_once_outside : (st : State) (mark : Option Mark) → is_some st.pending ≡ false → at_once st mark ≡ own_site st mark
+at_once_outside st mark e = ap (λ (b : Bool). opened_cause b (own_site st mark)) e
+
+abbrev own_cause : Bool → Option Refusal
+own_cause own = if own then Some refusal.SameSite else None
+
+pub own_is : (st : State) (site : List ℕ) (version : ℤ) (b : Bool) → same_bytes site st.holding.site ≡ b → own_site st (Some (site, version)) ≡ own_cause b
+own_is st site version b e = ap own_cause e
+
+-- what the first cause and the changes are that a call takes
+module _ (host : Host) (st : State) (first : Option Mark) (more : List Change) (mark : Option Mark) where
+  pub stopped : (r : Refusal) → at_once st first ≡ Some r → TakenUnless (take_cause host st more first) st more mark (Err r) st
+  stopped r e = (inr (told_at_once (at_once st first) (taking_cause host st more) r e), refl)
+
+  pub wanted : (r : Refusal) (new : State) → new ≡ st → IsWant r → TakenUnless (take_cause host st more first) st more mark (Err r) new
+  wanted r new e w = (inl w, e)
+
+  pub goes_on : (result : Result (Unit {0}) Refusal) (new : State) → at_once st first ≡ None → TakenUnless (taking_cause host st more) st more mark result new
+      → TakenUnless (take_cause host st more first) st more mark result new
+  goes_on (Ok u) new e t = (not_at_once (at_once st first) (taking_cause host st more) e ∙ t.0, t.1)
+  goes_on (Err r) new e t = (subst (λ (c : Cause). IsWant r ⊎ Tells c r) (sym (not_at_once (at_once st first) (taking_cause host st more) e)) t.0, t.1)
+
+module _ {C : Type 0} (host : Host) (is_honest is_clean : C → Type 0) (stands : C → State) (old : C) (more : List Change) (first mark : Option Mark) where
+  abbrev ByCall : Result (Unit {0}) Refusal → C → Type 0
+  ByCall result new = TakesUnless is_honest is_clean stands (λ st. take_cause host st more first) old more mark result new
 
   -- refused before the store is asked for anything
-  at_once_refused : (f : Refusal) → (is_clean old.0 → Tells (take_cause host at more (Some mark)) f) → TakesPeer (Err f) old
-  at_once_refused f told = record {
+  pub call_stopped : (r : Refusal) → (is_clean old → at_once (stands old) first ≡ Some r) → ByCall (Err r) old
+  call_stopped r told = record {
     was_honest = λ honest. honest;
     was_clean = λ clean. clean;
     stays_clean = λ honest clean w. clean;
-    takes = λ clean. (inr (told clean), refl);
+    takes = λ clean. stopped host (stands old) first more mark r (told clean);
   }
 
-  pub peer_inside : is_some old.1 ≡ true → TakesPeer (Err refusal.TransactionState) old
-  peer_inside e = at_once_refused refusal.TransactionState (λ clean.
-      subst (λ (b : Bool). Tells (peer_cause b (same_bytes mark.0 (holding old.0).site)) refusal.TransactionState) (sym e) refl)
-
-  pub peer_itself : is_some old.1 ≡ false → (is_clean old.0 → same_bytes mark.0 (holding old.0).site ≡ true) → TakesPeer (Err refusal.SameSite) old
-  peer_itself e own = at_once_refused refusal.SameSite (λ clean.
-      subst (λ (b : Bool). Tells (peer_cause b (same_bytes mark.0 (holding old.0).site)) refusal.SameSite) (sym e)
-      (subst (λ (b : Bool). Tells (peer_cause false b) refusal.SameSite) (sym (own clean)) refl))
-
-  cause_left : is_some old.1 ≡ false → same_bytes mark.0 (holding old.0).site ≡ false → take_cause host at more (Some mark) ≡ taking_cause host at more
-  cause_left e other = (λ i. peer_cause (e i) (other i)) ∙ or_free_behind (taking_cause host at more)
-
-  pub peer_taken : is_some old.1 ≡ false → (is_clean old.0 → same_bytes mark.0 (holding old.0).site ≡ false) → (result : Result (Unit {0}) Refusal) (new : SessionOf C)
-      → TakesAll host (honest is_honest) (clean is_clean) (standing holding) old more (Some mark) result new → TakesPeer result new
-  peer_taken e other (Ok u) new t = record {
+  pub call_taken : (is_clean old → at_once (stands old) first ≡ None) → (result : Result (Unit {0}) Refusal) (new : C) → TakesAll host is_honest is_clean stands old more mark result new → ByCall result new
+  call_taken free result new t = record {
     was_honest = t.was_honest;
     was_clean = t.was_clean;
     stays_clean = t.stays_clean;
-    takes = λ clean. (cause_left e (other (t.was_clean clean)) ∙ (t.takes clean).0, (t.takes clean).1);
-  }
-  peer_taken e other (Err f) new t = record {
-    was_honest = t.was_honest;
-    was_clean = t.was_clean;
-    stays_clean = t.stays_clean;
-    takes = λ clean. (subst (λ (c : Cause). IsWant f ⊎ Tells c f) (sym (cause_left e (other (t.was_clean clean)))) (t.takes clean).0, (t.takes clean).1);
+    takes = λ clean. goes_on host (stands old) first more mark result (stands new) (free (t.was_clean clean)) (t.takes clean);
   }

@@ -1,11 +1,9 @@
 -- What a session finds that there is to hear of changes, key by key, and tells.
-use Rattle.std.proofs.Common.{◌≡◌, ◌⊎◌, inl, inr, ℕ, Bool, true, false, List, [], ◌∷◌, ◌++◌, Option, Some, None, Result, Ok, Err, refl, sym, ap, subst, ◌∙◌, append-nil}
-use Rattle.std.specs.Prelude.{is_some}
+use Rattle.std.proofs.Common.{◌≡◌, inl, inr, true, false, List, [], ◌∷◌, Option, Ok, Err, sym, ap, subst, ◌∙◌, append-nil}
 use Rattle.std.specs.Option.{ForSome}
 use Rattle.cr_lattice.specs.declared.change.Change.{Change}
 use Rattle.cr_lattice.specs.declared.table.Table.{Table}
 use Rattle.cr_cells.specs.declared.store.CellsError.{CellsError}
-use Rattle.cr_cells.specs.declared.store.StoreFault.TheVariants as store
 use Rattle.cr_cells.specs.Calls as calls
 use Rattle.cr_cells.specs.Calls.{IsRefusal}
 use Rattle.cr_cells.specs.Holding.{Holding, IsSound}
@@ -17,7 +15,6 @@ use Rattle.cr_heard.proofs.Telling.{touched_keys_tell_all}
 use Rattle.cr_taken.specs.Taken.{AreKept}
 use Rattle.cr_touched.specs.Parts.{is_key_of, part}
 use Rattle.cr_world.specs.declared.refusal.Refusal.{Refusal}
-use Rattle.cr_world.specs.declared.refusal.Refusal.TheVariants as refusal
 use Rattle.cr_world.specs.Refusals.{is_want, of_store}
 use Rattle.cr_world.specs.Causes.{IsWant}
 use Rattle.cr_world.specs.State.{State, now}

@@ -7,7 +7,6 @@ use Rattle.cr_cells.specs.Calls.{UnlessWant, is_past_limit}
 use Rattle.cr_cells.specs.Holding.{kept_of}
 use Rattle.cr_cells.specs.Commit.{newly_kept}
 use Rattle.cr_tree.specs.declared.statement.Statement.{Statement}
-use Rattle.cr_tree.specs.declared.statement.Statement.TheVariants as s
 use Rattle.cr_questions.specs.Questions.{Answers}
 use Rattle.cr_resolve.specs.Known.{Known}
 use Rattle.cr_answer.specs.Allowing.{Allows}

@@ -1,6 +1,7 @@
 -- What a replica replies to a command that looks at no other, and where it then stands. Source: this project's own.
-use Rattle.std.specs.Prelude.{◌≡◌, ◌⊎◌, ℕ, Bool, true, false, List, [], ◌++◌, find, Option, Some, Result, Ok, Err, MatchResult}
+use Rattle.std.specs.Prelude.{◌≡◌, ◌⊎◌, ℕ, Bool, true, false, List, [], ◌++◌, find, Option, Some, None, Result, Ok, Err, MatchResult}
 use Rattle.cr_lattice.specs.declared.change.Change.{Change}
+use Rattle.cr_lattice.specs.declared.stamped.Stamped.{Stamped}
 use Rattle.cr_cells.specs.declared.store.CellsError.{CellsError}
 use Rattle.cr_cells.specs.Calls.{IsRefusal, UnlessWant}
 use Rattle.cr_cells.specs.Holding.{Holding}
@@ -14,6 +15,7 @@ use Rattle.cr_replica.specs.declared.definition.DefineError.{DefineError}
 use Rattle.cr_replica.specs.declared.definition.DefineError.TheVariants as define
 use Rattle.cr_snapshot.specs.Seen.{IsNamed, IsSeen}
 use Rattle.cr_touched.specs.Parts.{is_key_of, part}
+use Rattle.cr_query.specs.Query.{Row}
 use Rattle.cr_world.specs.declared.command.Command.{Command}
 use Rattle.cr_world.specs.declared.command.Command.TheVariants.{Open, Use, Define, Take, Rows, Changes, Pull, PullSince, Policy, Sql}
 use Rattle.cr_world.specs.declared.command.Declaration.TheVariants.{Real, Table as Declared}
@@ -26,17 +28,25 @@ use Rattle.cr_world.specs.declared.refusal.OutOfProfile.TheVariants as out
 use Rattle.cr_world.specs.Refusals.{is_want}
 use Rattle.cr_world.specs.Language.{Language}
 use Rattle.cr_world.specs.State.{State, now}
-use Rattle.cr_world.specs.Causes.{Free, Tells, IsWant}
+use Rattle.cr_world.specs.Causes.{Cause, Free, Tells, IsWant}
 use Rattle.cr_world.specs.Statement.{Host}
 use Rattle.cr_world.specs.Scripts.{Runs, after_script, added_by_script}
 use Rattle.cr_world.specs.World.{Member}
 use Rattle.cr_world.specs.Answers.{IsDone, Takes, ShowsRows, ShowsChanges, tells_want}
-use Rattle.cr_world.specs.Takings.{take_cause, taking_cause, taking, define_cause, defining, taking_row}
+use Rattle.cr_world.specs.Takings.{taking_cause, taking, define_cause, defining, taking_row}
 
 -- the reply that tells whether a command was carried out
 abbrev pub reply_of : Result (Unit {0}) Refusal → FleetReply
 reply_of (Ok u) = Done
 reply_of (Err r) = Refused r
+
+abbrev pub rows_reply : Result (List Row) Refusal → FleetReply
+rows_reply (Ok rows) = Shown rows
+rows_reply (Err r) = Refused r
+
+abbrev pub changes_reply : Result (List Stamped) Refusal → FleetReply
+changes_reply (Ok changes) = Told changes
+changes_reply (Err r) = Refused r
 
 -- ---- what a session is over: a store, and the changes of the open transaction, if there is one
 
@@ -76,16 +86,20 @@ pub record SeesKeys {T : Type 0} (changes : T → List Change) (old new : State)
 
 -- ---- takings by a call
 
--- all changes are taken, with a mark, or the first cause that holds is told, or want, and nothing is changed
-abbrev pub Taken : Host → State → List Change → Option Mark → Result (Unit {0}) Refusal → State → Type 0
-Taken host old more mark (Ok u) new = (taking_cause host old more ≡ Free) × (new ≡ taking more mark old)
-Taken host old more mark (Err r) new = (IsWant r ⊎ Tells (taking_cause host old more) r) × (new ≡ old)
+-- all changes are taken, with a mark, where no cause holds; else the first is told, or want, and nothing is changed
+abbrev pub TakenUnless : Cause → State → List Change → Option Mark → Result (Unit {0}) Refusal → State → Type 0
+TakenUnless cause old more mark (Ok u) new = (cause ≡ Free) × (new ≡ taking more mark old)
+TakenUnless cause old more mark (Err r) new = (IsWant r ⊎ Tells cause r) × (new ≡ old)
 
-pub record TakesAll {C : Type 0} (host : Host) (is_honest is_clean : C → Type 0) (stands : C → State) (old : C) (more : List Change) (mark : Option Mark) (result : Result (Unit {0}) Refusal) (new : C) : Type 0 where
+pub record TakesUnless {C : Type 0} (is_honest is_clean : C → Type 0) (stands : C → State) (cause : State → Cause) (old : C) (more : List Change) (mark : Option Mark) (result : Result (Unit {0}) Refusal) (new : C) : Type 0 where
   pub was_honest : is_honest new → is_honest old
   pub was_clean : is_clean new → is_clean old
   pub stays_clean : is_honest new → is_clean old → UnlessWant is_want result (is_clean new)
-  pub takes : is_clean new → Taken host (stands old) more mark result (stands new)
+  pub takes : is_clean new → TakenUnless (cause (stands old)) (stands old) more mark result (stands new)
+
+-- whether a call may take them is its caller's to ask
+abbrev pub TakesAll : {C : Type 0} → Host → (C → Type 0) → (C → Type 0) → (C → State) → C → List Change → Option Mark → Result (Unit {0}) Refusal → C → Type 0
+TakesAll host is_honest is_clean stands old more mark result new = TakesUnless is_honest is_clean stands (λ st. taking_cause host st more) old more mark result new
 
 -- The first step: the changes may be taken, with what their commit would bring in, or the first cause that holds is told, or want; and
 -- a session stays where it stands.
@@ -107,16 +121,23 @@ pub record CommitsTaking {C : Type 0} (is_honest is_clean : C → Type 0) (stand
   pub stays_clean : is_honest new → is_clean old → UnlessWant is_want result (is_clean new)
   pub commits : is_clean new → IsCommitted (stands old) more mark result (stands new)
 
--- The same of what a peer sent, with its mark: an open transaction is told first, and then that the peer's site is one's own.
-abbrev pub TakenFrom : Host → State → List Change → Mark → Result (Unit {0}) Refusal → State → Type 0
-TakenFrom host old more mark (Ok u) new = (take_cause host old more (Some mark) ≡ Free) × (new ≡ taking more (Some mark) old)
-TakenFrom host old more mark (Err r) new = (IsWant r ⊎ Tells (take_cause host old more (Some mark)) r) × (new ≡ old)
-
-pub record TakesFrom {C : Type 0} (host : Host) (is_honest is_clean : C → Type 0) (stands : C → State) (old : C) (more : List Change) (mark : Mark) (result : Result (Unit {0}) Refusal) (new : C) : Type 0 where
+-- A session takes what a peer holds, which stands where it stood. Where the peer is read and its store fails, that is want.
+pub record PullsUnless {C D : Type 0} (is_honest is_clean : C → Type 0) (stands : C → State) (peer_honest peer_clean : D → Type 0) (peer_stands : D → State)
+    (cause : State → Holding → Cause) (more : State → Holding → List Change) (mark : Holding → Option Mark) (old : C) (peer : D) (result : Result (Unit {0}) Refusal) (new : C) (peer_new : D) : Type 0 where
   pub was_honest : is_honest new → is_honest old
   pub was_clean : is_clean new → is_clean old
   pub stays_clean : is_honest new → is_clean old → UnlessWant is_want result (is_clean new)
-  pub takes : is_clean new → TakenFrom host (stands old) more mark result (stands new)
+  pub peer_was_honest : peer_honest peer_new → peer_honest peer
+  pub peer_was_clean : peer_clean peer_new → peer_clean peer
+  pub peer_stays_clean : peer_honest peer_new → peer_clean peer → UnlessWant is_want result (peer_clean peer_new)
+  pub peer_same : peer_clean peer_new → peer_stands peer_new ≡ peer_stands peer
+  pub takes : is_clean new → peer_clean peer_new
+      → TakenUnless (cause (stands old) (peer_stands peer).holding) (stands old) (more (stands old) (peer_stands peer).holding) (mark (peer_stands peer).holding) result (stands new)
+
+-- done, or the refusal that there is
+abbrev pub unless : Option Refusal → Result (Unit {0}) Refusal
+unless None = Ok tt
+unless (Some r) = Err r
 
 -- ---- commands
 

@@ -1,6 +1,7 @@
 //! Sessions: one replica each, with the changes of its open transaction, and what it replies to commands and statements.
 #![tactic(auto)]
 
+pub mod calls;
 mod executing;
 mod listening;
 mod lookup;

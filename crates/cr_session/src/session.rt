@@ -17,10 +17,9 @@ use cr_replica::definition::{DefineError, accept};
 use cr_replica::replica::{Replica, Taking};
 use cr_replica::snapshot::Snapshot;
 use cr_script::speaking::{Speaking, Watching};
-use cr_value::order::same_bytes;
 use cr_value::text::{Bytes, Text};
 use cr_world::command::{Command, Declaration, FleetReply};
-use cr_world::refusal::{OutOfProfile, Refusal, of_definition, of_rows};
+use cr_world::refusal::{OutOfProfile, Refusal, of_definition};
 use std::alloc::{AllocError, Global};
 use std::marker::Model;
 
@@ -80,7 +79,7 @@ impl<C: Cells> Session<C> {
     ghost use Rattle.cr_meaning.specs.View.{Ordered};
     ghost use Rattle.cr_tree.specs.declared.statement.Statement.{Statement};
     ghost use Rattle.cr_session.specs.Hearing.{HearsOwn, HearsScript, HearsTaking};
-    ghost use Rattle.cr_session.specs.Sessions.{Approves, CommitsTaking, Does, Names, TakesAll, TakesFrom, Sees, SeesKeys, clean, honest, is_own, standing};
+    ghost use Rattle.cr_session.specs.Sessions.{Approves, CommitsTaking, Does, Names, TakesAll, Sees, SeesKeys, clean, honest, is_own, standing};
 
     /// A session over the store, which may hold something already.
     pub fn new(cells: C) -> Session<C>
@@ -107,14 +106,14 @@ impl<C: Cells> Session<C> {
     }
 
     /// The site that the replica was made with.
-    pub fn site(&self) -> Site
+    pub fn site_id(&self) -> Site
         ensures { C.is_clean self.now.0 → result ≡ (C.holding self.now.0).site }
     {
         self.replica.site_id()
     }
 
     /// How many commits changed a kept change.
-    pub fn version(&self) -> i64
+    pub fn db_version(&self) -> i64
         ensures { C.is_clean self.now.0 → result ≡ (C.holding self.now.0).version }
     {
         self.replica.db_version()
@@ -310,36 +309,8 @@ impl<C: Cells> Session<C> {
         }
     }
 
-    /// Takes what a peer sent, all in one commit or none, and with it the peer's mark: its site, and its version, at least 0, up to
-    /// which its changes were taken. The mark is kept where no change wins, too.
-    ///
-    /// # Errors
-    /// `TransactionState` inside a transaction; then `SameSite` where the site is this replica's own; then as of `take_all`.
-    pub fn take_from<G: Guarding>(
-        &mut self,
-        alloc: Global,
-        guard: &mut G,
-        changes: &[Change],
-        mark: Mark,
-    ) -> Result<(), Refusal>
-        requires faithful { G.is_faithful guard.old }
-        requires from_0 { pos 0 ≤ℤ mark.1 }
-        ensures takes { TakesFrom (⟦<G as Watching>⟧.host guard.old) (honest C.is_honest) (clean C.is_clean) (standing C.holding) self.old changes.now mark result self.new }
-        ensures guard { ⟦<G as Watching>⟧.stays guard.old guard.new }
-        ensures heard { C.is_clean self.new.0 → Hears (⟦<G as Watching>⟧.hears guard.old guard.new) (heard_between (standing C.holding self.old) (standing C.holding self.new)) result }
-    {
-        if self.in_transaction() {
-            return Err(Refusal::TransactionState);
-        }
-        let (site, _) = mark;
-        if same_bytes(&site, &self.site()) {
-            return Err(Refusal::SameSite);
-        }
-        self.take_all(alloc, guard, changes, Some(mark))
-    }
-
     // Why a table is not defined inside a transaction: what stands against it comes first, but for its columns' defaults.
-    fn refuse_definition<F: Functions>(
+    pub(crate) fn refuse_definition<F: Functions>(
         &mut self,
         alloc: Global,
         functions: &F,
@@ -364,7 +335,7 @@ impl<C: Cells> Session<C> {
         }
     }
 
-    fn define<F: Functions>(
+    fn declare<F: Functions>(
         &mut self,
         alloc: Global,
         functions: &F,
@@ -373,19 +344,13 @@ impl<C: Cells> Session<C> {
         requires { IsReady (Define declaration.now) }
         ensures { (has : List ℕ → Bool) (host : Host) → Does (⟦<F as Speaking>⟧.language functions.now has) host (honest C.is_honest) (clean C.is_clean) (standing C.holding) self.old (Define declaration.now) result self.new }
     {
-        let Declaration::Table(def) = declaration else {
-            return FleetReply::Refused(Refusal::OutOfProfile(OutOfProfile::Real));
-        };
-        if self.in_transaction() {
-            return FleetReply::Refused(self.refuse_definition(alloc, functions, def));
-        }
-        match self.replica.define(alloc, functions, def) {
-            Ok(()) => FleetReply::Done,
-            Err(error) => FleetReply::Refused(of_definition(alloc, def, error)),
+        match declaration {
+            Declaration::Table(def) => reply_of(self.define(alloc, functions, def)),
+            Declaration::Real => FleetReply::Refused(Refusal::OutOfProfile(OutOfProfile::Real)),
         }
     }
 
-    fn take<G: Guarding>(&mut self, alloc: Global, guard: &mut G, row: &ChangeRow) -> FleetReply
+    fn take_row<G: Guarding>(&mut self, alloc: Global, guard: &mut G, row: &ChangeRow) -> FleetReply
         requires { G.is_faithful guard.old }
         ensures does { (l : Language Statement Ordered) → Does l (⟦<G as Watching>⟧.host guard.old) (honest C.is_honest) (clean C.is_clean) (standing C.holding) self.old (Take row.now) result self.new }
         ensures guard { ⟦<G as Watching>⟧.stays guard.old guard.new }
@@ -405,18 +370,18 @@ impl<C: Cells> Session<C> {
     fn rows(&mut self, alloc: Global, name: &Text) -> FleetReply
         ensures { (l : Language Statement Ordered) (host : Host) → Does l host (honest C.is_honest) (clean C.is_clean) (standing C.holding) self.old (Rows name.now) result self.new }
     {
-        match self.replica.rows_of(alloc, name.as_str()) {
+        match self.rows_of(alloc, name.as_str()) {
             Ok(rows) => FleetReply::Rows(rows),
-            Err(error) => FleetReply::Refused(of_rows(alloc, name, error)),
+            Err(refusal) => FleetReply::Refused(refusal),
         }
     }
 
     fn changes(&mut self, alloc: Global, version: &i64) -> FleetReply
         ensures { (l : Language Statement Ordered) (host : Host) → Does l host (honest C.is_honest) (clean C.is_clean) (standing C.holding) self.old (Changes version.now) result self.new }
     {
-        match self.replica.changes_since(alloc, *version) {
-            Ok(cells) => FleetReply::Changes(Items::new(cells)),
-            Err(error) => FleetReply::Refused(Refusal::from(error)),
+        match self.changes_since(alloc, *version) {
+            Ok(changes) => FleetReply::Changes(changes),
+            Err(refusal) => FleetReply::Refused(refusal),
         }
     }
 
@@ -435,7 +400,7 @@ impl<C: Cells> Session<C> {
         ensures heard { (has : List ℕ → Bool) → ⟦<F as Speaking>⟧.are_names functions.now has → C.is_clean self.new.0
             → HearsScript (⟦<G as Watching>⟧.hears) (⟦<F as Speaking>⟧.language functions.now has) (⟦<G as Watching>⟧.host guard.old) guard.old (standing C.holding self.old) source.now result guard.new }
     {
-        FleetReply::Script(self.script(alloc, functions, guard, source.as_str()))
+        FleetReply::Script(self.run(alloc, functions, guard, source.as_str()))
     }
 
     /// Carries out a command that looks at no other replica.
@@ -457,8 +422,8 @@ impl<C: Cells> Session<C> {
             → HearsOwn (⟦<G as Watching>⟧.hears) (⟦<F as Speaking>⟧.language functions.now has) (⟦<G as Watching>⟧.host guard.old) guard.old (standing C.holding self.old) command.now result (standing C.holding self.new) guard.new }
     {
         match command {
-            Command::Define(declaration) => self.define(alloc, functions, declaration),
-            Command::Take(row) => self.take(alloc, guard, row),
+            Command::Define(declaration) => self.declare(alloc, functions, declaration),
+            Command::Take(row) => self.take_row(alloc, guard, row),
             Command::Rows(name) => self.rows(alloc, name),
             Command::Changes(version) => self.changes(alloc, version),
             Command::Sql(source) => self.sql(alloc, functions, guard, source),

@@ -143,7 +143,7 @@ impl<C: Cells> Session<C> {
         ensures { (ms : List ModuleState) (has : List ℕ → Bool) → ⟦<F as Speaking>⟧.are_names functions.now has
             → Carries (⟦<F as Speaking>⟧.language functions.now has) (⟦<G as Watching>⟧.host guard.now) (honest C.is_honest) (clean C.is_clean) (beside ms (standing C.holding)) self.old params.now statement.now result self.new }
     {
-        let nothing = empty_snapshot(alloc, self.site());
+        let nothing = empty_snapshot(alloc, self.site_id());
         if let Err(refusal) = check_allowed(
             alloc,
             functions,

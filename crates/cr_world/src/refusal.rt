@@ -371,14 +371,14 @@ pub fn of_definition(alloc: Global, def: &TableDef, error: DefineError) -> Refus
 }
 
 /// How rows that are not shown are told, of the table of this name, or as want of memory where there is none for it.
-pub fn of_rows(alloc: Global, name: &Text, error: RowsError) -> Refusal
+pub fn of_rows(alloc: Global, name: &str, error: RowsError) -> Refusal
     ensures told { (result ≡ Memory) ⊎ (result ≡ of_rows name.now error) }
     ensures nameless { has_name (of_rows name.now error) ≡ false → result ≡ of_rows name.now error }
 {
     match error {
         RowsError::Memory => Refusal::Memory,
         RowsError::Store(fault) => Refusal::Store(fault),
-        RowsError::NoSuchTable => match name.copy(alloc) {
+        RowsError::NoSuchTable => match Text::from_str(alloc, name) {
             Ok(name) => Refusal::NoSuchTable(name),
             Err(AllocError) => Refusal::Memory,
         },

@@ -3,7 +3,7 @@ use Rattle.std.proofs.lemmas.List.{length-set}
 use Rattle.std.proofs.lemmas.Option.{slice_get-get_or}
 use Rattle.cr_lattice.specs.Check.{same_bytes}
 use Rattle.cr_world.specs.World.{item_at}
-use Rattle.cr_script.specs.Speaking.{closures, HasHeard}
+use Rattle.cr_script.specs.Speaking.{closures, HasHeard, host_under}
 use Rattle.cr_script.proofs.Staying.{same_closures}
 use Rattle.cr_session.specs.Sessions.{clean, honest, standing, state_of}
 use Rattle.cr_fleet.specs.declared.fleet.Named.{Named}
@@ -49,8 +49,8 @@ returns-then-same_bytes-clause-steps g c = λ l.
     let from = place_paired items c.self.inside.in_use c.args.name.now (Some c.in-Some-place_of.from) (sym c.in-Some-place_of.is ∙ c.place_of.ensures ∙ (λ i. position (λ n. same_bytes n.name (c.as_str.ensures.value i)) (c.deref-2.ensures.value i))) in
     rw (← c.self.view_is) (
       pull_same_site l _ (clean g.C.Cells.is_clean) (standing g.C.Cells.holding) _ _ c.args.name.now c.in-Some.at _ place paired c.in-Some-place_of.from _ from there (sym c.in_transaction.ensures ∙ c.if-in_transaction.false) (λ clean.
-          sym (λ i. same_bytes (c.site.ensures (all_at (λ x. g.C.Cells.is_clean x.1.0) (map pair items) c.in-Some-place_of.from _ clean there) i)
-          (c.site-2.ensures (all_at (λ x. g.C.Cells.is_clean x.1.0) (map pair items) c.in-Some.at _ clean paired) i))
+          sym (λ i. same_bytes (c.site_id.ensures (all_at (λ x. g.C.Cells.is_clean x.1.0) (map pair items) c.in-Some-place_of.from _ clean there) i)
+          (c.site_id-2.ensures (all_at (λ x. g.C.Cells.is_clean x.1.0) (map pair items) c.in-Some.at _ clean paired) i))
           ∙ sym c.same_bytes.ensures ∙ c.if-same_bytes.true),
       λ clean w s. quiet_pull l (closures (g.G.Guarding.allows c.args.guard.now) (g.G.Guarding.refuses c.args.guard.now)) (λ from to events. HasHeard (g.G.Guarding.noted from) (g.G.Guarding.noted_with from) (g.G.Guarding.noted to) events) w c.args.name.now _ _ _ refl,
     )
@@ -68,10 +68,10 @@ returns-in-Err-clause-steps g c = λ l.
     let met = c.in-Some-get-2.ensures.lookup in
     let met_at = found_there c.deref-3.result.now items c.in-Some-place_of.from c.in-Some-get-2.peer.now c.deref-3.ensures.value met.3.0 met.1 in
     let same_peer : c.in-Some-get-2.peer.now ≡ c.in-Some-get_mut.peer.now = (let q : Some c.in-Some-get-2.peer.now ≡ Some c.in-Some-get_mut.peer.now = sym met_at ∙ at in cc) in
-    let site_told = subst (λ (n : Named g.row.C.Denot). g.C.Cells.is_clean n.session.0 → c.site.result ≡ (g.C.Cells.holding n.session.0).site) same_peer c.site.ensures in
+    let site_told = subst (λ (n : Named g.row.C.Denot). g.C.Cells.is_clean n.session.0 → c.site_id.result ≡ (g.C.Cells.holding n.session.0).site) same_peer c.site_id.ensures in
     let sites : AreClean (clean g.C.Cells.is_clean) (map pair items, c.self.inside.in_use) → same_bytes (g.C.Cells.holding c.in-Some-get_mut.peer.now.session.0).site (g.C.Cells.holding c.in-Some-get.taker.now.session.0).site ≡ false = (λ clean.
     sym (λ i. same_bytes (site_told (all_at (λ x. g.C.Cells.is_clean x.1.0) (map pair items) c.in-Some-place_of.from _ clean there) i)
-    (c.site-2.ensures (all_at (λ x. g.C.Cells.is_clean x.1.0) (map pair items) c.in-Some.at _ clean paired) i))
+    (c.site_id-2.ensures (all_at (λ x. g.C.Cells.is_clean x.1.0) (map pair items) c.in-Some.at _ clean paired) i))
     ∙ sym c.same_bytes.ensures ∙ c.if-same_bytes.false) in
     rw c.from.ensures (rw (← c.self.view_is) (rw (map_set pair items c.in-Some-place_of.from _) (
       pull_unread l _ (clean g.C.Cells.is_clean) (standing g.C.Cells.holding) _ _ c.args.name.now c.in-Some.at _ place paired c.in-Some-place_of.from _ from there (sym c.in_transaction.ensures ∙ c.if-in_transaction.false) _ refl c.changes_above.ensures.was_clean sites c.in-Err.error (c.in-Err.ensures.stays_clean (g.met.C.NewCells.always_honest _))
@@ -92,10 +92,10 @@ returns-clause-steps g c = λ l.
     let met = c.in-Some-get-2.ensures.lookup in
     let met_at = found_there c.deref-3.result.now items c.in-Some-place_of.from c.in-Some-get-2.peer.now c.deref-3.ensures.value met.3.0 met.1 in
     let same_peer : c.in-Some-get-2.peer.now ≡ c.in-Some-get_mut.peer.now = (let q : Some c.in-Some-get-2.peer.now ≡ Some c.in-Some-get_mut.peer.now = sym met_at ∙ at in cc) in
-    let site_told = subst (λ (n : Named g.row.C.Denot). g.C.Cells.is_clean n.session.0 → c.site.result ≡ (g.C.Cells.holding n.session.0).site) same_peer c.site.ensures in
+    let site_told = subst (λ (n : Named g.row.C.Denot). g.C.Cells.is_clean n.session.0 → c.site_id.result ≡ (g.C.Cells.holding n.session.0).site) same_peer c.site_id.ensures in
     let sites : AreClean (clean g.C.Cells.is_clean) (map pair items, c.self.inside.in_use) → same_bytes (g.C.Cells.holding c.in-Some-get_mut.peer.now.session.0).site (g.C.Cells.holding c.in-Some-get.taker.now.session.0).site ≡ false = (λ clean.
     sym (λ i. same_bytes (site_told (all_at (λ x. g.C.Cells.is_clean x.1.0) (map pair items) c.in-Some-place_of.from _ clean there) i)
-    (c.site-2.ensures (all_at (λ x. g.C.Cells.is_clean x.1.0) (map pair items) c.in-Some.at _ clean paired) i))
+    (c.site_id-2.ensures (all_at (λ x. g.C.Cells.is_clean x.1.0) (map pair items) c.in-Some.at _ clean paired) i))
     ∙ sym c.same_bytes.ensures ∙ c.if-same_bytes.false) in
     let peer : Named g.row.C.Denot = record { name = c.in-Some-get_mut.peer.now.name; session = c.changes_above.new.self } in
     let mid = slice_set items c.in-Some-place_of.from peer in
@@ -105,7 +105,7 @@ returns-clause-steps g c = λ l.
     rw (c.reply_of.ensures, c.take_all.ensures.guard.same_rules) (rw (← c.self.view_is) (rw (map_set pair mid c.in-Some.at _, map_set pair items c.in-Some-place_of.from peer)
     (pull_told l _ (clean g.C.Cells.is_clean) (standing g.C.Cells.holding) _ _ c.args.name.now c.in-Some.at _ place paired c.in-Some-place_of.from _ from there (sym c.in_transaction.ensures ∙ c.if-in_transaction.false) _ refl c.changes_above.ensures.was_clean sites
     c.in-Ok.changes.items (c.in-Ok.ensures.stays_clean (g.met.C.NewCells.always_honest _)) (λ clean i. state_of ((c.in-Ok.ensures.reads clean).same i) (c.changes_above.ensures.pending i)) c.changes_above.ensures.sound (λ clean. (c.in-Ok.ensures.reads clean).answers)
-    _ _ paired_mid refl (λ from to events. HasHeard (g.G.Guarding.noted from) (g.G.Guarding.noted_with from) (g.G.Guarding.noted to) events) c.take_all.result (takes_always (honest g.C.Cells.is_honest) (clean g.C.Cells.is_clean) (standing g.C.Cells.holding) _ _ (g.met.C.NewCells.always_honest _) _ _ _ _ (rw c.deref-4.ensures.value at c.take_all.ensures.takes)) _ _ c.take_all.ensures.heard)))
+    _ _ paired_mid refl (λ from to events. HasHeard (g.G.Guarding.noted from) (g.G.Guarding.noted_with from) (g.G.Guarding.noted to) events) c.take_all.result (takes_always (honest g.C.Cells.is_honest) (clean g.C.Cells.is_clean) (standing g.C.Cells.holding) _ _ (g.met.C.NewCells.always_honest _) (host_under (closures (g.G.Guarding.allows c.args.guard.now) (g.G.Guarding.refuses c.args.guard.now)) (g.G.Guarding.rules c.args.guard.now)) _ _ _ (rw c.deref-4.ensures.value at c.take_all.ensures.takes)) _ _ c.take_all.ensures.heard)))
 
 pub returns-clause-closures : goal.returns-clause-closures
 returns-clause-closures g c = same_closures g.G.Guarding.is_faithful g.G.Guarding.rules g.G.Guarding.allows g.G.Guarding.refuses _ _ c.take_all.ensures.guard

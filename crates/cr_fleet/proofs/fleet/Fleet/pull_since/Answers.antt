@@ -51,8 +51,8 @@ returns-then-same_bytes-clause-steps g c = λ l.
     let from = place_paired items c.self.inside.in_use c.args.name.now (Some c.in-Some-place_of.from) (sym c.in-Some-place_of.is ∙ c.place_of.ensures ∙ (λ i. position (λ n. same_bytes n.name (c.as_str.ensures.value i)) (c.deref-2.ensures.value i))) in
     rw (← c.self.view_is) (
       since_same_site l _ (clean g.C.Cells.is_clean) (standing g.C.Cells.holding) _ _ c.args.name.now c.in-Some.at _ place paired c.in-Some-place_of.from _ from there (sym c.in_transaction.ensures ∙ c.if-in_transaction.false) (λ clean.
-          sym (λ i. same_bytes (c.site-site.ensures (all_at (λ x. g.C.Cells.is_clean x.1.0) (map pair items) c.in-Some-place_of.from _ clean there) i)
-          (c.site.ensures (all_at (λ x. g.C.Cells.is_clean x.1.0) (map pair items) c.in-Some.at _ clean paired) i))
+          sym (λ i. same_bytes (c.site_id-site.ensures (all_at (λ x. g.C.Cells.is_clean x.1.0) (map pair items) c.in-Some-place_of.from _ clean there) i)
+          (c.site_id.ensures (all_at (λ x. g.C.Cells.is_clean x.1.0) (map pair items) c.in-Some.at _ clean paired) i))
           ∙ sym c.same_bytes.ensures ∙ c.if-same_bytes.true),
       λ clean w s. quiet_pull_since l (closures (g.G.Guarding.allows c.args.guard.now) (g.G.Guarding.refuses c.args.guard.now)) (λ from to events. HasHeard (g.G.Guarding.noted from) (g.G.Guarding.noted_with from) (g.G.Guarding.noted to) events) w c.args.name.now _ _ _ refl,
     )
@@ -68,12 +68,12 @@ returns-in-Err-clause-steps g c = λ l.
     let paired = pair_at items c.in-Some.at c.in-Some-get_mut.taker.now at in
     let same_taker : c.in-Some-get.taker.now ≡ c.in-Some-get_mut.taker.now = (let q : Some c.in-Some-get.taker.now ≡ Some c.in-Some-get_mut.taker.now = sym found_at ∙ at in cc) in
     let outside = subst (λ (n : Named g.row.C.Denot). is_some n.session.1 ≡ false) same_taker (sym c.in_transaction.ensures ∙ c.if-in_transaction.false) in
-    let site_told = subst (λ (n : Named g.row.C.Denot). g.C.Cells.is_clean n.session.0 → c.site.result ≡ (g.C.Cells.holding n.session.0).site) same_taker c.site.ensures in
+    let site_told = subst (λ (n : Named g.row.C.Denot). g.C.Cells.is_clean n.session.0 → c.site_id.result ≡ (g.C.Cells.holding n.session.0).site) same_taker c.site_id.ensures in
     let met = c.in-Some-get-2.ensures.lookup in
     let there = pair_at items c.in-Some-place_of.from c.in-Some-get-2.peer.now (found_there c.deref-3.result.now items c.in-Some-place_of.from c.in-Some-get-2.peer.now c.deref-3.ensures.value met.3.0 met.1) in
     let from = place_paired items c.self.inside.in_use c.args.name.now (Some c.in-Some-place_of.from) (sym c.in-Some-place_of.is ∙ c.place_of.ensures ∙ (λ i. position (λ n. same_bytes n.name (c.as_str.ensures.value i)) (c.deref-2.ensures.value i))) in
     let sites : AreClean (clean g.C.Cells.is_clean) (map pair items, c.self.inside.in_use) → same_bytes (g.C.Cells.holding c.in-Some-get-2.peer.now.session.0).site (g.C.Cells.holding c.in-Some-get_mut.taker.now.session.0).site ≡ false = (λ clean.
-    sym (λ i. same_bytes (c.site-site.ensures (all_at (λ x. g.C.Cells.is_clean x.1.0) (map pair items) c.in-Some-place_of.from _ clean there) i)
+    sym (λ i. same_bytes (c.site_id-site.ensures (all_at (λ x. g.C.Cells.is_clean x.1.0) (map pair items) c.in-Some-place_of.from _ clean there) i)
     (site_told (all_at (λ x. g.C.Cells.is_clean x.1.0) (map pair items) c.in-Some.at _ clean paired) i))
     ∙ sym c.same_bytes.ensures ∙ c.if-same_bytes.false) in
     rw c.from.ensures (rw (← c.self.view_is) (rw (map_set pair items c.in-Some.at _) (
@@ -93,12 +93,12 @@ returns-clause-steps g c = λ l.
     let paired = pair_at items c.in-Some.at c.in-Some-get_mut.taker.now at in
     let same_taker : c.in-Some-get.taker.now ≡ c.in-Some-get_mut.taker.now = (let q : Some c.in-Some-get.taker.now ≡ Some c.in-Some-get_mut.taker.now = sym found_at ∙ at in cc) in
     let outside = subst (λ (n : Named g.row.C.Denot). is_some n.session.1 ≡ false) same_taker (sym c.in_transaction.ensures ∙ c.if-in_transaction.false) in
-    let site_told = subst (λ (n : Named g.row.C.Denot). g.C.Cells.is_clean n.session.0 → c.site.result ≡ (g.C.Cells.holding n.session.0).site) same_taker c.site.ensures in
+    let site_told = subst (λ (n : Named g.row.C.Denot). g.C.Cells.is_clean n.session.0 → c.site_id.result ≡ (g.C.Cells.holding n.session.0).site) same_taker c.site_id.ensures in
     let met = c.in-Some-get-2.ensures.lookup in
     let there = pair_at items c.in-Some-place_of.from c.in-Some-get-2.peer.now (found_there c.deref-3.result.now items c.in-Some-place_of.from c.in-Some-get-2.peer.now c.deref-3.ensures.value met.3.0 met.1) in
     let from = place_paired items c.self.inside.in_use c.args.name.now (Some c.in-Some-place_of.from) (sym c.in-Some-place_of.is ∙ c.place_of.ensures ∙ (λ i. position (λ n. same_bytes n.name (c.as_str.ensures.value i)) (c.deref-2.ensures.value i))) in
     let sites : AreClean (clean g.C.Cells.is_clean) (map pair items, c.self.inside.in_use) → same_bytes (g.C.Cells.holding c.in-Some-get-2.peer.now.session.0).site (g.C.Cells.holding c.in-Some-get_mut.taker.now.session.0).site ≡ false = (λ clean.
-    sym (λ i. same_bytes (c.site-site.ensures (all_at (λ x. g.C.Cells.is_clean x.1.0) (map pair items) c.in-Some-place_of.from _ clean there) i)
+    sym (λ i. same_bytes (c.site_id-site.ensures (all_at (λ x. g.C.Cells.is_clean x.1.0) (map pair items) c.in-Some-place_of.from _ clean there) i)
     (site_told (all_at (λ x. g.C.Cells.is_clean x.1.0) (map pair items) c.in-Some.at _ clean paired) i))
     ∙ sym c.same_bytes.ensures ∙ c.if-same_bytes.false) in
     let taker : Named g.row.C.Denot = record { name = c.in-Some-get_mut.taker.now.name; session = c.seen.new.self } in
@@ -107,5 +107,5 @@ returns-clause-steps g c = λ l.
     rw (← c.self.view_is, c.take_since.ensures.rules)
     (since_seen l _ (clean g.C.Cells.is_clean) (standing g.C.Cells.holding) _ _ c.args.name.now c.in-Some.at _ place paired c.in-Some-place_of.from _ from there outside sites (pair taker) refl (ap is_some c.seen.ensures.pending ∙ outside) c.seen.ensures.was_clean (c.in-Ok.ensures.stays_clean (g.met.C.NewCells.always_honest _))
     (λ clean i. state_of ((c.in-Ok.ensures.reads clean).same i) (c.seen.ensures.pending i)) (to_z w64 (of_z w64 c.in-Ok.seen))
-    (λ clean own. seen_same ∙ (c.in-Ok.ensures.reads own).answers ∙ ap (seen_of (g.C.Cells.holding c.in-Some-get_mut.taker.now.session.0).marks) (c.site-site.ensures (all_at (λ x. g.C.Cells.is_clean x.1.0) (map pair items) c.in-Some-place_of.from _ clean there)))
+    (λ clean own. seen_same ∙ (c.in-Ok.ensures.reads own).answers ∙ ap (seen_of (g.C.Cells.holding c.in-Some-get_mut.taker.now.session.0).marks) (c.site_id-site.ensures (all_at (λ x. g.C.Cells.is_clean x.1.0) (map pair items) c.in-Some-place_of.from _ clean there)))
     c.take_since.result c.take_since.new.self (λ from to events. HasHeard (g.G.Guarding.noted from) (g.G.Guarding.noted_with from) (g.G.Guarding.noted to) events) _ _ (rw (map_set pair items c.in-Some.at taker) at (c.take_since.ensures.steps l c.args.name.now)))

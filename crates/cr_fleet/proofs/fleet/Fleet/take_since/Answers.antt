@@ -3,7 +3,7 @@ use Rattle.std.proofs.lemmas.List.{length-set, length-map}
 use Rattle.std.proofs.lemmas.Option.{slice_get-get_or}
 use Rattle.cr_cells.specs.Marks.{Mark}
 use Rattle.cr_world.specs.Takings.{changes_above}
-use Rattle.cr_script.specs.Speaking.{closures, HasHeard}
+use Rattle.cr_script.specs.Speaking.{closures, HasHeard, host_under}
 use Rattle.cr_script.proofs.Staying.{same_closures}
 use Rattle.cr_session.specs.Sessions.{clean, honest, standing, state_of}
 use Rattle.cr_fleet.specs.declared.fleet.Named.{Named}
@@ -58,13 +58,13 @@ returns-clause-steps g c = λ l name o.
     let at_mid : slice_get mid c.args.at ≡ Some c.in-Some-get_mut.taker.now = slice_get-get_or mid c.args.at c.in-Some-get_mut.taker.now inside_mid ∙ ap Some (sym c.in-Some-get_mut.ensures.value) in
     let paired_mid = rw (map_set pair items c.args.from peer) at (pair_at mid c.args.at c.in-Some-get_mut.taker.now at_mid) in
     let fits : SFits w64 c.args.seen = search rules in
-    let version_fits : SFits w64 c.version-version.result = search rules in
-    let mark : Mark = (c.site-site.result, to_z w64 (of_z w64 c.version-version.result)) in
+    let version_fits : SFits w64 c.db_version-version.result = search rules in
+    let mark : Mark = (c.site_id-site.result, to_z w64 (of_z w64 c.db_version-version.result)) in
     rw c.reply_of.ensures (rw (← c.self.view_is) (rw (map_set pair mid c.args.at _, map_set pair items c.args.from peer)
     (since_told l _ (clean g.C.Cells.is_clean) (standing g.C.Cells.holding) _ _ name c.args.at c.args.from c.args.seen (met_peer (clean g.C.Cells.is_clean) (standing g.C.Cells.holding) _ name c.args.at c.args.from c.args.seen (rw (← c.self.view_is) at o) _ there) _ refl c.changes_above.ensures.was_clean
     (λ clean i. state_of ((c.in-Ok.ensures.reads clean).same i) (c.changes_above.ensures.pending i)) c.in-Ok.changes.items (c.in-Ok.ensures.stays_clean (g.met.C.NewCells.always_honest _)) (λ clean. (c.in-Ok.ensures.reads clean).answers ∙ ap (changes_above (g.C.Cells.holding c.in-Some.peer.now.session.0)) (to_z-of_z fits))
-    mark (λ clean. (λ i. (c.site-site.ensures clean i, (to_z-of_z version_fits ∙ c.version-version.ensures clean) i)) ∙ (λ i. (((c.in-Ok.ensures.reads clean).same i).site, ((c.in-Ok.ensures.reads clean).same i).version)))
-    _ _ paired_mid refl (λ from to events. HasHeard (g.G.Guarding.noted from) (g.G.Guarding.noted_with from) (g.G.Guarding.noted to) events) c.take_all.result (takes_always (honest g.C.Cells.is_honest) (clean g.C.Cells.is_clean) (standing g.C.Cells.holding) _ _ (g.met.C.NewCells.always_honest _) _ _ _ _ (rw c.deref.ensures.value at c.take_all.ensures.takes)) _ _ c.take_all.ensures.heard)))
+    mark (λ clean. (λ i. (c.site_id-site.ensures clean i, (to_z-of_z version_fits ∙ c.db_version-version.ensures clean) i)) ∙ (λ i. (((c.in-Ok.ensures.reads clean).same i).site, ((c.in-Ok.ensures.reads clean).same i).version)))
+    _ _ paired_mid refl (λ from to events. HasHeard (g.G.Guarding.noted from) (g.G.Guarding.noted_with from) (g.G.Guarding.noted to) events) c.take_all.result (takes_always (honest g.C.Cells.is_honest) (clean g.C.Cells.is_clean) (standing g.C.Cells.holding) _ _ (g.met.C.NewCells.always_honest _) (host_under (closures (g.G.Guarding.allows c.args.guard.now) (g.G.Guarding.refuses c.args.guard.now)) (g.G.Guarding.rules c.args.guard.now)) _ _ _ (rw c.deref.ensures.value at c.take_all.ensures.takes)) _ _ c.take_all.ensures.heard)))
 
 pub returns-clause-closures : goal.returns-clause-closures
 returns-clause-closures g c = same_closures g.G.Guarding.is_faithful g.G.Guarding.rules g.G.Guarding.allows g.G.Guarding.refuses _ _ c.take_all.ensures.guard

@@ -2,10 +2,10 @@ use Rattle.std.proofs.Common.{refl}
 use Rattle.cr_session.proofs.session.Session.step.Goals as goal
 
 pub returns-in-Define-clause-does : goal.returns-in-Define-clause-does
-returns-in-Define-clause-does g c = λ has names. rw c.in-Define.is (c.define.ensures has _)
+returns-in-Define-clause-does g c = λ has names. rw c.in-Define.is (c.declare.ensures has _)
 
 pub returns-in-Take-clause-does : goal.returns-in-Take-clause-does
-returns-in-Take-clause-does g c = λ has names. rw c.in-Take.is (c.take.ensures.does _)
+returns-in-Take-clause-does g c = λ has names. rw c.in-Take.is (c.take_row.ensures.does _)
 
 pub returns-in-Changes-clause-does : goal.returns-in-Changes-clause-does
 returns-in-Changes-clause-does g c = λ has names. rw c.in-Changes.is (c.changes.ensures _ _)
@@ -17,7 +17,7 @@ pub returns-in-Define-clause-heard : goal.returns-in-Define-clause-heard
 returns-in-Define-clause-heard g c = λ has names clean. rw c.in-Define.is refl
 
 pub returns-in-Take-clause-heard : goal.returns-in-Take-clause-heard
-returns-in-Take-clause-heard g c = λ has names clean. rw c.in-Take.is (c.take.ensures.heard clean)
+returns-in-Take-clause-heard g c = λ has names clean. rw c.in-Take.is (c.take_row.ensures.heard clean)
 
 pub returns-in-Rows-clause-heard : goal.returns-in-Rows-clause-heard
 returns-in-Rows-clause-heard g c = λ has names clean. rw c.in-Rows.is refl
