@@ -159,7 +159,7 @@ record Met (m : Meeting) (v w : Value) : Type 0 where
 
 module _ (host : Host) (bytes : OrdersBytes host) (m : Meeting) (is : same_bytes m.collation binary ≡ true) where
   exact : (s t : List ℕ) → host.order m.collation s t ≡ Equal → s ≡ t
-  exact s t e = bytes s t (ap (λ name. host.order name s t) (sym (same_is m.collation binary is)) ∙ e)
+  exact s t e = bytes_exact s t (sym (bytes s t) ∙ ap (λ name. host.order name s t) (sym (same_is m.collation binary is)) ∙ e)
 
   passes_is : (o : Ordering) → Some (passes op.Equal o) ≡ Some true → o ≡ Equal
   passes_is Less e = absurd cc

@@ -4,11 +4,11 @@ use Rattle.std.specs.Prelude.{◌≡◌, ℕ, ◌-◌, Bool, true, false, not, �
 use Rattle.std.specs.Option.{option_and_then, option_map, option_or}
 use Rattle.std.specs.Ordering.{is_eq}
 use Rattle.std.specs.Borrow.{Bor}
-use Rattle.std.specs.declared.cmp.Ordering.TheVariants.{Equal as Tied}
 use Rattle.cr_value.specs.declared.value.Value.{Value}
 use Rattle.cr_value.specs.declared.value.Value.TheVariants.{Null}
 use Rattle.cr_value.specs.declared.affinity.Affinity.{Affinity}
 use Rattle.cr_value.specs.Affinity.{applied}
+use Rattle.cr_value.specs.Bytes.{bytes_cmp}
 use Rattle.cr_value.specs.Order.{value_cmp}
 use Rattle.cr_lattice.specs.Check.{same_bytes}
 use Rattle.cr_term.specs.declared.operator.Comparison.TheVariants.{Equal}
@@ -97,6 +97,6 @@ is_equal v w = not (is_null v) && is_eq (value_cmp v w)
 
 -- ---- the collation BINARY
 
--- texts of equal rank under the collation `binary` are the same
+-- it is the order of bytes
 abbrev pub OrdersBytes : Host → Type 0
-OrdersBytes host = (s t : List ℕ) → host.order binary s t ≡ Tied → s ≡ t
+OrdersBytes host = (s t : List ℕ) → host.order binary s t ≡ bytes_cmp s t

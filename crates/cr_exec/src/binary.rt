@@ -9,7 +9,7 @@ use cr_host::functions::Functions;
 use cr_lattice::profile::BINARY;
 use cr_value::collation::Collation;
 
-/// Whether the collation `binary` is the order of bytes: then texts that it ties are the same.
+/// Whether the collation `binary` is the order of bytes.
 pub fn compares_bytes<F: Functions>(functions: &F) -> bool
     ensures { IsTrue result ↔ OrdersBytes (⟦<F as Hosted>⟧.means functions.now) }
 {

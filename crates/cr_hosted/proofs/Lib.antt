@@ -2,3 +2,4 @@ pub mod Naming
 pub mod Showing
 pub mod Updating
 pub mod Hearing
+pub mod ByPlan

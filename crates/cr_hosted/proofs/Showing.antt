@@ -34,7 +34,9 @@ use Rattle.cr_session.proofs.Beside.{all_stay}
 use Rattle.cr_session.proofs.Making.{still}
 use Rattle.cr_session.proofs.ByTable.{is_one_of, not_changes, rows_or_alike}
 use Rattle.cr_touched.specs.Tables.{is_name_of}
-use Rattle.cr_modules.specs.States.{AreListed}
+use Rattle.cr_modules.specs.States.{AreListed, Best}
+use Rattle.cr_hosted.specs.Planned.{ShowsModules}
+use Rattle.cr_hosted.proofs.ByPlan.{shows_planned, tables_are}
 use Rattle.cr_modules.proofs.Listing.{rows_of_name}
 
 same_bag : {X : Type 0} (xs : List X) → SameBag xs xs
@@ -98,12 +100,20 @@ some_has h pending tables snap at other name there = record {
 }
 
 -- beside modules, whose rows are listed, a query answers over what a session saw of its tables
-pub shows_beside : (h : Holding) (pending : Option (List Change)) (ms : List ModuleState) (snap : Snapshot) (ls : List Listing) (means : Means) (params : List Value) (q : Query) → ((name : List ℕ) → IsTotalOrder (means.order name))
+shows_beside : (h : Holding) (pending : Option (List Change)) (ms : List ModuleState) (snap : Snapshot) (ls : List Listing) (means : Means) (params : List Value) (q : Query) → ((name : List ℕ) → IsTotalOrder (means.order name))
     → ShowsTables (state_of h pending) (in_order (map name_of q.joined)) snap → AreListed (map name_of q.joined) ms ls → ShowsQuery means params q (placed ms (state_of h pending)) (record snap { modules = ls })
 shows_beside h pending ms snap ls means params q total (inl all) listed =
     shows (state_of h pending) ms snap ls means params q total (λ j m. all_has (state_of h pending) ms snap ls all.1 (name_of j)) listed
 shows_beside h pending ms snap ls means params q total (inr some) listed =
     shows (state_of h pending) ms snap ls means params q total (λ j m. some_has h pending (in_order (map name_of q.joined)) snap some.1 some.0 (name_of j) (is_one_of q.joined j m)) listed
+
+-- so it does where one module is all that it names, and gave its rows by the terms
+pub shows_modules : (h : Holding) (pending : Option (List Change)) (best : List ℕ → Option Best) (ms : List ModuleState) (snap : Snapshot) (ls : List Listing) (means : Means) (params : List Value) (q : Query) → ((name : List ℕ) → IsTotalOrder (means.order name))
+    → ShowsTables (state_of h pending) (in_order (map name_of q.joined)) snap → ShowsModules means params snap.tables best ms q ls → ShowsQuery means params q (placed ms (state_of h pending)) (record snap { modules = ls })
+shows_modules h pending best ms snap ls means params q total shown (inl listed) = shows_beside h pending ms snap ls means params q total shown listed
+shows_modules h pending best ms snap ls means params q total shown (inr planned) =
+    subst (λ (us : List Listing). ShowsQuery means params q (placed ms (state_of h pending)) (record snap { modules = us })) (sym planned.1)
+    (shows_planned means params best ms q total h pending snap planned.0 (tables_are h pending (in_order (map name_of q.joined)) snap shown) planned.2)
 
 -- a query leaves the modules as they are
 pub answers_beside : (means : Means) (params : List Value) (host : Host) (st : State) (q : Query) (result : Result Reply Refusal) → Performs means params host st (view (r.Select q)) result st → PerformsWith means params host st (view (r.Select q)) result st
@@ -111,16 +121,16 @@ answers_beside means params host st q (Ok reply) p = (p.0, (p.1.0, (all_stay (un
 answers_beside means params host st q (Err f) p = p
 
 -- a session beside modules
-pub selects : {H : Type 0} {means : Means} {params : List Value} {host : Host} {is_honest is_clean : H → Type 0} {stands : H → State} (old new : H) (q : Query) (result : Result Reply Refusal) (h : Holding) (pending : Option (List Change)) (ms : List ModuleState) (snap : Snapshot) (ls : List Listing)
-    → stands old ≡ placed ms (state_of h pending) → (is_clean new → stands new ≡ stands old) → ((name : List ℕ) → IsTotalOrder (means.order name)) → (is_clean new → ShowsTables (state_of h pending) (in_order (map name_of q.joined)) snap) → AreListed (map name_of q.joined) ms ls
+pub selects : {H : Type 0} {means : Means} {params : List Value} {host : Host} {is_honest is_clean : H → Type 0} {stands : H → State} (old new : H) (q : Query) (result : Result Reply Refusal) (h : Holding) (pending : Option (List Change)) (best : List ℕ → Option Best) (ms : List ModuleState) (snap : Snapshot) (ls : List Listing)
+    → stands old ≡ placed ms (state_of h pending) → (is_clean new → stands new ≡ stands old) → ((name : List ℕ) → IsTotalOrder (means.order name)) → (is_clean new → ShowsTables (state_of h pending) (in_order (map name_of q.joined)) snap) → ShowsModules means params snap.tables best ms q ls
     → ((st : State) → ShowsQuery means params q st (record snap { modules = ls }) → Performs means params host st (view (r.Select q)) result st)
     → (is_honest new → is_honest old) → (is_clean new → is_clean old) → (is_honest new → is_clean old → is_clean new) → PerformedWith means params host is_honest is_clean stands old (r.Select q) result new
-selects {H} {means} {params} {host} {is_honest} {is_clean} {stands} old new q result h pending ms snap ls here same total shown listed answered honest_was was stays = record {
+selects {H} {means} {params} {host} {is_honest} {is_clean} {stands} old new q result h pending best ms snap ls here same total shown listed answered honest_was was stays = record {
   was_honest = honest_was;
   was_clean = was;
   stays_clean = λ honest clean. still result (is_clean new) (stays honest clean);
   performs = λ clean.
       subst (PerformsWith means params host (stands old) (view (r.Select q)) result) (sym (same clean))
       (subst (λ (st : State). PerformsWith means params host st (view (r.Select q)) result st) (sym here)
-      (answers_beside means params host (placed ms (state_of h pending)) q result (answered (placed ms (state_of h pending)) (shows_beside h pending ms snap ls means params q total (shown clean) listed))));
+      (answers_beside means params host (placed ms (state_of h pending)) q result (answered (placed ms (state_of h pending)) (shows_modules h pending best ms snap ls means params q total (shown clean) listed))));
 }

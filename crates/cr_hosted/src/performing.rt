@@ -79,7 +79,8 @@ impl<C: Cells, M: Module> HostedSession<C, M> {
             Ok(snapshot) => snapshot,
             Err(error) => return Err(Refusal::from(error)),
         };
-        snapshot.modules = self.modules.listings(alloc, joined)?;
+        let tables = snapshot.tables.as_slice();
+        snapshot.modules = self.listings(alloc, functions, tables, query, params)?;
         answered(alloc, functions, &snapshot, query, params)
     }
 

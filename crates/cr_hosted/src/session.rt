@@ -147,7 +147,7 @@ impl<C: Cells, M: Module> HostedSession<C, M> {
     /// # Errors
     /// The script's `refusal`: `Limit` where it is longer than 1,000,000 bytes; `Syntax`, `OutOfProfile` or `Limit` where a
     /// statement can't be read; else why a statement is refused.
-    pub fn script<F: Functions, G: Guarding>(
+    pub fn run<F: Functions, G: Guarding>(
         &mut self,
         alloc: Global,
         functions: &F,

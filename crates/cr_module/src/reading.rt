@@ -2,7 +2,7 @@
 
 ghost use Rattle.std.specs.Prelude.{◌≡◌, ◌++◌, false, IfOk, OnOk, take, length};
 ghost use Rattle.cr_bags.specs.Bags.{SameBag};
-ghost use Rattle.cr_module.specs.Lawful.{first_row, is_at_end};
+ghost use Rattle.cr_module.specs.Lawful.{AreWide, first_row, is_at_end};
 
 use crate::module::{Cursor, Module};
 use cr_lattice::table::{Items, Row};
@@ -26,6 +26,27 @@ fn read_row<M: Module>(
     Ok(Items::new(values))
 }
 
+/// The rows that a reading has before it, from the one on which it stands to its end.
+///
+/// # Errors
+/// Want of memory, of the module or for the rows.
+pub fn read_all<M: Module>(
+    alloc: Global,
+    listed: &M,
+    mut cursor: Cursor,
+) -> Result<Items<Row>, AllocError>
+    requires { AreWide (M.columns_of listed.now) (M.left listed.now cursor) }
+    ensures { IfOk result (λ rows. rows ≡ M.left listed.now cursor) }
+{
+    let width = listed.columns().len();
+    let mut rows = Vec::new(alloc);
+    while !listed.eof(&cursor) {
+        rows.push(read_row(alloc, listed, &cursor, width)?)?;
+        listed.next(alloc, &mut cursor)?;
+    }
+    Ok(Items::new(rows))
+}
+
 /// All rows of a module, in the order in which it gives them where no constraint is passed.
 ///
 /// # Errors
@@ -33,13 +54,7 @@ fn read_row<M: Module>(
 pub fn rows_of<M: Module>(alloc: Global, listed: &M) -> Result<Items<Row>, AllocError>
     ensures { IfOk result (λ rows. SameBag rows (M.rows_of listed.now)) }
 {
-    let width = listed.columns().len();
     let choice = listed.best_index(alloc, &[], &[])?;
-    let mut cursor = listed.filter(alloc, choice.index, &[])?;
-    let mut rows = Vec::new(alloc);
-    while !listed.eof(&cursor) {
-        rows.push(read_row(alloc, listed, &cursor, width)?)?;
-        listed.next(alloc, &mut cursor)?;
-    }
-    Ok(Items::new(rows))
+    let cursor = listed.filter(alloc, choice.index, &[])?;
+    read_all(alloc, listed, cursor)
 }

@@ -8,6 +8,11 @@ use Rattle.cr_lattice.specs.Profile.{is_reserved}
 use Rattle.cr_bags.specs.Bags.{SameBag}
 use Rattle.cr_cells.specs.Tables.{is_named}
 use Rattle.cr_module.specs.declared.module.UpdateError.{UpdateError}
+use Rattle.cr_module.specs.declared.plan.Choice.{Choice}
+use Rattle.cr_module.specs.declared.plan.Constraint.{Constraint}
+use Rattle.cr_module.specs.declared.plan.Order.{Order}
+use Rattle.cr_plan.specs.declared.offer.Offer.{Offer}
+use Rattle.cr_plan.specs.Offers.{IsReadBy}
 use Rattle.cr_module.specs.declared.module.UpdateError.TheVariants as update
 use Rattle.cr_query.specs.Query.{Row}
 use Rattle.cr_replica.specs.declared.snapshot.Listing.{Listing}
@@ -60,12 +65,15 @@ IsPlace {X} p xs (Some i) = (i < length xs) × ((x : X) → p (slice_index_or xs
 abbrev pub module_in : List ModuleState → List ℕ → Option ModuleState
 module_in ms name = find (is_module name) ms
 
--- the rows of a module, in some order
-abbrev pub AreRowsOf : Option ModuleState → Option (List Row) → Type 0
-AreRowsOf None None = Unit {0}
-AreRowsOf None (Some rows) = ⊥
-AreRowsOf (Some m) None = ⊥
-AreRowsOf (Some m) (Some rows) = SameBag rows m.rows
+-- what a module chooses where constraints and an order are offered
+abbrev pub Best : Type 0
+Best = List Constraint → List Order → Choice
+
+-- what the module that chooses so gives of its rows where these constraints and this order are offered
+abbrev pub AreGivenOf : Option Best → List Offer → List Order → Option ModuleState → Option (List Row) → Type 0
+AreGivenOf None offers orders None None = Unit {0}
+AreGivenOf (Some best) offers orders (Some m) (Some rows) = IsReadBy best m.rows offers orders rows
+AreGivenOf best offers orders m rows = ⊥
 
 -- the module of a name doesn't take the rows, and says so
 abbrev pub IsRefusedBy : Option ModuleState → List Row → Refusal → Type 0

@@ -9,12 +9,14 @@ ghost use Rattle.cr_module.specs.Lawful.{AreWide};
 ghost use Rattle.cr_world.specs.State.{ModuleState};
 ghost use Rattle.cr_world.specs.Causes.{Cause, Free, IsWant, Tells};
 ghost use Rattle.cr_snapshot.specs.Seen.{name_of};
-ghost use Rattle.cr_modules.specs.States.{AreListed, AreRowsOf, IsPlace, Registers, Updates, are_distinct, definition_listed, made, module_in, register_cause};
+ghost use Rattle.cr_modules.specs.States.{AreGivenOf, AreListed, IsPlace, Registers, Updates, are_distinct, definition_listed, made, module_in, register_cause};
 
 use crate::registered::{Registered, Stands};
 use cr_cells::tables::table_named;
 use cr_lattice::table::{Items, Row, Table};
 use cr_module::module::Module;
+use cr_module::plan::Order;
+use cr_plan::offer::Offer;
 use cr_replica::snapshot::Listing;
 use cr_term::query::Joined;
 use cr_value::text::Text;
@@ -30,18 +32,26 @@ pub struct Modules<M: Drop> {
 
 /// How modules stand in a session.
 pub trait StandAll {
-    ghost use Rattle.std.specs.Prelude.{List};
+    ghost use Rattle.std.specs.Prelude.{ℕ, List, Option};
     ghost use Rattle.cr_world.specs.State.{ModuleState};
+    ghost use Rattle.cr_modules.specs.States.{Best};
 
     /// Each module's name, columns, rows, and what an update makes of them.
     ghost states: { Self → List ModuleState };
+
+    /// What the module of a name chooses where constraints and an order are offered.
+    ghost best: { Self → List ℕ → Option Best };
 }
 
 impl<M: Module> StandAll for Modules<M> {
-    ghost use Rattle.std.specs.Prelude.{map};
+    ghost use Rattle.std.specs.Prelude.{find, map};
+    ghost use Rattle.std.specs.Option.{option_map};
+    ghost use Rattle.cr_lattice.specs.Check.{same_bytes};
     ghost use Rattle.cr_modules.specs.States.{made};
 
     ghost states = { λ ms. map (λ r. made r.name (M.columns_of r.host) (M.rows_of r.host) (M.updated r.host)) ms.list.items };
+
+    ghost best = { λ ms name. option_map (λ r. M.best r.host) (find (λ r. same_bytes r.name name) ms.list.items) };
 }
 
 // The place of the module of a name.
@@ -108,15 +118,22 @@ impl<M: Module> Modules<M> {
         Ok(Items::new(listings))
     }
 
-    /// The rows of the module of a name, in the order in which it gives them; `None` where no module has it.
+    /// What the module of a name gives of its rows where these constraints and this order are offered; `None` where no module has
+    /// the name.
     ///
     /// # Errors
     /// Want of memory, of the module or for the rows.
-    pub fn rows_named(&self, alloc: Global, name: &str) -> Result<Option<Items<Row>>, AllocError>
-        ensures { IfOk result (AreRowsOf (module_in (⟦<Modules<M> as StandAll>⟧.states self.now) name.now)) }
+    pub fn rows_for(
+        &self,
+        alloc: Global,
+        name: &str,
+        offers: &[Offer],
+        orders: &[Order],
+    ) -> Result<Option<Items<Row>>, AllocError>
+        ensures { IfOk result (AreGivenOf (⟦<Modules<M> as StandAll>⟧.best self.now name.now) offers.now orders.now (module_in (⟦<Modules<M> as StandAll>⟧.states self.now) name.now)) }
     {
         match place_of(&self.list, name) {
-            Some(at) => Ok(Some(self.list[at].rows(alloc)?)),
+            Some(at) => Ok(Some(self.list[at].rows_for(alloc, offers, orders)?)),
             None => Ok(None),
         }
     }

@@ -5,12 +5,16 @@ ghost use Rattle.cr_bags.specs.Bags.{SameBag};
 ghost use Rattle.cr_module.specs.Lawful.{AreWide};
 ghost use Rattle.cr_world.specs.State.{ModuleState, is_module};
 ghost use Rattle.cr_world.specs.declared.refusal.Refusal.TheVariants as refusal;
+ghost use Rattle.cr_plan.specs.Offers.{IsReadBy};
 ghost use Rattle.cr_modules.specs.States.{IsListed, UpdatesTo, definition_listed, is_among, made, of_update};
 ghost use Rattle.cr_snapshot.specs.Seen.{name_of};
 
 use cr_lattice::table::{ColumnDef, Items, Row, TableDef};
 use cr_module::module::{Module, UpdateError};
+use cr_module::plan::Order;
 use cr_module::reading::rows_of;
+use cr_plan::offer::Offer;
+use cr_plan::reading::rows_for;
 use cr_replica::snapshot::Listing;
 use cr_term::query::Joined;
 use cr_value::order::same_bytes;
@@ -104,6 +108,21 @@ impl<M: Module> Registered<M> {
         ensures { IfOk result (λ rows. SameBag rows (⟦<Registered<M> as Stands>⟧.state self.now).rows) }
     {
         rows_of(alloc, &self.host)
+    }
+
+    /// What it gives of its rows where these constraints and this order are offered.
+    ///
+    /// # Errors
+    /// Want of memory, of the module or for the rows.
+    pub(crate) fn rows_for(
+        &self,
+        alloc: Global,
+        offers: &[Offer],
+        orders: &[Order],
+    ) -> Result<Items<Row>, AllocError>
+        ensures { IfOk result (IsReadBy (M.best self.now.host) (⟦<Registered<M> as Stands>⟧.state self.now).rows offers.now orders.now) }
+    {
+        rows_for(alloc, &self.host, offers, orders)
     }
 
     // Whether a query has its name among those of its tables.

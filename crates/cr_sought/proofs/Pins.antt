@@ -52,10 +52,10 @@ use Rattle.cr_sought.proofs.Keys.{Differs}
 -- ---- what operands are
 
 -- the operand is plain, and has this value
-abbrev Has : Setting → Expr → Value → Type 0
+abbrev pub Has : Setting → Expr → Value → Type 0
 Has s e v = (plain e ≡ true) × (eval_of (unlimited s) e ≡ Ok v)
 
-abbrev Says : Expr → Type 0
+abbrev pub Says : Expr → Type 0
 Says e = (s : Setting)
     → ((c : Field) → column_under e ≡ Some c → Has s e (get_or s.row c.at Null))
     × ((v : Value) → constant s.params e ≡ Some v → Has s e v)
@@ -99,10 +99,10 @@ step (Collate x name) s = (λ c h. within ((x.1 s).0 c h), λ w h. within ((x.1 
   within h = (h.0, ap (λ m. and_then m (bounded None)) h.1)
 step _ s = (λ c h. absurd cc, λ w h. absurd cc)
 
-says : (e : Expr) → Says e
+pub says : (e : Expr) → Says e
 says = ind-Expr Says Any (λ x y is. rolls x (subst NodeSays is (step y))) (λ w v is. tt)
 
-column_has : (s : Setting) (e : Expr) (at : ℕ) → is_column at e ≡ true → Has s e (get_or s.row at Null)
+pub column_has : (s : Setting) (e : Expr) (at : ℕ) → is_column at e ≡ true → Has s e (get_or s.row at Null)
 column_has s e at h = by (column_under e) refl h where
   by : (o : Option Field) → column_under e ≡ o → option_map_or (λ c. c.at == at) o false ≡ true → Has s e (get_or s.row at Null)
   by None is h = absurd cc
@@ -120,7 +120,7 @@ tied_is order exact _ _ e = absurd cc
 
 module _ (host : Host) (bytes : OrdersBytes host) (m : Meeting) (is : same_bytes m.collation binary ≡ true) where
   exact : (s t : List ℕ) → host.order m.collation s t ≡ Equal → s ≡ t
-  exact s t e = bytes s t (ap (λ name. host.order name s t) (sym (same_is m.collation binary is)) ∙ e)
+  exact s t e = bytes_exact s t (sym (bytes s t) ∙ ap (λ name. host.order name s t) (sym (same_is m.collation binary is)) ∙ e)
 
   passes_is : (o : Ordering) → Some (passes c.Equal o) ≡ Some true → o ≡ Equal
   passes_is Less e = absurd cc
@@ -128,7 +128,7 @@ module _ (host : Host) (bytes : OrdersBytes host) (m : Meeting) (is : same_bytes
   passes_is Greater e = absurd cc
 
   -- where two operands are equal, what the comparison makes of them is the same
-  met : (v w : Value) → compared host.order c.Equal m v w ≡ Some true → adjusted_left m.adjusted v ≡ adjusted_right m.adjusted w
+  pub met : (v w : Value) → compared host.order c.Equal m v w ≡ Some true → adjusted_left m.adjusted v ≡ adjusted_right m.adjusted w
   met v w e = by (is_null v || is_null w) e where
     by : (b : Bool) → (if b then None else Some (passes c.Equal (meets host.order m v w))) ≡ Some true
         → adjusted_left m.adjusted v ≡ adjusted_right m.adjusted w
@@ -153,12 +153,12 @@ integer_is : (w : Value) (n : ℤ) → integer w ≡ Some n → w ≡ Int n
 integer_is (Int m) n e = ap Int (some_is m n e)
 integer_is _ n e = absurd cc
 
-met_right : (a : Adjusted) (u w v : Value) → on_right a u ≡ Some w → (adjusted_left a v ≡ v) × (adjusted_right a u ≡ w)
+pub met_right : (a : Adjusted) (u w v : Value) → on_right a u ≡ Some w → (adjusted_left a v ≡ v) × (adjusted_right a u ≡ w)
 met_right Neither u w v e = (refl, some_is u w e)
 met_right (Left a) u w v e = absurd cc
 met_right (Right a) u w v e = (refl, some_is (applied a u) w e)
 
-met_left : (a : Adjusted) (u w v : Value) → on_left a u ≡ Some w → (adjusted_right a v ≡ v) × (adjusted_left a u ≡ w)
+pub met_left : (a : Adjusted) (u w v : Value) → on_left a u ≡ Some w → (adjusted_right a v ≡ v) × (adjusted_left a u ≡ w)
 met_left Neither u w v e = (refl, some_is u w e)
 met_left (Left a) u w v e = (refl, some_is (applied a u) w e)
 met_left (Right a) u w v e = absurd cc
@@ -199,27 +199,27 @@ never_below host m v n u e low h = by (is_null u || is_null (Int v)) h where
 
 -- ---- one term
 
-untrue : (t : Option Bool) → (t ≡ Some true → ⊥) → queries.is_so (truth (truth_value t)) ≡ Some false
+pub untrue : (t : Option Bool) → (t ≡ Some true → ⊥) → queries.is_so (truth (truth_value t)) ≡ Some false
 untrue (Some true) never = absurd (never refl)
 untrue (Some false) never = refl
 untrue None never = refl
 
-then_some : {A B : Type 0} (f : A → Option B) (o : Option A) (b : B) → option_and_then f o ≡ Some b
+pub then_some : {A B : Type 0} (f : A → Option B) (o : Option A) (b : B) → option_and_then f o ≡ Some b
     → (a : A) × (o ≡ Some a) × (f a ≡ Some b)
 then_some f None b e = absurd cc
 then_some f (Some a) b e = (a, refl, e)
 
 module _ (host : Host) (bytes : OrdersBytes host) (params : List Value) (row : Row) where
-  abbrev here : Setting
+  abbrev pub here : Setting
   here = queries.at_row None host params row
 
-  abbrev told : Meant → Option Bool
+  abbrev pub told : Meant → Option Bool
   told m = option_and_then (λ v. queries.is_so (truth v)) (queries.value_of (and_then m (bounded None)))
 
-  abbrev Misses : Layer → Type 0
+  abbrev pub Misses : Layer → Type 0
   Misses y = (quiet_layer y ≡ true) × (told (layer (map-Expr Expr (When-F Expr (Unit {0})) Meaning Arm meaning arm_of y) here) ≡ Some false)
 
-  two_miss : (op : Comparison) (m : Meeting) (x y : Expr) (v w : Value) → Has here x v → Has here y w → (compared host.order op m v w ≡ Some true → ⊥)
+  pub two_miss : (op : Comparison) (m : Meeting) (x y : Expr) (v w : Value) → Has here x v → Has here y w → (compared host.order op m v w ≡ Some true → ⊥)
       → Misses (Compare op m x y)
   two_miss op m x y v w hx hy never = (
     λ i. hx.0 i && hy.0 i,
@@ -269,7 +269,7 @@ module _ (host : Host) (bytes : OrdersBytes host) (params : List Value) (row : R
 
     -- ---- all terms
 
-    abbrev is_missed : Ordered → Bool
+    abbrev pub is_missed : Ordered → Bool
     is_missed e = m.quiet e && is_false (is_true m e row)
 
     abbrev any_missed : List Expr → Bool

@@ -5,4 +5,4 @@
 pub mod bound;
 pub mod key;
 pub mod laws;
-mod pin;
+pub mod pin;

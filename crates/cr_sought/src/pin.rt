@@ -1,7 +1,8 @@
 //! The value that terms pin a column to.
 
 ghost use Rattle.std.specs.Prelude.{◌≡◌, IfOk};
-ghost use Rattle.cr_sought.specs.Sought.{constant, is_column, on_left, on_right, pin, pinned};
+ghost use Rattle.std.specs.Option.{option_map};
+ghost use Rattle.cr_sought.specs.Sought.{column_under, constant, is_column, on_left, on_right, pin, pinned};
 
 use cr_lattice::profile::BINARY;
 use cr_scalar::operand::Operand;
@@ -11,19 +12,26 @@ use cr_value::order::same_bytes;
 use cr_value::value::Value;
 use std::alloc::{AllocError, Global};
 
-/// Whether an operand is the column at a place of the row, possibly under COLLATE.
-pub(crate) fn is_column(at: usize, expr: &Expr) -> bool
-    ensures { result ≡ is_column at expr.now }
+/// The place in the row of the column that an operand is, possibly under COLLATE.
+pub fn column_under(expr: &Expr) -> Option<usize>
+    ensures { result ≡ option_map (λ c. c.at) (column_under expr.now) }
 {
     match expr {
-        Expr::Column(column) => column.at == at,
-        Expr::Collate(operand, _) => is_column(at, operand.get()),
-        _ => false,
+        Expr::Column(column) => Some(column.at),
+        Expr::Collate(operand, _) => column_under(operand.get()),
+        _ => None,
     }
 }
 
+/// Whether an operand is the column at a place of the row, possibly under COLLATE.
+pub fn is_column(at: usize, expr: &Expr) -> bool
+    ensures { result ≡ is_column at expr.now }
+{
+    column_under(expr) == Some(at)
+}
+
 /// The value of a literal or a parameter, possibly under COLLATE.
-pub(crate) fn constant<'a>(params: &'a [Value], expr: &'a Expr) -> Option<Operand<'a>>
+pub fn constant<'a>(params: &'a [Value], expr: &'a Expr) -> Option<Operand<'a>>
     ensures { result ≡ constant params.now expr.now }
 {
     match expr {
@@ -38,7 +46,7 @@ pub(crate) fn constant<'a>(params: &'a [Value], expr: &'a Expr) -> Option<Operan
 }
 
 /// What a comparison makes of its right operand, where it leaves the left one as it is.
-pub(crate) fn on_right(
+pub fn on_right(
     alloc: Global,
     adjusted: Adjusted,
     value: Operand<'_>,
@@ -53,7 +61,7 @@ pub(crate) fn on_right(
 }
 
 /// What a comparison makes of its left operand, where it leaves the right one as it is.
-pub(crate) fn on_left(
+pub fn on_left(
     alloc: Global,
     adjusted: Adjusted,
     value: Operand<'_>,

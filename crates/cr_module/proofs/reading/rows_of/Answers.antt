@@ -1,39 +1,21 @@
-use Rattle.std.proofs.Common.{◌≡◌, ◌∙◌, ◌++◌, ℤ, false, List, [], ◌∷◌, rules, ap, subst, w64, to_z-of_z}
+use Rattle.std.proofs.Common.{◌≡◌, ℤ, List, [], rules, sym, subst, w64, to_z-of_z}
+use Rattle.std.proofs.lemmas.Result.{IfOk-weaker}
+use Rattle.cr_bags.specs.Bags.{SameBag}
 use Rattle.cr_query.specs.Query.{Row}
-use Rattle.cr_module.specs.Lawful.{IsFiltered, is_at_end, rest_of}
-use Rattle.cr_module.proofs.Readings.{all_read, all_rows, first_wide, fewer, next_row, rest_wide}
+use Rattle.cr_module.specs.Lawful.{IsFiltered}
+use Rattle.cr_module.proofs.Readings.{all_read}
 use Rattle.cr_module.proofs.reading.rows_of.Goals as goal
-
-pub loop-alloc-init : goal.loop-alloc-init
-loop-alloc-init g c = (ap (λ (rs : List Row). rs ++ g.M.Module.left c.args.listed.now c.in_ok-cursor.cursor) c.new-rows.ensures.items, rw c.columns-width.ensures c.in_ok-cursor.ensures.wide)
-
-pub loop-alloc-preserved : goal.loop-alloc-preserved
-loop-alloc-preserved g c =
-    let left : List Row = g.M.Module.left c.args.listed.now c.loop-alloc.cursor in
-    let some : is_at_end left ≡ false = search rules in (
-      (λ i. c.in_ok-push.ensures.items i ++ c.in_ok-next.ensures i) ∙ (λ i. (c.loop-alloc.rows.items ++ c.in_ok-read_row.ensures i ∷ []) ++ rest_of left)
-          ∙ next_row c.loop-alloc.rows.items left _ some c.loop-alloc.invariant.0,
-      rw c.in_ok-next.ensures (rest_wide _ left some c.loop-alloc.invariant.1),
-    )
-
-pub loop-alloc-smaller : goal.loop-alloc-smaller
-loop-alloc-smaller g c =
-    let left : List Row = g.M.Module.left c.args.listed.now c.loop-alloc.cursor in
-    let some : is_at_end left ≡ false = search rules in
-    rw c.in_ok-next.ensures (fewer left some)
-
-pub read_row-requires-clause-wide : goal.read_row-requires-clause-wide
-read_row-requires-clause-wide g c =
-    let left : List Row = g.M.Module.left c.args.listed.now c.loop-alloc.cursor in
-    let some : is_at_end left ≡ false = search rules in
-    first_wide _ left some c.loop-alloc.invariant.1
 
 pub returns : goal.returns
 returns g c =
     let m = g.M.Module in
-    let left : List Row = m.left c.args.listed.now c.loop-alloc.cursor in
     let whole : List Row = m.left c.args.listed.now c.in_ok-cursor.cursor in
-    let filtered : IsFiltered (m.best c.args.listed.now) (m.rows_of c.args.listed.now) c.in_ok-choice.choice.index [] whole =
-    subst (λ (z : ℤ). IsFiltered (m.best c.args.listed.now) (m.rows_of c.args.listed.now) z [] whole) (to_z-of_z {w = w64} {z = c.in_ok-choice.choice.index} (search rules)) c.in_ok-cursor.ensures.filtered in
-    rw c.new.ensures (rw (all_rows c.loop-alloc.rows.items left whole (search rules) c.loop-alloc.invariant.0)
-    (all_read (m.best c.args.listed.now) (m.rows_of c.args.listed.now) whole c.in_ok-choice.choice c.in_ok-choice.ensures.best c.in_ok-choice.ensures.usable filtered))
+    let best = m.best c.args.listed.now in
+    let rows_are : List Row = m.rows_of c.args.listed.now in
+    let index = c.in_ok-choice.choice.index in
+    let filtered : IsFiltered best rows_are index [] whole =
+    subst (λ (z : ℤ). IsFiltered best rows_are z [] whole) (to_z-of_z {w = w64} {z = index} (search rules)) c.in_ok-cursor.ensures.filtered in
+    let whole_is : SameBag whole rows_are =
+    all_read best rows_are whole c.in_ok-choice.choice c.in_ok-choice.ensures.best c.in_ok-choice.ensures.usable filtered in
+    IfOk-weaker c.read_all.result (λ rows. rows ≡ whole) (λ rows. SameBag rows rows_are)
+    (λ rows e. subst (λ (rs : List Row). SameBag rs rows_are) (sym e) whole_is) c.read_all.ensures

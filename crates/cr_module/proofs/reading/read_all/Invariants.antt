@@ -1,6 +1,6 @@
 use Rattle.std.proofs.Common.{◌≡◌, ◌++◌, length}
 use Rattle.cr_module.proofs.Readings.{AllWide}
-use Rattle.cr_module.proofs.reading.rows_of.Given as goal
+use Rattle.cr_module.proofs.reading.read_all.Given as goal
 
 abbrev pub invariant-loop-alloc : goal.invariant-loop-alloc
 invariant-loop-alloc g l =

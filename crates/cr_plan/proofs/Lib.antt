@@ -1,0 +1,4 @@
+pub mod Compared
+pub mod Misses
+pub mod Plans
+mod Examples

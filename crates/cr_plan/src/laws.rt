@@ -1,0 +1,8 @@
+//! Laws of plans. The contracts are the theorems; nothing runs.
+
+ghost use Rattle.cr_plan.specs.Laws.{AnswersByPlan};
+
+/// A SELECT of one table answers the same over what a lawful module gives by its terms as over all that the module has.
+pub fn answers_by_plan()
+    ensures { AnswersByPlan }
+{}
