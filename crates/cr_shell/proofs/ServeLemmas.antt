@@ -1,5 +1,5 @@
 -- Lines that are heard, one after another.
-use Rattle.std.proofs.Common.{◌≡◌, ◌≢◌, ◌∙◌, refl, sym, ap, subst, ℕ, Bool, true, false, List, [], ◌∷◌, ◌++◌, append_assoc, append-nil, map, length, Option, Some, None, Result, Ok, Err, ◌⊎◌, inl, inr, ◌+◌, ◌==◌, ◌&&◌, not, length-append}
+use Rattle.std.proofs.Common.{◌≡◌, ◌≢◌, ◌∙◌, refl, sym, ap, subst, ℕ, Bool, true, false, List, [], ◌∷◌, ◌++◌, append_assoc, append-nil, map, length, Option, Some, None, Result, Ok, Err, ◌⊎◌, inl, inr, ◌+◌, arith, ◌≤◌, ◌<◌, ◌==◌, ◌&&◌, not, length-append}
 use Rattle.std.specs.Prelude.{IfOk, if◌then◌else◌}
 use Rattle.std.specs.List.{flat_map, list_all, AllByRecursion}
 use Rattle.std.proofs.lemmas.Bool.{ne_eqb}
@@ -177,6 +177,18 @@ line_more : (b : List ℕ) (x : ℕ) → (x ≡ 10 → ⊥) → IsLine b → IsL
 line_more [] x n h = rw (ne_eqb x 10 n) refl
 line_more (c ∷ cs) x n h = let t = both_true (not (c == 10)) (list_all (λ d. not (d == 10)) cs) h in rw t.0 (line_more cs x n t.1)
 
+-- an input that is within its limit, with a byte more
+byte_fits : (xs : List ℕ) (x n : ℕ) → length xs ≡ n → n < input_limit → length (xs ++ x ∷ []) ≤ input_limit
+byte_fits xs x n is few =
+    let more : length (xs ++ x ∷ []) ≡ n + 1 = length-append xs (x ∷ []) ∙ ap (λ m. m + 1) is in
+    omega (arith, more, few)
+
+none_more : (xs : List ℕ) (n : ℕ) → length xs ≡ n → n < input_limit → length xs ≤ input_limit
+none_more xs n is few = omega (arith, is, few)
+
+few_read : (xs : List ℕ) (n : ℕ) → length xs ≡ n → n < input_limit → length xs < input_limit
+few_read xs n is few = omega (arith, is, few)
+
 -- the unfinished line is all that stands behind the lines
 last_is : (b : List ℕ) → b ≢ [] → last_line b ≡ b ∷ []
 last_is [] n = absurd (n refl)
@@ -248,9 +260,9 @@ module _ {T R W : Type 0} (remaining : R → Option (List ℕ)) (contents : W �
 
   -- `.quit` before a line feed
   pub serves_quit : (r0 r1 r2 : R × Bool) (w0 w1 w2 : W × Bool) (f0 f1 f2 : T) (p0 p1 p2 : Rules) (g1 g2 : List ℕ) (old new : Line) (n : ℕ) → Goes r0 r1 w0 w1 (f0, p0, []) (f1, p1, g1) old n → (x : ℕ) → Consumes (remaining r1.0) (remaining r2.0) (x ∷ []) → w1.1 ≡ false
-      → Takes contents runs w1 w2 (f1, p1, g1) (f2, p2, g2) old new x next.Quits → Serve (Ok end.Quit) r0 r2 w0 w2 (f0, p0) (f2, p2)
-  serves_quit r0 r1 r2 w0 w1 w2 f0 f1 f2 p0 p1 p2 g1 g2 old new n g x cx ok (inl q) = absurd (let e : next.Quits ≡ next.Goes = q.0 in cc)
-  serves_quit r0 r1 r2 w0 w1 w2 f0 f1 f2 p0 p1 p2 g1 g2 old new n g x cx ok (inr q) =
+      → n < input_limit → r2.1 ≡ false → Takes contents runs w1 w2 (f1, p1, g1) (f2, p2, g2) old new x next.Quits → Serve (Ok end.Quit) r0 r2 w0 w2 (f0, p0) (f2, p2)
+  serves_quit r0 r1 r2 w0 w1 w2 f0 f1 f2 p0 p1 p2 g1 g2 old new n g x cx ok few read_ok (inl q) = absurd (let e : next.Quits ≡ next.Goes = q.0 in cc)
+  serves_quit r0 r1 r2 w0 w1 w2 f0 f1 f2 p0 p1 p2 g1 g2 old new n g x cx ok few read_ok (inr q) =
       let c : Consumes (remaining r1.0) (remaining r2.0) (10 ∷ []) = subst (λ (y : ℕ). Consumes (remaining r1.0) (remaining r2.0) (y ∷ [])) q.0 cx in
       let t = q.2 g.1 g.5 in
       record {
@@ -262,15 +274,15 @@ module _ {T R W : Type 0} (remaining : R → Option (List ℕ)) (contents : W �
         cut = (g.1, g.4, t.0.0, inl (sym (ended_more g.0 g.1)), refl);
         are_lines = g.3;
         heard = same_heard w0 w1 w2 (f0, p0, []) f1 f2 p1 p2 g1 (map AtLine g.0) t.1 t.0.1 t.0.2 g.6;
-        caused = ap (λ (w : W × Bool). w.1) t.1 ∙ ok;
+        caused = (byte_fits (ended g.0 ++ g.1) 10 n g.7 few, read_ok, ap (λ (w : W × Bool). w.1) t.1 ∙ ok);
         stops = tt;
       }
 
   -- the writer failed at a line
   pub serves_write : (r0 r1 r2 : R × Bool) (w0 w1 w2 : W × Bool) (f0 f1 f2 : T) (p0 p1 p2 : Rules) (g1 g2 : List ℕ) (old new : Line) (n : ℕ) → Goes r0 r1 w0 w1 (f0, p0, []) (f1, p1, g1) old n → (x : ℕ) → Consumes (remaining r1.0) (remaining r2.0) (x ∷ []) → w1.1 ≡ false
-      → Takes contents runs w1 w2 (f1, p1, g1) (f2, p2, g2) old new x next.Fails → Serve (Err fault.Write) r0 r2 w0 w2 (f0, p0) (f2, p2)
-  serves_write r0 r1 r2 w0 w1 w2 f0 f1 f2 p0 p1 p2 g1 g2 old new n g x cx ok (inl q) = absurd (let e : next.Fails ≡ next.Goes = q.0 in cc)
-  serves_write r0 r1 r2 w0 w1 w2 f0 f1 f2 p0 p1 p2 g1 g2 old new n g x cx ok (inr q) =
+      → n < input_limit → r2.1 ≡ false → Takes contents runs w1 w2 (f1, p1, g1) (f2, p2, g2) old new x next.Fails → Serve (Err fault.Write) r0 r2 w0 w2 (f0, p0) (f2, p2)
+  serves_write r0 r1 r2 w0 w1 w2 f0 f1 f2 p0 p1 p2 g1 g2 old new n g x cx ok few read_ok (inl q) = absurd (let e : next.Fails ≡ next.Goes = q.0 in cc)
+  serves_write r0 r1 r2 w0 w1 w2 f0 f1 f2 p0 p1 p2 g1 g2 old new n g x cx ok few read_ok (inr q) =
       let c : Consumes (remaining r1.0) (remaining r2.0) (10 ∷ []) = subst (λ (y : ℕ). Consumes (remaining r1.0) (remaining r2.0) (y ∷ [])) q.0 cx in
       let t = q.2 g.1 g.5 in
       record {
@@ -282,7 +294,7 @@ module _ {T R W : Type 0} (remaining : R → Option (List ℕ)) (contents : W �
         cut = (inl refl, inl refl);
         are_lines = all_more IsLine g.0 (g.1 ∷ []) g.3 (g.4, tt);
         heard = heard_line w0 w1 w2 (f0, p0, []) (f1, p1, g1) (f2, p2, g2) g.0 g.1 g.6 t.0;
-        caused = t.1;
+        caused = (subst (λ (xs : List ℕ). length xs ≤ input_limit) (sym (ended_more g.0 g.1)) (byte_fits (ended g.0 ++ g.1) 10 n g.7 few), read_ok, t.1);
         stops = record { before = map AtLine g.0; last = AtLine g.1; entries_are = map_more AtLine g.0 (g.1 ∷ []); writer = w1; standing = (f1, p1, g1); heard_before = g.6; had_not_failed = ok; heard_last = t.0 };
       }
 
@@ -318,9 +330,9 @@ module _ {T R W : Type 0} (remaining : R → Option (List ℕ)) (contents : W �
   read_all r0 r1 r2 bytes p q = subst (Consumes (remaining r0.0) (remaining r2.0)) (append-nil bytes) (consumes_more (remaining r0.0) (remaining r1.0) (remaining r2.0) bytes [] p q)
 
   -- the writer failed at the end
-  fails_at_end : (r0 r1 r2 : R × Bool) (w0 w1 w2 : W × Bool) (f0 f1 f2 : T) (p0 p1 p2 : Rules) (g1 g2 : List ℕ) (line : Line) (n : ℕ) (g : Goes r0 r1 w0 w1 (f0, p0, []) (f1, p1, g1) line n) → Consumes (remaining r1.0) (remaining r2.0) [] × IsAtEnd (remaining r2.0) → w1.1 ≡ false
+  fails_at_end : (r0 r1 r2 : R × Bool) (w0 w1 w2 : W × Bool) (f0 f1 f2 : T) (p0 p1 p2 : Rules) (g1 g2 : List ℕ) (line : Line) (n : ℕ) (g : Goes r0 r1 w0 w1 (f0, p0, []) (f1, p1, g1) line n) → Consumes (remaining r1.0) (remaining r2.0) [] × IsAtEnd (remaining r2.0) → w1.1 ≡ false → n < input_limit → r2.1 ≡ false
       → FailsAtEnd contents runs w1 w2 (f1, p1, g1) (f2, p2, g2) g.1 → w2.1 ≡ true → Serve (Err fault.Write) r0 r2 w0 w2 (f0, p0) (f2, p2)
-  fails_at_end r0 r1 r2 w0 w1 w2 f0 f1 f2 p0 p1 p2 g1 g2 line n g c ok (inl q) failed = record {
+  fails_at_end r0 r1 r2 w0 w1 w2 f0 f1 f2 p0 p1 p2 g1 g2 line n g c ok few read_ok (inl q) failed = record {
     input = ended g.0 ++ g.1;
     lines = g.0 ++ g.1 ∷ [];
     entries = map AtLine (g.0 ++ g.1 ∷ []);
@@ -329,10 +341,10 @@ module _ {T R W : Type 0} (remaining : R → Option (List ℕ)) (contents : W �
     cut = (inr (g.0, g.1, q.0, refl, refl, c.1), inl refl);
     are_lines = all_more IsLine g.0 (g.1 ∷ []) g.3 (g.4, tt);
     heard = heard_line w0 w1 w2 (f0, p0, []) (f1, p1, g1) (f2, p2, g2) g.0 g.1 g.6 q.1;
-    caused = failed;
+    caused = (none_more (ended g.0 ++ g.1) n g.7 few, read_ok, failed);
     stops = record { before = map AtLine g.0; last = AtLine g.1; entries_are = map_more AtLine g.0 (g.1 ∷ []); writer = w1; standing = (f1, p1, g1); heard_before = g.6; had_not_failed = ok; heard_last = q.1 };
   }
-  fails_at_end r0 r1 r2 w0 w1 w2 f0 f1 f2 p0 p1 p2 g1 g2 line n g c ok (inr q) failed =
+  fails_at_end r0 r1 r2 w0 w1 w2 f0 f1 f2 p0 p1 p2 g1 g2 line n g c ok few read_ok (inr q) failed =
       let before : HearR w0 q.0 (f0, p0, []) q.1 (map AtLine (g.0 ++ last_line g.1)) = subst (HearR w0 q.0 (f0, p0, []) q.1) (sym (map_more AtLine g.0 (last_line g.1))) (heard_more contents runs laws w0 w1 q.0 (f0, p0, []) (f1, p1, g1) q.1 (map AtLine g.0) (map AtLine (last_line g.1)) g.6 q.2) in
       record {
         input = ended g.0 ++ g.1;
@@ -343,14 +355,14 @@ module _ {T R W : Type 0} (remaining : R → Option (List ℕ)) (contents : W �
         cut = (all_of g.0 g.1 (remaining r2.0) c.1, inr (c.1, refl));
         are_lines = all_more IsLine g.0 (last_line g.1) g.3 (last_lines g.1 g.4);
         heard = heard_more contents runs laws w0 q.0 w2 (f0, p0, []) q.1 (f2, p2, g2) (map AtLine (g.0 ++ last_line g.1)) (AtEnd ∷ []) before q.4;
-        caused = failed;
+        caused = (none_more (ended g.0 ++ g.1) n g.7 few, read_ok, failed);
         stops = record { before = map AtLine (g.0 ++ last_line g.1); last = AtEnd; entries_are = refl; writer = q.0; standing = q.1; heard_before = before; had_not_failed = q.3; heard_last = q.4 };
       }
 
   -- the end of the input
-  pub serves_end : (result : Result End ServeFault) (r0 r1 r2 : R × Bool) (w0 w1 w2 : W × Bool) (f0 f1 f2 : T) (p0 p1 p2 : Rules) (g1 g2 : List ℕ) (line : Line) (n : ℕ) → Goes r0 r1 w0 w1 (f0, p0, []) (f1, p1, g1) line n → Consumes (remaining r1.0) (remaining r2.0) [] × IsAtEnd (remaining r2.0) → w1.1 ≡ false
+  pub serves_end : (result : Result End ServeFault) (r0 r1 r2 : R × Bool) (w0 w1 w2 : W × Bool) (f0 f1 f2 : T) (p0 p1 p2 : Rules) (g1 g2 : List ℕ) (line : Line) (n : ℕ) → Goes r0 r1 w0 w1 (f0, p0, []) (f1, p1, g1) line n → Consumes (remaining r1.0) (remaining r2.0) [] × IsAtEnd (remaining r2.0) → w1.1 ≡ false → n < input_limit → r2.1 ≡ false
       → ((b : List ℕ) → IsKept line b → Ends contents runs w1 w2 (f1, p1, g1) (f2, p2, g2) b result) → Serve result r0 r2 w0 w2 (f0, p0) (f2, p2)
-  serves_end (Ok end.Quit) r0 r1 r2 w0 w1 w2 f0 f1 f2 p0 p1 p2 g1 g2 line n g c ok q =
+  serves_end (Ok end.Quit) r0 r1 r2 w0 w1 w2 f0 f1 f2 p0 p1 p2 g1 g2 line n g c ok few read_ok q =
       let t = q g.1 g.5 in
       record {
         input = ended g.0 ++ g.1;
@@ -361,10 +373,10 @@ module _ {T R W : Type 0} (remaining : R → Option (List ℕ)) (contents : W �
         cut = (g.1, g.4, t.1.0, inr (g.0, g.1, t.0, refl, refl, c.1), refl);
         are_lines = g.3;
         heard = same_heard w0 w1 w2 (f0, p0, []) f1 f2 p1 p2 g1 (map AtLine g.0) t.2 t.1.1 t.1.2 g.6;
-        caused = ap (λ (w : W × Bool). w.1) t.2 ∙ ok;
+        caused = (none_more (ended g.0 ++ g.1) n g.7 few, read_ok, ap (λ (w : W × Bool). w.1) t.2 ∙ ok);
         stops = tt;
       }
-  serves_end (Ok end.Input) r0 r1 r2 w0 w1 w2 f0 f1 f2 p0 p1 p2 g1 g2 line n g c ok q =
+  serves_end (Ok end.Input) r0 r1 r2 w0 w1 w2 f0 f1 f2 p0 p1 p2 g1 g2 line n g c ok few read_ok q =
       let t = q g.1 g.5 in
       record {
         input = ended g.0 ++ g.1;
@@ -375,12 +387,12 @@ module _ {T R W : Type 0} (remaining : R → Option (List ℕ)) (contents : W �
         cut = (all_of g.0 g.1 (remaining r2.0) c.1, c.1, refl);
         are_lines = all_more IsLine g.0 (last_line g.1) g.3 (last_lines g.1 g.4);
         heard = subst (HearR w0 w2 (f0, p0, []) (f2, p2, g2)) (entries_more g.0 g.1) (heard_more contents runs laws w0 w1 w2 (f0, p0, []) (f1, p1, g1) (f2, p2, g2) (map AtLine g.0) (map AtLine (last_line g.1) ++ AtEnd ∷ []) g.6 t.0);
-        caused = t.1;
+        caused = (few_read (ended g.0 ++ g.1) n g.7 few, read_ok, t.1);
         stops = tt;
       }
-  serves_end (Err fault.Read) r0 r1 r2 w0 w1 w2 f0 f1 f2 p0 p1 p2 g1 g2 line n g c ok q = absurd (q g.1 g.5)
-  serves_end (Err fault.Write) r0 r1 r2 w0 w1 w2 f0 f1 f2 p0 p1 p2 g1 g2 line n g c ok q =
-      let t = q g.1 g.5 in fails_at_end r0 r1 r2 w0 w1 w2 f0 f1 f2 p0 p1 p2 g1 g2 line n g c ok t.0 t.1
+  serves_end (Err fault.Read) r0 r1 r2 w0 w1 w2 f0 f1 f2 p0 p1 p2 g1 g2 line n g c ok few read_ok q = absurd (q g.1 g.5)
+  serves_end (Err fault.Write) r0 r1 r2 w0 w1 w2 f0 f1 f2 p0 p1 p2 g1 g2 line n g c ok few read_ok q =
+      let t = q g.1 g.5 in fails_at_end r0 r1 r2 w0 w1 w2 f0 f1 f2 p0 p1 p2 g1 g2 line n g c ok few read_ok t.0 t.1
 
 -- ---- the end
 

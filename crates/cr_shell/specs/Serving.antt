@@ -1,5 +1,5 @@
 -- What is read, what it asks, and what is written for it. Source: this project's own line format.
-use Rattle.std.specs.Prelude.{◌≡◌, ◌≢◌, ◌⊎◌, ℕ, Bool, true, false, not, ◌==◌, List, [], ◌∷◌, ◌++◌, length, map, Option, Some, None, Result, Ok, Err}
+use Rattle.std.specs.Prelude.{◌≡◌, ◌≢◌, ◌⊎◌, ◌<◌, ◌≤◌, ℕ, Bool, true, false, not, ◌==◌, List, [], ◌∷◌, ◌++◌, length, map, Option, Some, None, Result, Ok, Err}
 use Rattle.std.specs.List.{flat_map, list_all, AllByRecursion}
 use Rattle.std.specs.Io.KnownBytes.{Consumes, IsAtEnd}
 use Rattle.cr_world.specs.declared.command.Command.{Command}
@@ -129,12 +129,13 @@ IsCut (Ok end.Quit) input left lines entries gathered = (last : List ℕ) × IsL
 IsCut (Err fault.Read) input left lines entries gathered = (rest : List ℕ) × IsLine rest × (input ≡ ended lines ++ rest) × (entries ≡ map AtLine lines)
 IsCut (Err fault.Write) input left lines entries gathered = IsAllOf input left lines × ((entries ≡ map AtLine lines) ⊎ (IsAtEnd left × (entries ≡ map AtLine lines ++ AtEnd ∷ [])))
 
--- A fault is told with its cause: the writer failed, or the reader failed or the input reached its limit; without one all
--- was written.
+-- A fault is told with its cause: the writer failed, or the reader failed or the input reached its limit. Without one all was
+-- written, and the reader didn't fail within the limit.
 abbrev pub IsCaused : Result End ServeFault → List ℕ → Bool → Bool → Type 0
-IsCaused (Ok e) input read_failed write_failed = write_failed ≡ false
+IsCaused (Ok end.Input) input read_failed write_failed = (length input < input_limit) × (read_failed ≡ false) × (write_failed ≡ false)
+IsCaused (Ok end.Quit) input read_failed write_failed = (length input ≤ input_limit) × (read_failed ≡ false) × (write_failed ≡ false)
 IsCaused (Err fault.Read) input read_failed write_failed = ((read_failed ≡ true) ⊎ (length input ≡ input_limit)) × (write_failed ≡ false)
-IsCaused (Err fault.Write) input read_failed write_failed = write_failed ≡ true
+IsCaused (Err fault.Write) input read_failed write_failed = (length input ≤ input_limit) × (read_failed ≡ false) × (write_failed ≡ true)
 
 -- once the writer has failed nothing more is heard
 abbrev pub Stops : Result End ServeFault → Type 0 → Type 0

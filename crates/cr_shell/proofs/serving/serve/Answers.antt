@@ -1,4 +1,4 @@
-use Rattle.std.proofs.Common.{rules, ◌≡◌, ◌∙◌, ℕ, Bool, List, [], true, refl, inl, inr, subst, arith}
+use Rattle.std.proofs.Common.{rules, ◌≡◌, ◌<◌, ◌∙◌, ℕ, Bool, List, [], true, false, refl, inl, inr, subst, arith}
 use Rattle.cr_tree.specs.declared.statement.Statement.{Statement}
 use Rattle.cr_meaning.specs.View.{Ordered}
 use Rattle.cr_world.specs.Language.{Language}
@@ -33,7 +33,9 @@ returns-in-Ok-None-clause-serves g c =
     let language : (List ℕ → Bool) → Language Statement Ordered = λ has. spoken (g.F.Functions.function_of c.args.functions.now) (g.F.Functions.scalar c.args.functions.now) (g.F.Functions.step c.args.functions.now) (g.F.Functions.finish c.args.functions.now) (g.F.Functions.order_of c.args.functions.now) (g.F.Functions.orders_total c.args.functions.now) has in
     let k : Closures = closures (g.G.Guarding.allows c.args.guard.now) (g.G.Guarding.refuses c.args.guard.now) in
     let laws : RanLaws (RanAs g.T.Served.ran names language k) = laws_as g.T.Served.ran g.met.T.Served.ran_none g.met.T.Served.ran_more names language k in
-    serves_end g.R.Read.remaining g.W.Write.contents (RanAs g.T.Served.ran names language k) laws c.hear_last.result c.args.reader.now c.loop.reader c.read_byte.new.self c.args.writer.now c.loop.writer c.hear_last.new.writer c.args.served.now c.loop.served c.hear_last.new.served (g.G.Guarding.rules c.args.guard.now) (g.G.Guarding.rules c.loop.guard) (g.G.Guarding.rules c.hear_last.new.guard) c.loop.input.gathered c.hear_last.new.input.gathered c.loop.input.line c.loop.counter c.loop.invariant.so_far (rw c.in-Ok-None.field-0-is at c.in-Ok-None.ensures.byte) c.loop.invariant.writer
+    let few : c.loop.counter < 16000000 = omega arith in
+    let read_ok : c.read_byte.new.self.1 ≡ false = search rules in
+    serves_end g.R.Read.remaining g.W.Write.contents (RanAs g.T.Served.ran names language k) laws c.hear_last.result c.args.reader.now c.loop.reader c.read_byte.new.self c.args.writer.now c.loop.writer c.hear_last.new.writer c.args.served.now c.loop.served c.hear_last.new.served (g.G.Guarding.rules c.args.guard.now) (g.G.Guarding.rules c.loop.guard) (g.G.Guarding.rules c.hear_last.new.guard) c.loop.input.gathered c.hear_last.new.input.gathered c.loop.input.line c.loop.counter c.loop.invariant.so_far (rw c.in-Ok-None.field-0-is at c.in-Ok-None.ensures.byte) c.loop.invariant.writer few read_ok
     (subst (λ (x : Closures). (b : List ℕ) → IsKept c.loop.input.line b → Ends g.W.Write.contents (RanAs g.T.Served.ran names language x) c.loop.writer c.hear_last.new.writer (c.loop.served, (g.G.Guarding.rules c.loop.guard), c.loop.input.gathered) (c.hear_last.new.served, (g.G.Guarding.rules c.hear_last.new.guard), c.hear_last.new.input.gathered) b c.hear_last.result) c.loop.invariant.closures c.hear_last.ensures.ends)
 
 pub returns-in-Err-clause-serves : goal.returns-in-Err-clause-serves
@@ -60,7 +62,9 @@ returns-in-Quits-clause-serves g c =
     let language : (List ℕ → Bool) → Language Statement Ordered = λ has. spoken (g.F.Functions.function_of c.args.functions.now) (g.F.Functions.scalar c.args.functions.now) (g.F.Functions.step c.args.functions.now) (g.F.Functions.finish c.args.functions.now) (g.F.Functions.order_of c.args.functions.now) (g.F.Functions.orders_total c.args.functions.now) has in
     let k : Closures = closures (g.G.Guarding.allows c.args.guard.now) (g.G.Guarding.refuses c.args.guard.now) in
     let laws : RanLaws (RanAs g.T.Served.ran names language k) = laws_as g.T.Served.ran g.met.T.Served.ran_none g.met.T.Served.ran_more names language k in
-    serves_quit g.R.Read.remaining g.W.Write.contents (RanAs g.T.Served.ran names language k) laws c.args.reader.now c.loop.reader c.read_byte.new.self c.args.writer.now c.loop.writer c.take_byte.new.writer c.args.served.now c.loop.served c.take_byte.new.served (g.G.Guarding.rules c.args.guard.now) (g.G.Guarding.rules c.loop.guard) (g.G.Guarding.rules c.take_byte.new.guard) c.loop.input.gathered c.take_byte.new.input.gathered c.loop.input.line c.take_byte.new.input.line c.loop.counter c.loop.invariant.so_far c.in-Ok-Some.byte (rw c.in-Ok-Some.field-0-is at c.in-Ok-Some.ensures.byte) c.loop.invariant.writer
+    let few : c.loop.counter < 16000000 = omega arith in
+    let read_ok : c.read_byte.new.self.1 ≡ false = search rules in
+    serves_quit g.R.Read.remaining g.W.Write.contents (RanAs g.T.Served.ran names language k) laws c.args.reader.now c.loop.reader c.read_byte.new.self c.args.writer.now c.loop.writer c.take_byte.new.writer c.args.served.now c.loop.served c.take_byte.new.served (g.G.Guarding.rules c.args.guard.now) (g.G.Guarding.rules c.loop.guard) (g.G.Guarding.rules c.take_byte.new.guard) c.loop.input.gathered c.take_byte.new.input.gathered c.loop.input.line c.take_byte.new.input.line c.loop.counter c.loop.invariant.so_far c.in-Ok-Some.byte (rw c.in-Ok-Some.field-0-is at c.in-Ok-Some.ensures.byte) c.loop.invariant.writer few read_ok
     (subst (λ (x : Closures). Takes g.W.Write.contents (RanAs g.T.Served.ran names language x) c.loop.writer c.take_byte.new.writer (c.loop.served, (g.G.Guarding.rules c.loop.guard), c.loop.input.gathered) (c.take_byte.new.served, (g.G.Guarding.rules c.take_byte.new.guard), c.take_byte.new.input.gathered) c.loop.input.line c.take_byte.new.input.line c.in-Ok-Some.byte next.Quits) c.loop.invariant.closures c.in-Quits.ensures.takes)
 
 pub returns-in-Fails-clause-serves : goal.returns-in-Fails-clause-serves
@@ -69,7 +73,9 @@ returns-in-Fails-clause-serves g c =
     let language : (List ℕ → Bool) → Language Statement Ordered = λ has. spoken (g.F.Functions.function_of c.args.functions.now) (g.F.Functions.scalar c.args.functions.now) (g.F.Functions.step c.args.functions.now) (g.F.Functions.finish c.args.functions.now) (g.F.Functions.order_of c.args.functions.now) (g.F.Functions.orders_total c.args.functions.now) has in
     let k : Closures = closures (g.G.Guarding.allows c.args.guard.now) (g.G.Guarding.refuses c.args.guard.now) in
     let laws : RanLaws (RanAs g.T.Served.ran names language k) = laws_as g.T.Served.ran g.met.T.Served.ran_none g.met.T.Served.ran_more names language k in
-    serves_write g.R.Read.remaining g.W.Write.contents (RanAs g.T.Served.ran names language k) laws c.args.reader.now c.loop.reader c.read_byte.new.self c.args.writer.now c.loop.writer c.take_byte.new.writer c.args.served.now c.loop.served c.take_byte.new.served (g.G.Guarding.rules c.args.guard.now) (g.G.Guarding.rules c.loop.guard) (g.G.Guarding.rules c.take_byte.new.guard) c.loop.input.gathered c.take_byte.new.input.gathered c.loop.input.line c.take_byte.new.input.line c.loop.counter c.loop.invariant.so_far c.in-Ok-Some.byte (rw c.in-Ok-Some.field-0-is at c.in-Ok-Some.ensures.byte) c.loop.invariant.writer
+    let few : c.loop.counter < 16000000 = omega arith in
+    let read_ok : c.read_byte.new.self.1 ≡ false = search rules in
+    serves_write g.R.Read.remaining g.W.Write.contents (RanAs g.T.Served.ran names language k) laws c.args.reader.now c.loop.reader c.read_byte.new.self c.args.writer.now c.loop.writer c.take_byte.new.writer c.args.served.now c.loop.served c.take_byte.new.served (g.G.Guarding.rules c.args.guard.now) (g.G.Guarding.rules c.loop.guard) (g.G.Guarding.rules c.take_byte.new.guard) c.loop.input.gathered c.take_byte.new.input.gathered c.loop.input.line c.take_byte.new.input.line c.loop.counter c.loop.invariant.so_far c.in-Ok-Some.byte (rw c.in-Ok-Some.field-0-is at c.in-Ok-Some.ensures.byte) c.loop.invariant.writer few read_ok
     (subst (λ (x : Closures). Takes g.W.Write.contents (RanAs g.T.Served.ran names language x) c.loop.writer c.take_byte.new.writer (c.loop.served, (g.G.Guarding.rules c.loop.guard), c.loop.input.gathered) (c.take_byte.new.served, (g.G.Guarding.rules c.take_byte.new.guard), c.take_byte.new.input.gathered) c.loop.input.line c.take_byte.new.input.line c.in-Ok-Some.byte next.Fails) c.loop.invariant.closures c.in-Fails.ensures.takes)
 
 pub loop-preserved : goal.loop-preserved
