@@ -1,34 +1,41 @@
 //! A host that embeds the engine: it registers tables of its own with a session, listens to what becomes of rows, has statements
 //! carried out, one with values for its parameters, and prints each with what was heard of it and its answer. A second host has an
-//! authorizer in place of the listener, and prints each statement with what the authorizer was asked about it.
+//! authorizer in place of the listener, and prints each statement with what the authorizer was asked about it. At last three replicas
+//! of a host speak to one another by calls.
 #![tactic(auto)]
 
 mod asking;
+mod counted;
 mod listening;
 mod module;
+mod offering;
+mod printing;
+mod syncing;
 
 use asking::{Questions, note, print_asked};
+use counted::Counted;
 use cr_cells::plain::PlainCells;
 use cr_guard::closures::AuthorizerFn;
 use cr_guard::guard::Guard;
 use cr_guard::listener::Listener;
+use cr_guard::policy::Policy;
 use cr_guard::samples::Notes;
 use cr_host::functions::BuiltIns;
 use cr_host::meaning::{Action, Auth};
 use cr_hosted::session::HostedSession;
 use cr_lattice::change::Site;
 use cr_session::session::Session;
-use cr_value::literal::literal_text;
 use cr_value::text::Text;
 use cr_value::value::Value;
-use cr_world::command::Reply;
-use cr_world::refusal::Refusal;
 use listening::{Shared, Silent, print_heard};
 use module::Numbers;
+use offering::{Observed, Offered, print_offered};
+use printing::{print_done, print_reply};
 use std::alloc::{AllocError, Global};
 use std::cell::RefCell;
 use std::io::{self, LineWriter, Write};
 use std::rc::Rc;
+use syncing::run_syncing;
 
 /// Changes of this replica bear its site.
 const SITE: Site = [0x0a; 16];
@@ -139,6 +146,31 @@ const ASKED_STATEMENTS: [&str; 39] = [
     "SELECT abs(nope) FROM t",
 ];
 
+/// `m` has the numbers from 1 to 3, `many` those to 4,000,000,000, each in its column `v`. They are offered what compares that with
+/// constants byte by byte, and an order where theirs is the only table and each of its rows is shown.
+const OFFERED_STATEMENTS: [&str; 20] = [
+    "SELECT * FROM m WHERE v >= 2 AND 3 > v ORDER BY v DESC",
+    "SELECT * FROM m WHERE v = '2' AND v <= 3",
+    "SELECT * FROM m WHERE v IS 2",
+    "SELECT * FROM m WHERE v IS NULL",
+    "SELECT * FROM m WHERE v > 'x'",
+    "SELECT * FROM m WHERE v < NULL",
+    "SELECT * FROM m WHERE v COLLATE nocase = 2",
+    "SELECT * FROM m WHERE v <> 2 AND v IS NOT 1 AND v + 0 > 1 AND v < 9",
+    "SELECT * FROM m WHERE v = 2 OR v = 3 ORDER BY v",
+    "SELECT * FROM m WHERE v = v AND v BETWEEN 2 AND 3",
+    "SELECT count(*), max(v) FROM m WHERE v > 1 ORDER BY 1",
+    "SELECT DISTINCT v FROM m WHERE v < 3 ORDER BY v",
+    "SELECT a.v FROM m AS a JOIN m AS b ON a.v = b.v WHERE a.v > 2",
+    "SELECT v FROM m WHERE v = 2 ORDER BY v + 0, v",
+    "SELECT v FROM m LIMIT 1",
+    "SELECT v FROM many WHERE v >= 2999999999 AND v < 3000000002 ORDER BY v DESC",
+    "SELECT count(*), max(v) FROM many WHERE 3999999990 < v",
+    "SELECT v FROM many WHERE v = '7' AND v > 6",
+    "SELECT v FROM many WHERE v = 5 AND v = 6",
+    "SELECT v FROM many WHERE v <= 0",
+];
+
 /// A session, and what its listener noted.
 #[derive(Drop)]
 struct Host {
@@ -171,40 +203,6 @@ fn broken(alloc: Global) -> Result<Numbers, AllocError> {
     Ok(numbers)
 }
 
-fn print_refusal<W: Write>(refusal: &Refusal, out: &mut W) -> io::Result<()> {
-    writeln!(
-        out,
-        "error {} {}: {refusal}",
-        refusal.code(),
-        refusal.name()
-    )
-}
-
-fn print_row<W: Write>(alloc: Global, row: &[Value], out: &mut W) -> io::Result<()> {
-    for (place, value) in row.iter().enumerate() {
-        let mark = if place == 0 { "" } else { "|" };
-        write!(out, "{mark}{}", literal_text(alloc, value)?.as_str())?;
-    }
-    writeln!(out)
-}
-
-fn print_reply<W: Write>(
-    alloc: Global,
-    outcome: &Result<Reply, Refusal>,
-    out: &mut W,
-) -> io::Result<()> {
-    match outcome {
-        Ok(Reply::Done) => writeln!(out, "done"),
-        Ok(Reply::Rows(rows)) => {
-            for row in rows.as_slice() {
-                print_row(alloc, row.as_slice(), out)?;
-            }
-            Ok(())
-        }
-        Err(refusal) => print_refusal(refusal, out),
-    }
-}
-
 // Registers a table of the host under a name, and prints whether it may have that.
 fn register<W: Write>(
     alloc: Global,
@@ -213,11 +211,12 @@ fn register<W: Write>(
     numbers: Numbers,
     out: &mut W,
 ) -> io::Result<()> {
-    writeln!(out, "register {name}")?;
-    match host.session.register_module(alloc, name, numbers) {
-        Ok(()) => writeln!(out, "done"),
-        Err(refusal) => print_refusal(&refusal, out),
-    }
+    write!(out, "register ")?;
+    print_done(
+        name,
+        &host.session.register_module(alloc, name, numbers),
+        out,
+    )
 }
 
 // Has a statement carried out with values for its parameters, and prints it with what was heard of it and its answer.
@@ -319,9 +318,62 @@ fn run_authorized<W: Write>(alloc: Global, out: &mut W) -> io::Result<()> {
     Ok(())
 }
 
+// The numbers up to a last one, which note what they are offered.
+fn observed(
+    alloc: Global,
+    last: u32,
+    offered: &Rc<RefCell<Offered>>,
+) -> Result<Observed, AllocError> {
+    Ok(Observed {
+        counted: Counted::up_to(alloc, last)?,
+        offered: offered.clone()?,
+    })
+}
+
+// A session with both tables.
+fn counting_session<W: Write>(
+    alloc: Global,
+    offered: &Rc<RefCell<Offered>>,
+    out: &mut W,
+) -> io::Result<HostedSession<PlainCells, Observed>> {
+    let mut session = HostedSession::new(alloc, Session::new(PlainCells::new(alloc, SITE)));
+    let few = session.register_module(alloc, "m", observed(alloc, 3, offered)?);
+    print_done("register m", &few, out)?;
+    let many = session.register_module(alloc, "many", observed(alloc, 4_000_000_000, offered)?);
+    print_done("register many", &many, out)?;
+    Ok(session)
+}
+
+// Has a SELECT carried out, and prints it with what the table was offered that was read last, and its answer.
+fn ask_offered<W: Write>(
+    alloc: Global,
+    session: &mut HostedSession<PlainCells, Observed>,
+    offered: &RefCell<Offered>,
+    text: &str,
+    out: &mut W,
+) -> io::Result<()> {
+    writeln!(out, "{text}")?;
+    let mut policy = Policy::new(alloc);
+    let outcome = session.execute(alloc, &BuiltIns, &mut policy, text, &[]);
+    print_offered(offered, out)?;
+    print_reply(alloc, &outcome, out)
+}
+
+// The same of all SELECTs over tables whose rows are counted.
+fn run_offered<W: Write>(alloc: Global, out: &mut W) -> io::Result<()> {
+    let offered = Rc::new(alloc, RefCell::new(Offered::new(alloc)))?;
+    let mut session = counting_session(alloc, &offered, out)?;
+    for text in &OFFERED_STATEMENTS {
+        ask_offered(alloc, &mut session, &offered, text, out)?;
+    }
+    Ok(())
+}
+
 fn main(rt: HostRuntime) -> io::Result<()> {
     let mut out = LineWriter::new(rt.alloc(), rt.stdout())?;
     run_listening(rt.alloc(), &mut out)?;
     run_authorized(rt.alloc(), &mut out)?;
+    run_offered(rt.alloc(), &mut out)?;
+    run_syncing(rt.alloc(), &mut out)?;
     out.flush()
 }
