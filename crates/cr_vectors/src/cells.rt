@@ -102,8 +102,8 @@ fn is_deletion(alloc: Global, cells: &[Stamped]) -> Result<bool, Fail> {
     }
 }
 
-// Whether the deletion is the one cell, by its version, by its row and by its table.
-fn has_deletion<C: Cells>(alloc: Global, cells: &mut C) -> Result<bool, Fail> {
+/// Whether the deletion is the one cell, by its version, by its row and by its table.
+pub(crate) fn has_deletion<C: Cells>(alloc: Global, cells: &mut C) -> Result<bool, Fail> {
     let since = cells.since(alloc, 1)?;
     let of_row = cells.cells_of(alloc, "t", key(alloc, 1)?.as_slice())?;
     let of_table = cells.cells_of_table(alloc, "t")?;

@@ -1,5 +1,4 @@
-//! What the lines of `vectors` can't show: stores, listeners, files, devices that fail, and commits at random. A crate of
-//! tests alone.
+//! What the lines of `vectors` can't show: stores, listeners, files, and commits at random. A crate of tests alone.
 #![tactic(auto)]
 
 #[cfg(test)]
@@ -7,16 +6,10 @@ mod cells;
 #[cfg(test)]
 mod disk;
 #[cfg(test)]
-mod fleet;
-#[cfg(test)]
 mod formats;
 #[cfg(test)]
 mod guard;
 #[cfg(test)]
 mod replica;
-#[cfg(test)]
-mod session;
-#[cfg(test)]
-mod shell;
 #[cfg(test)]
 mod store;

@@ -1,6 +1,6 @@
 //! The store over sqlite, in memory, in a file and in a file in memory: the same calls with the same answers as at the plain one.
 
-use crate::cells::{add_replicated, commit_from, meets_the_vectors};
+use crate::cells::{add_replicated, commit_from, has_deletion, meets_the_vectors};
 use cr_cells::plain::PlainCells;
 use cr_cells::store::{Cells, CellsError, NewCells, StoreFault};
 use cr_lattice::change::{Change, Site};
@@ -26,12 +26,22 @@ fn has_tables<S: Alter + Drop>(alloc: Global, store: Store<S>) -> bool {
     }
 }
 
+fn opened_again<S: Alter + Drop>(alloc: Global, store: Store<S>) -> Result<Store<S>, Fail> {
+    match reopened(alloc, store) {
+        Ok(store) => Ok(store),
+        Err((error, _)) => Err(Fail::from(error)),
+    }
+}
+
+// The calls in turn, and what the store has when it is opened again.
 fn meets_all<S: Alter + Drop>(
     rt: &impl Abort,
     alloc: Global,
     mut store: Store<S>,
 ) -> Result<(), Fail> {
     meets_the_vectors(rt, alloc, &mut store)?;
+    let mut store = opened_again(alloc, store)?;
+    assert!(rt; has_deletion(alloc, &mut store)?);
     assert!(rt; has_tables(alloc, store));
     Ok(())
 }
@@ -55,7 +65,7 @@ fn new_name(rt: &HostRuntime) -> Result<String, Fail> {
 }
 
 // The file and its log lose their names at once, so that nothing is left of them whatever the test finds.
-pub(crate) fn open_unnamed(rt: &HostRuntime) -> Result<Connection<FileStore<File>>, Fail> {
+fn open_unnamed(rt: &HostRuntime) -> Result<Connection<FileStore<File>>, Fail> {
     let name = new_name(rt)?;
     let conn = Connection::open(rt, &name)?;
     fs::remove_file(rt, name.as_str())?;
@@ -179,16 +189,6 @@ fn commit_to_both<C: Cells, D: Cells>(
 fn define<C: Cells>(alloc: Global, cells: &mut C) -> Result<(), Fail> {
     add_replicated(alloc, cells, &definition(alloc, "t", COLUMNS)?)?;
     add_replicated(alloc, cells, &definition(alloc, "u", COLUMNS)?)
-}
-
-pub(crate) fn opened_again<S: Alter + Drop>(
-    alloc: Global,
-    store: Store<S>,
-) -> Result<Store<S>, Fail> {
-    match reopened(alloc, store) {
-        Ok(store) => Ok(store),
-        Err((error, _)) => Err(Fail::from(error)),
-    }
 }
 
 #[test]

@@ -11,7 +11,7 @@ use cr_session::session::Session;
 use cr_shell::serving::{End, ServeFault, serve};
 use cr_shell::watched::Watched;
 use std::alloc::Global;
-use std::io::{self, Write};
+use std::io::{self, Read, Write};
 
 // The site of a replica that stands alone.
 const SITE: Site = [10; 16];
@@ -25,38 +25,71 @@ fn end_word(end: Result<End, ServeFault>) -> &'static str {
     }
 }
 
-fn print_served<T: Served, W: Write>(
+// What an input over these devices is answered by what is served, and how that ended.
+fn serve_over<T: Served, R: Read + Drop, V: Write + Drop>(
     alloc: Global,
-    input: &[u8],
+    reader: R,
+    writer: V,
     served: &mut T,
-    out: &mut W,
-) -> io::Result<()> {
-    let mut printed = Vec::new(alloc);
-    let mut reader = Watched::new(input);
-    let mut writer = Watched::new(&mut printed);
+) -> Result<End, ServeFault> {
+    let mut reader = Watched::new(reader);
+    let mut writer = Watched::new(writer);
     let mut policy = Policy::new(alloc);
-    let end = serve(
+    serve(
         alloc,
         &mut reader,
         &mut writer,
         served,
         &BuiltIns,
         &mut policy,
-    );
+    )
+}
+
+fn print_served<T: Served, W: Write>(
+    alloc: Global,
+    input: &[u8],
+    served: &mut T,
+    out: &mut W,
+) -> io::Result<Vec<u8>> {
+    let mut printed = Vec::new(alloc);
+    let end = serve_over(alloc, input, &mut printed, served);
     out.write_all(&printed)?;
-    writeln!(out, "{}", end_word(end))
+    writeln!(out, "{}", end_word(end))?;
+    Ok(printed)
+}
+
+/// Has an input served over a new fleet and these devices.
+pub(crate) fn serve_fleet<R: Read + Drop, V: Write + Drop>(
+    alloc: Global,
+    reader: R,
+    writer: V,
+) -> Result<End, ServeFault> {
+    serve_over(alloc, reader, writer, &mut Fleet::<MemoryCells>::new(alloc))
+}
+
+/// Prints what a new fleet answers to an input, and how that ended; gives back what was answered.
+pub(crate) fn serve_input<W: Write>(
+    alloc: Global,
+    input: &[u8],
+    out: &mut W,
+) -> io::Result<Vec<u8>> {
+    let mut fleet = Fleet::<MemoryCells>::new(alloc);
+    print_served(alloc, input, &mut fleet, out)
 }
 
 /// Prints what a new fleet answers to an input, and how that ended.
 pub(crate) fn print_fleet<W: Write>(alloc: Global, input: &[u8], out: &mut W) -> io::Result<()> {
-    let mut fleet = Fleet::<MemoryCells>::new(alloc);
-    print_served(alloc, input, &mut fleet, out)
+    serve_input(alloc, input, out)?;
+    Ok(())
 }
 
 /// Prints what a new replica that stands alone answers to an input, and how that ended.
 pub(crate) fn print_alone<W: Write>(alloc: Global, input: &[u8], out: &mut W) -> io::Result<()> {
     match MemoryCells::create(alloc, SITE) {
-        Ok(cells) => print_served(alloc, input, &mut Session::new(cells), out),
+        Ok(cells) => {
+            print_served(alloc, input, &mut Session::new(cells), out)?;
+            Ok(())
+        }
         Err(CellsError::Memory) => Err(io::Error::from(io::ErrorKind::OutOfMemory)),
         Err(_) => Err(io::Error::from(io::ErrorKind::Other)),
     }
