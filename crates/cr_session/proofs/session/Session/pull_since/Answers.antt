@@ -51,6 +51,8 @@ returns-clause-pulls g c =
     c.deref.result.now (Some (c.site_id-site.result, to_z w64 (of_z w64 c.db_version-version.result)))
     (λ own theirs. c.deref.ensures.value ∙ (c.in-Ok-changes_above.ensures.reads theirs).answers
     ∙ ap (changes_above old) (to_z-of_z seen_fits ∙ (c.in-Ok.ensures.reads own).answers ∙ ap (seen_of (g.C.Cells.holding c.args.self.now.0).marks) (c.site_id-site.ensures (c.changes_above.ensures.was_clean theirs))))
-    (λ theirs i. Some (c.site_id-site.ensures (c.changes_above.ensures.was_clean theirs) i,
-      (to_z-of_z fits ∙ c.db_version-version.ensures theirs ∙ ap (λ (h : Holding). h.version) (c.in-Ok-changes_above.ensures.reads theirs).same) i))
+    (λ theirs i. Some (
+      c.site_id-site.ensures (c.changes_above.ensures.was_clean theirs) i,
+      (to_z-of_z fits ∙ c.db_version-version.ensures theirs ∙ ap (λ (h : Holding). h.version) (c.in-Ok-changes_above.ensures.reads theirs).same) i,
+    ))
     c.take_all.result c.take_all.new.self c.take_all.ensures.takes
