@@ -12,9 +12,13 @@ use Rattle.cr_snapshot.specs.Seen.{name_of, rows_seen}
 use Rattle.cr_world.specs.declared.refusal.Refusal.{Refusal}
 use Rattle.cr_world.specs.Refusals.{of_fault}
 
+-- the rows that a query answers over rows of its tables
+abbrev pub answer_over : List (List Row) → Query → Stage (List Row)
+answer_over tables q m = answer m (view.query q) tables
+
 -- the rows that a query answers there
 abbrev pub answer_seen : Snapshot → Query → Stage (List Row)
-answer_seen snapshot q m = answer m (view.query q) (map (λ j. rows_seen snapshot (name_of j)) q.joined)
+answer_seen snapshot q = answer_over (map (λ j. rows_seen snapshot (name_of j)) q.joined) q
 
 -- the rows, or the fault of an expression
 abbrev pub Gives : Host → List Value → Stage (List Row) → Result (List Row) Refusal → Type 0

@@ -12,6 +12,7 @@ pub mod Bringing
 pub mod ByTable
 pub mod OfTables
 pub mod ByKey
+pub mod Joins
 pub mod Committing
 pub mod Inserting
 pub mod Receiving

@@ -15,7 +15,7 @@ use Rattle.cr_term.specs.declared.expr.Expr.{Expr}
 use Rattle.cr_term.specs.declared.query.Joined.{Joined}
 use Rattle.cr_term.specs.declared.query.Query.{Query}
 use Rattle.cr_scalar.specs.Host.{Host as Means}
-use Rattle.cr_query.specs.Query.{Row, answer}
+use Rattle.cr_query.specs.Query.{answer}
 use Rattle.cr_meaning.specs.View.{query}
 use Rattle.cr_meaning.specs.Meaning.{meaning}
 use Rattle.cr_replica.specs.declared.snapshot.Snapshot.{Snapshot}

@@ -29,7 +29,8 @@ use Rattle.cr_world.specs.Causes.{Cause, Free, Evaluation, Is, IsWant, IsFault, 
 use Rattle.cr_world.specs.State.{State, tables_named}
 use Rattle.cr_world.specs.Statement.{Host, evaluation_cause}
 use Rattle.cr_language.specs.Sql.{view}
-use Rattle.cr_answer.specs.Selecting.{Gives, answer_seen}
+use Rattle.cr_answer.specs.Selecting.{Gives, answer_over}
+use Rattle.cr_session.specs.Joining.{Suffice}
 use Rattle.cr_session.specs.Lookup.{ShowsQuery}
 use Rattle.cr_session.specs.Performing.{Performs, against, with_limit, without_limit}
 
@@ -81,30 +82,35 @@ pub tables_are : (st : State) (snap : Snapshot) → IsSeen st snap → (js : Lis
 tables_are st snap is [] = refl
 tables_are st snap is (j ∷ js) = λ i. rows_are st snap (name_of j) is i ∷ tables_are st snap is js i
 
-module _ (means : Means) (params : List Value) (host : Host) (st : State) (snap : Snapshot) (x : Query) (shows : ShowsQuery means params x st snap) where
-  exact_seen : without_limit means params host st (view (r.Select x)) ≡ answer_seen snap x (exact means params)
+module _ (means : Means) (params : List Value) (host : Host) (st : State) (tables : List (List Row)) (x : Query) (shows : Suffice means params x st tables) where
+  exact_seen : without_limit means params host st (view (r.Select x)) ≡ answer_over tables x (exact means params)
   exact_seen = shows None
 
-  sized_seen : with_limit means params host st (view (r.Select x)) ≡ answer_seen snap x (sized means params)
+  sized_seen : with_limit means params host st (view (r.Select x)) ≡ answer_over tables x (sized means params)
   sized_seen = shows byte_limit
 
-  seen_gains : Gains (answer_seen snap x (sized means params)) (answer_seen snap x (exact means params))
-  seen_gains = answer_refines (sized means params) (exact means params) (refines means params) (query x) (map (λ j. rows_seen snap (name_of j)) x.joined)
+  seen_gains : Gains (answer_over tables x (sized means params)) (answer_over tables x (exact means params))
+  seen_gains = answer_refines (sized means params) (exact means params) (refines means params) (query x) tables
 
-  select_cause : against means params host st (view (r.Select x)) ≡ evaluation_cause None (answer_seen snap x (exact means params)) (answer_seen snap x (sized means params))
+  select_cause : against means params host st (view (r.Select x)) ≡ evaluation_cause None (answer_over tables x (exact means params)) (answer_over tables x (sized means params))
   select_cause = or_free (evaluation_cause None (without_limit means params host st (view (r.Select x))) (with_limit means params host st (view (r.Select x)))) ∙ (λ i. evaluation_cause None (exact_seen i) (sized_seen i))
 
-  performs_given : (result : Result (List Row) Refusal) → Gives means params (answer_seen snap x) result → Performs means params host st (view (r.Select x)) (shown result) st
+  performs_given : (result : Result (List Row) Refusal) → Gives means params (answer_over tables x) result → Performs means params host st (view (r.Select x)) (shown result) st
   performs_given (Ok rows) v = (
-    select_cause ∙ ap (λ (o : Option (List Row)). evaluation_cause None (answer_seen snap x (exact means params)) o) v.sized,
+    select_cause ∙ ap (λ (o : Option (List Row)). evaluation_cause None (answer_over tables x (exact means params)) o) v.sized,
     (ap (λ (o : Option (List Row)). Rows (unwrap_or o [])) (sym (sized_seen ∙ v.sized)), refl),
   )
   performs_given (Err t) v = (
     subst (λ (y : Refusal). IsWant y ⊎ Tells (against means params host st (view (r.Select x))) y) (sym v.1.0)
-        (subst (λ (c : Cause). IsWant (of_fault v.0) ⊎ Tells c (of_fault v.0)) (sym select_cause) (fault_told None means params (answer_seen snap x) seen_gains v.0 v.1.1)),
+        (subst (λ (c : Cause). IsWant (of_fault v.0) ⊎ Tells c (of_fault v.0)) (sym select_cause) (fault_told None means params (answer_over tables x) seen_gains v.0 v.1.1)),
     refl,
   )
 
   -- what a SELECT replies is what was answered
-  pub performs_select : (given : Result (List Row) Refusal) (result : Result Reply Refusal) → Gives means params (answer_seen snap x) given → result ≡ shown given → Performs means params host st (view (r.Select x)) result st
+  pub performs_select : (given : Result (List Row) Refusal) (result : Result Reply Refusal) → Gives means params (answer_over tables x) given → result ≡ shown given → Performs means params host st (view (r.Select x)) result st
   performs_select given result v e = subst (λ (o : Result Reply Refusal). Performs means params host st (view (r.Select x)) o st) (sym e) (performs_given given v)
+
+-- what suffices of a snapshot suffices of its tables
+pub performs_over : (means : Means) (params : List Value) (x : Query) (st : State) (snap : Snapshot) (tables : List (List Row))
+    → tables ≡ map (λ j. rows_seen snap (name_of j)) x.joined → ShowsQuery means params x st snap → Suffice means params x st tables
+performs_over means params x st snap tables e shows = subst (λ (ts : List (List Row)). Suffice means params x st ts) (sym e) shows

@@ -1,5 +1,6 @@
 pub mod Sessions
 pub mod Performing
 pub mod Lookup
+pub mod Joining
 pub mod Listening
 pub mod Hearing

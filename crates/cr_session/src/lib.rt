@@ -3,6 +3,7 @@
 
 pub mod calls;
 mod executing;
+mod joining;
 mod listening;
 mod lookup;
 pub mod performing;

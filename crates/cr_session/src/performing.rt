@@ -9,6 +9,7 @@ ghost use Rattle.cr_world.specs.Statement.{Host, marked_reply, no_default, not_a
 ghost use Rattle.cr_lattice.specs.Profile.{lacks_default};
 ghost use Rattle.cr_world.specs.Causes.{where_true};
 ghost use Rattle.cr_world.specs.declared.refusal.Refusal.TheVariants.{NoDefault};
+ghost use Rattle.cr_session.specs.Joining.{Suffice};
 ghost use Rattle.cr_session.specs.Lookup.{ShowsQuery};
 ghost use Rattle.cr_session.specs.Performing.{Passes, Performs, not_replicated};
 
@@ -19,10 +20,11 @@ use cr_expr::given::Hosted;
 use cr_guard::guarding::Guarding;
 use cr_host::functions::Functions;
 use cr_lattice::profile::{lacks_default, no_default};
-use cr_lattice::table::{ColumnDef, Items, TableDef};
+use cr_lattice::table::{ColumnDef, Items, Row, TableDef};
 use cr_replica::definition::DefineError;
 use cr_replica::snapshot::Snapshot;
 use cr_script::speaking::Watching;
+use cr_snapshot::rows::tables_of;
 use cr_term::query::{Alter, Create, Held, MarkReplicated, Query, Relation, Resolved};
 use cr_value::text::Text;
 use cr_value::value::Value;
@@ -86,6 +88,23 @@ fn marked_reply(alloc: Global, is_ignored: bool) -> Result<Reply, AllocError>
     Ok(Reply::Rows(Items::new(rows)))
 }
 
+// Answers a SELECT over rows of its tables.
+fn answered_over<F: Functions>(
+    alloc: Global,
+    functions: &F,
+    tables: &[Items<Row>],
+    query: &Query,
+    params: &[Value],
+) -> Result<Reply, Refusal>
+    requires { F.is_faithful functions.now }
+    ensures { (host : Host) (st : State) → Suffice (⟦<F as Hosted>⟧.means functions.now) params.now query.now st tables.now → Performs (⟦<F as Hosted>⟧.means functions.now) params.now host st (view (r.Select query.now)) result st }
+{
+    match answer_query(alloc, functions, tables, query, params) {
+        Ok(rows) => Ok(Reply::Rows(rows)),
+        Err(refusal) => Err(refusal),
+    }
+}
+
 /// Answers a SELECT over what is seen.
 ///
 /// # Errors
@@ -100,10 +119,8 @@ pub fn answered<F: Functions>(
     requires { F.is_faithful functions.now }
     ensures { (host : Host) (st : State) → ShowsQuery (⟦<F as Hosted>⟧.means functions.now) params.now query.now st snapshot.now → Performs (⟦<F as Hosted>⟧.means functions.now) params.now host st (view (r.Select query.now)) result st }
 {
-    match answer_query(alloc, functions, snapshot, query, params) {
-        Ok(rows) => Ok(Reply::Rows(rows)),
-        Err(refusal) => Err(refusal),
-    }
+    let tables = tables_of(alloc, snapshot, query.joined.as_slice())?;
+    answered_over(alloc, functions, tables.as_slice(), query, params)
 }
 
 impl<C: Cells> Session<C> {
@@ -119,8 +136,30 @@ impl<C: Cells> Session<C> {
     ghost use Rattle.cr_world.specs.State.{catalog, heard_between};
     ghost use Rattle.cr_world.specs.Statement.{Host};
     ghost use Rattle.cr_script.specs.Hearing.{Hears};
+    ghost use Rattle.cr_session.specs.Joining.{IsJoinOf};
     ghost use Rattle.cr_session.specs.Performing.{Performed, is_performed, is_table};
     ghost use Rattle.cr_session.specs.Sessions.{clean, honest, standing};
+
+    // Answers a SELECT of tables that are joined.
+    fn select_join<F: Functions>(
+        &mut self,
+        alloc: Global,
+        functions: &F,
+        names: &Snapshot,
+        query: &Query,
+        params: &[Value],
+    ) -> Result<Reply, Refusal>
+        requires functions { F.is_faithful functions.now }
+        requires sound { C.is_clean self.old.0 → IsSound (C.holding self.old.0) }
+        requires named { C.is_clean self.old.0 → IsNamed (standing C.holding self.old) names.now }
+        requires join { IsJoinOf (⟦<F as Hosted>⟧.means functions.now) self.old.1 names.now.tables query.now }
+        ensures { (host : Host) → Performed (⟦<F as Hosted>⟧.means functions.now) params.now host (honest C.is_honest) (clean C.is_clean) (standing C.holding) self.old (r.Select query.now) result self.new }
+    {
+        match self.see_join(alloc, names.tables.as_slice(), query, params) {
+            Ok(tables) => answered_over(alloc, functions, &tables, query, params),
+            Err(error) => Err(Refusal::from(error)),
+        }
+    }
 
     // Answers a SELECT.
     fn select<F: Functions>(
@@ -136,6 +175,9 @@ impl<C: Cells> Session<C> {
         requires named { C.is_clean self.old.0 → IsNamed (standing C.holding self.old) names }
         ensures { (host : Host) → Performed (⟦<F as Hosted>⟧.means functions.now) params.now host (honest C.is_honest) (clean C.is_clean) (standing C.holding) self.old (r.Select query.now) result self.new }
     {
+        if self.is_join_of(functions, names.tables.as_slice(), query) {
+            return self.select_join(alloc, functions, &names, query, params);
+        }
         match self.look_for_query(alloc, functions, names, query, params) {
             Ok(snapshot) => answered(alloc, functions, &snapshot, query, params),
             Err(error) => Err(Refusal::from(error)),

@@ -56,7 +56,11 @@ impl<C: Cells> Session<C> {
 
     // What a statement sees of some tables: what the last commit keeps of them, and with it the changes of the open transaction.
     // Reads the cells of these tables and no others.
-    fn see_changes(&mut self, alloc: Global, tables: &[Text]) -> Result<Vec<Change>, CellsError>
+    pub(crate) fn see_changes(
+        &mut self,
+        alloc: Global,
+        tables: &[Text],
+    ) -> Result<Vec<Change>, CellsError>
         requires sound { C.is_clean self.old.0 → IsSound (C.holding self.old.0) }
         ensures was_honest { C.is_honest self.new.0 → C.is_honest self.old.0 }
         ensures was_clean { C.is_clean self.new.0 → C.is_clean self.old.0 }

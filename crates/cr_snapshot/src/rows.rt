@@ -15,8 +15,8 @@ use cr_term::query::Joined;
 use cr_value::order::same_bytes;
 use std::alloc::{AllocError, Global};
 
-// The rows of a table, none where it isn't replicated.
-fn table_rows(alloc: Global, kept: &[Change], table: &Table) -> Result<Items<Row>, AllocError>
+/// The rows of a table, none where it isn't replicated. Fails for want of memory alone.
+pub fn table_rows(alloc: Global, kept: &[Change], table: &Table) -> Result<Items<Row>, AllocError>
     ensures { IfOk result (λ rs. rs ≡ table_rows kept.now table.now) }
 {
     if table.is_replicated {

@@ -13,7 +13,9 @@ use Rattle.cr_term.specs.declared.expr.Expr.{Expr, out-roll-Expr}
 use Rattle.cr_term.specs.declared.expr.Expr.TheFolds.{fold-roll-Expr}
 use Rattle.cr_term.specs.Nodes as e
 use Rattle.cr_term.specs.Operands.{binary, comparison}
-use Rattle.cr_sought.specs.Sought.{pin, sought_key}
+use Rattle.cr_sought.specs.declared.joined.Partner.{Partner}
+use Rattle.cr_sought.specs.Joins.{no_row}
+use Rattle.cr_sought.specs.Sought.{alone, joined_keys, pin, sought_key}
 
 ruleset folds = (fold-roll-Expr, out-roll-Expr)
 
@@ -41,32 +43,32 @@ one = e.Literal (Int (pos 1))
 -- ---- one column
 
 -- id = 1
-key_of_a_number : pin [] 0 (comparison c.Equal id one) ≡ Some (Int (pos 1))
+key_of_a_number : pin alone [] 0 (comparison c.Equal id one) ≡ Some (Int (pos 1))
 key_of_a_number = simp folds refl
 
 -- '1' = id: the text takes on NUMERIC
-key_of_a_text : pin [] 0 (comparison c.Equal (text (codes "1")) id) ≡ Some (Int (pos 1))
+key_of_a_text : pin alone [] 0 (comparison c.Equal (text (codes "1")) id) ≡ Some (Int (pos 1))
 unfolding int_of_text
 key_of_a_text = simp folds refl
 
 -- name = ?2
-by_parameter : pin (Null ∷ Text (codes "b") ∷ []) 1 (comparison c.Equal name (e.Param 2)) ≡ Some (Text (codes "b"))
+by_parameter : pin alone (Null ∷ Text (codes "b") ∷ []) 1 (comparison c.Equal name (e.Param 2)) ≡ Some (Text (codes "b"))
 by_parameter = simp folds refl
 
 -- name = 'a' COLLATE NOCASE, name = id, id IS 1 and id < 1 pin nothing, and id = 1 does not pin the name
-no_nocase : pin [] 1 (comparison c.Equal name (e.Collate (text (codes "a")) nocase)) ≡ None
+no_nocase : pin alone [] 1 (comparison c.Equal name (e.Collate (text (codes "a")) nocase)) ≡ None
 no_nocase = simp folds refl
 
-no_column : pin [] 1 (comparison c.Equal name id) ≡ None
+no_column : pin alone [] 1 (comparison c.Equal name id) ≡ None
 no_column = simp folds refl
 
-no_is : pin [] 0 (comparison c.Is id one) ≡ None
+no_is : pin alone [] 0 (comparison c.Is id one) ≡ None
 no_is = simp folds refl
 
-no_less : pin [] 0 (comparison c.Less id one) ≡ None
+no_less : pin alone [] 0 (comparison c.Less id one) ≡ None
 no_less = simp folds refl
 
-no_other : pin [] 1 (comparison c.Equal id one) ≡ None
+no_other : pin alone [] 1 (comparison c.Equal id one) ≡ None
 no_other = simp folds refl
 
 -- ---- keys
@@ -100,3 +102,33 @@ one_of_two = simp folds refl
 no_null : sought_key t [] (comparison c.Equal id (e.Literal Null) ∷ []) ≡ None
 unfolding sought_key
 no_null = simp folds refl
+
+-- ---- joined tables
+
+-- a row of `t` and behind it the columns of `p`, whose room is that of the row and whose name is told
+abbrev room : Expr
+room = field 2 affinity.Integer
+
+abbrev other_name : Expr
+other_name = field 3 affinity.Text
+
+abbrev rows_of_t : Partner
+rows_of_t = record { start = 0; rows = (Int (pos 1) ∷ Text (codes "b") ∷ []) ∷ (Int (pos 2) ∷ Null ∷ []) ∷ [] }
+
+-- room = t.id AND name = t.name: no row where that is NULL
+beside_rows : joined_keys 2 p [] (comparison c.Equal room id ∷ comparison c.Equal other_name name ∷ []) (rows_of_t ∷ [])
+    ≡ Some (packed (Text (codes "b") ∷ Int (pos 1) ∷ []) ∷ [])
+beside_rows = simp folds refl
+
+-- room = t.id AND name = 'a', and without rows of another table
+constants_too : joined_keys 2 p [] (comparison c.Equal room id ∷ comparison c.Equal other_name (text (codes "a")) ∷ []) (rows_of_t ∷ [])
+    ≡ Some (packed (Text (codes "a") ∷ Int (pos 1) ∷ []) ∷ packed (Text (codes "a") ∷ Int (pos 2) ∷ []) ∷ [])
+constants_too = simp folds refl
+
+by_constants : joined_keys 2 p [] (comparison c.Equal room one ∷ comparison c.Equal other_name (text (codes "a")) ∷ []) (no_row ∷ [])
+    ≡ Some (packed (Text (codes "a") ∷ Int (pos 1) ∷ []) ∷ [])
+by_constants = simp folds refl
+
+-- room = t.id alone
+one_of_two_beside : joined_keys 2 p [] (comparison c.Equal room id ∷ []) (rows_of_t ∷ []) ≡ None
+one_of_two_beside = simp folds refl

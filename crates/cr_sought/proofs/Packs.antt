@@ -16,7 +16,7 @@ use Rattle.cr_delta.proofs.KeyCells.{place_at}
 use Rattle.cr_term.specs.declared.expr.Expr.{Expr}
 use Rattle.cr_scalar.specs.Numbers.{is_null}
 use Rattle.cr_bags.specs.Bags.{gather, joins, single}
-use Rattle.cr_sought.specs.Sought.{can_pack, key_from, pinned, sought_part}
+use Rattle.cr_sought.specs.Sought.{Beside, can_pack, key_from, pinned, sought_part}
 
 -- ---- packing
 
@@ -69,9 +69,9 @@ joins_one : {X : Type 0} (xs : List X) (x : X) (o : Option (List X))
 joins_one xs x None = refl
 joins_one xs x (Some ys) = ap (λ l. Some l) (append_assoc xs (single x) ys)
 
-module _ (def : TableDef) (params : List Value) (terms : List Expr) (place : ℕ) (low : 1 ≤ place) (high : place < 9) (vs : List Value) where
+module _ (b : Beside) (base : ℕ) (def : TableDef) (params : List Value) (terms : List Expr) (place : ℕ) (low : 1 ≤ place) (high : place < 9) (vs : List Value) where
   abbrev part : ℕ → Option (List Value)
-  part = sought_part def params terms
+  part = sought_part b base def params terms
 
   abbrev column : Option ℕ
   column = position (stands_at place) def.columns
@@ -87,13 +87,13 @@ module _ (def : TableDef) (params : List Value) (terms : List Expr) (place : ℕ
   here o e = ap (λ ps. joins (Some vs) (gather part ps)) (left_at place low high) ∙ ap (λ p. joins (Some vs) (joins p others)) e
 
   abbrev pinned_at : Option ℕ → Option (List Value)
-  pinned_at o = option_map_or (λ at. option_map single (pinned params terms at)) o (Some [])
+  pinned_at o = option_map_or (λ at. option_map single (pinned b params terms (base + at))) o (Some [])
 
   pub no_column : column ≡ None → joins (Some vs) others ≡ before
   no_column e = ap (joins (Some vs)) (sym (joins_first others)) ∙ sym (here (Some []) (ap pinned_at e))
 
-  pub no_value : (at : ℕ) → column ≡ Some at → pinned params terms at ≡ None → None ≡ before
+  pub no_value : (at : ℕ) → column ≡ Some at → pinned b params terms (base + at) ≡ None → None ≡ before
   no_value at e none = sym (here None (ap pinned_at e ∙ ap (option_map single) none))
 
-  pub one_value : (at : ℕ) (v : Value) → column ≡ Some at → pinned params terms at ≡ Some v → joins (Some (vs ++ v ∷ [])) others ≡ before
+  pub one_value : (at : ℕ) (v : Value) → column ≡ Some at → pinned b params terms (base + at) ≡ Some v → joins (Some (vs ++ v ∷ [])) others ≡ before
   one_value at v e some = joins_one vs v others ∙ sym (here (Some (single v)) (ap pinned_at e ∙ ap (option_map single) some))

@@ -1,7 +1,7 @@
 -- A term that pins a column is quiet, and not true on a row that has another value there.
 use Rattle.std.proofs.Common.{◌≡◌, inl, inr, ℕ, ℤ, ◌≤ℤ◌, int_cmp, arith, Bool, true, false, ◌&&◌, ◌||◌, if◌then◌else◌, cond, List, [], ◌∷◌, ◌++◌, map, get_or, Option, Some, None, Ok, refl, sym, ap, subst, ◌∙◌, Ordering, Less, Equal, Greater}
 use Rattle.std.proofs.lemmas.Int.{ints}
-use Rattle.std.specs.Prelude.{◌-◌, ◌==◌, int_lt}
+use Rattle.std.specs.Prelude.{◌-◌, ◌==◌, int_lt, nat_lt, slice_get}
 use Rattle.std.specs.List.{list_any}
 use Rattle.std.specs.Option.{option_map_or, option_and_then, option_or}
 use Rattle.std.specs.FinSet.{int_cmp-IsAntisymmetric}
@@ -45,7 +45,7 @@ use Rattle.cr_meaning.specs.View as view
 use Rattle.cr_meaning.specs.Meaning as queries
 use Rattle.cr_meaning.proofs.Limits.{safe}
 use Rattle.cr_exec.specs.Equalities.{OrdersBytes}
-use Rattle.cr_sought.specs.Sought.{no_arm, column_layer, column_under, constant_layer, constant, is_column, on_left, on_right, pin_in, pin, pinned}
+use Rattle.cr_sought.specs.Sought.{Beside, no_arm, alone, column_layer, column_under, constant_layer, constant, held, is_column, known, on_left, on_right, pin_in, pin, pinned}
 use Rattle.cr_sought.specs.Bounds.{bound_in, bound, integer, lower_bound}
 use Rattle.cr_sought.proofs.Keys.{Differs}
 
@@ -108,6 +108,31 @@ column_has s e at h = by (column_under e) refl h where
   by None is h = absurd cc
   by (Some c) is h = subst (λ n. Has s e (get_or s.row n Null)) (eqb-true c.at at h) ((says e s).0 c is)
 
+-- ---- beside a row of another table
+
+-- each column of the row has its value in the combination
+abbrev pub StandsIn : Row → Beside → Type 0
+StandsIn c b = (at : ℕ) (v : Value) → held b at ≡ Some v → get_or c at Null ≡ v
+
+pub alone_stands : (c : Row) → StandsIn c alone
+alone_stands c at v h = by (nat_lt at 0) h where
+  no_values : List Value
+  no_values = []
+
+  by : (b : Bool) → cond b None (slice_get no_values (at - 0)) ≡ Some v → get_or c at Null ≡ v
+  by true k = absurd cc
+  by false k = absurd cc
+
+known_has : (s : Setting) (b : Beside) → StandsIn s.row b → (e : Expr) (v : Value) → known b s.params e ≡ Some v → Has s e v
+known_has s b stands e v h = by (constant s.params e) refl h where
+  beside : (o : Option Field) → column_under e ≡ o → option_and_then (λ c. held b c.at) o ≡ Some v → Has s e v
+  beside None is k = absurd cc
+  beside (Some c) is k = subst (Has s e) (stands c.at v k) ((says e s).0 c is)
+
+  by : (o : Option Value) → constant s.params e ≡ o → option_or o (option_and_then (λ c. held b c.at) (column_under e)) ≡ Some v → Has s e v
+  by None is k = beside (column_under e) refl k
+  by (Some u) is k = (says e s).1 v (is ∙ k)
+
 -- ---- what ties
 
 tied_is : (order : List ℕ → List ℕ → Ordering) → ((s t : List ℕ) → order s t ≡ Equal → s ≡ t) → (a b : Value)
@@ -136,6 +161,17 @@ module _ (host : Host) (bytes : OrdersBytes host) (m : Meeting) (is : same_bytes
     by false h =
         tied_is (host.order m.collation) exact (adjusted_left m.adjusted v) (adjusted_right m.adjusted w)
         (passes_is (meets host.order m v w) h)
+
+-- NULL is equal to nothing
+null_left : (order : List ℕ → List ℕ → List ℕ → Ordering) (m : Meeting) (v u : Value) → v ≡ Null → compared order c.Equal m v u ≡ Some true → ⊥
+null_left order m v u e h =
+    let k : compared order c.Equal m Null u ≡ Some true = ap (λ x. compared order c.Equal m x u) (sym e) ∙ h in absurd cc
+
+null_right : (order : List ℕ → List ℕ → List ℕ → Ordering) (m : Meeting) (u v : Value) → v ≡ Null → compared order c.Equal m u v ≡ Some true → ⊥
+null_right order m u v e h = by (is_null u) (ap (λ x. compared order c.Equal m u x) (sym e) ∙ h) where
+  by : (b : Bool) → (if b || true then None else Some (passes c.Equal (meets order m u Null))) ≡ Some true → ⊥
+  by true k = absurd cc
+  by false k = absurd cc
 
 of_right : (a : Adjusted) (v u w : Value) → on_right a u ≡ Some w → adjusted_left a v ≡ adjusted_right a u → v ≡ w
 of_right Neither v u w e h = h ∙ some_is u w e
@@ -227,21 +263,26 @@ module _ (host : Host) (bytes : OrdersBytes host) (params : List Value) (row : R
         ∙ untrue (compared host.order op m v w) never,
   )
 
-  misses : (y : Layer) (at : ℕ) (w : Value) → pin_in params at y ≡ Some w → (get_or row at Null ≡ w → ⊥) → Misses y
-  misses (Compare c.Equal m x y) at w h differs =
-      let b = provided (same_bytes m.collation binary) _ w h in
-      elim (chosen (is_column at x) _ _ (Some w) b.1) [
+  misses : (b : Beside) → StandsIn row b → (y : Layer) (at : ℕ) (w : Value) → pin_in b params at y ≡ Some w → (get_or row at Null ≡ w → w ≡ Null) → Misses y
+  misses b stands (Compare c.Equal m x y) at w h differs =
+      let p = provided (same_bytes m.collation binary) _ w h in
+      let v = get_or row at Null in
+      elim (chosen (is_column at x) _ _ (Some w) p.1) [
         | inl l ↦ (
-            let k = then_some (on_right m.adjusted) (constant params y) w l.1 in
-            two_miss c.Equal m x y (get_or row at Null) k.0 (column_has here x at l.0) ((says y here).1 k.0 k.1)
-            (λ so. differs (of_right m.adjusted (get_or row at Null) k.0 w k.2 (met host bytes m b.0 (get_or row at Null) k.0 so))))
+            let k = then_some (on_right m.adjusted) (known b params y) w l.1 in
+            two_miss c.Equal m x y v k.0 (column_has here x at l.0) (known_has here b stands y k.0 k.1)
+            (λ so. (
+            let same = of_right m.adjusted v k.0 w k.2 (met host bytes m p.0 v k.0 so) in
+            null_left host.order m v k.0 (same ∙ differs same) so)))
         | inr other ↦ (
             let r = provided (is_column at y) _ w other.1 in
-            let k = then_some (on_left m.adjusted) (constant params x) w r.1 in
-            two_miss c.Equal m x y k.0 (get_or row at Null) ((says x here).1 k.0 k.1) (column_has here y at r.0)
-            (λ so. differs (of_left m.adjusted (get_or row at Null) k.0 w k.2 (met host bytes m b.0 k.0 (get_or row at Null) so))))
+            let k = then_some (on_left m.adjusted) (known b params x) w r.1 in
+            two_miss c.Equal m x y k.0 v (known_has here b stands x k.0 k.1) (column_has here y at r.0)
+            (λ so. (
+            let same = of_left m.adjusted v k.0 w k.2 (met host bytes m p.0 k.0 v so) in
+            null_right host.order m k.0 v (same ∙ differs same) so)))
       ]
-  misses _ at w h differs = absurd cc
+  misses b stands _ at w h differs = absurd cc
 
   misses_above : (y : Layer) (at : ℕ) (n v : ℤ) → bound_in params at y ≡ Some (Int n) → get_or row at Null ≡ Int v → v ≤ℤ n → Misses y
   misses_above (Compare c.Greater m x y) at n v h is low =
@@ -260,10 +301,10 @@ module _ (host : Host) (bytes : OrdersBytes host) (params : List Value) (row : R
     abbrev m : Meant_by Ordered
     m = queries.meaning most host params
 
-    term_misses : (e : Expr) (at : ℕ) (w : Value) → pin params at e ≡ Some w → (get_or row at Null ≡ w → ⊥)
+    term_misses : (b : Beside) → StandsIn row b → (e : Expr) (at : ℕ) (w : Value) → pin b params at e ≡ Some w → (get_or row at Null ≡ w → w ≡ Null)
         → (quiet e ≡ true) × (is_true m (view.plain e) row ≡ Some false)
-    term_misses e at w h differs =
-        let k = misses (out-Expr e) at w h differs in
+    term_misses b stands e at w h differs =
+        let k = misses b stands (out-Expr e) at w h differs in
         let so : Meant → Option Bool = λ m. option_and_then (λ v. queries.is_so (truth v)) (queries.value_of m) in
         (k.0, ap (λ b. so (eval_of (queries.at_row (cond b None most) host params row) e)) k.0 ∙ ap so (one_node here e) ∙ k.1)
 
@@ -272,17 +313,21 @@ module _ (host : Host) (bytes : OrdersBytes host) (params : List Value) (row : R
     abbrev pub is_missed : Ordered → Bool
     is_missed e = m.quiet e && is_false (is_true m e row)
 
-    abbrev any_missed : List Expr → Bool
+    abbrev pub any_missed : List Expr → Bool
     any_missed terms = list_any is_missed (map view.plain terms)
 
-    some_miss : (terms : List Expr) (at : ℕ) (w : Value) → pinned params terms at ≡ Some w → (get_or row at Null ≡ w → ⊥)
+    some_miss : (b : Beside) → StandsIn row b → (terms : List Expr) (at : ℕ) (w : Value) → pinned b params terms at ≡ Some w → (get_or row at Null ≡ w → w ≡ Null)
         → any_missed terms ≡ true
-    some_miss [] at w h differs = absurd cc
-    some_miss (e ∷ es) at w h differs =
-        elim (pin params at e) as (λ o. pin params at e ≡ o → option_or o (pinned params es at) ≡ Some w → any_missed (e ∷ es) ≡ true) [
-          | None ↦ λ is k. or_right _ _ (some_miss es at w k differs)
-          | Some u ↦ λ is k. (let t = term_misses e at w (is ∙ k) differs in or_left _ _ (λ i. t.0 i && is_false (t.1 i)))
+    some_miss b stands [] at w h differs = absurd cc
+    some_miss b stands (e ∷ es) at w h differs =
+        elim (pin b params at e) as (λ o. pin b params at e ≡ o → option_or o (pinned b params es at) ≡ Some w → any_missed (e ∷ es) ≡ true) [
+          | None ↦ λ is k. or_right _ _ (some_miss b stands es at w k differs)
+          | Some u ↦ λ is k. (let t = term_misses b stands e at w (is ∙ k) differs in or_left _ _ (λ i. t.0 i && is_false (t.1 i)))
         ] refl h
+
+    -- some term is not true where the terms pin a column to another value than the combination has there
+    pub differing : (b : Beside) → StandsIn row b → (terms : List Expr) → Differs b params terms row → any_missed terms ≡ true
+    differing b stands terms d = some_miss b stands terms d.at d.wanted d.pins d.differs
 
     term_misses_above : (e : Expr) (at : ℕ) (n v : ℤ) → bound params at e ≡ Some (Int n) → get_or row at Null ≡ Int v → v ≤ℤ n
         → (quiet e ≡ true) × (is_true m (view.plain e) row ≡ Some false)
@@ -307,18 +352,21 @@ module _ (host : Host) (bytes : OrdersBytes host) (params : List Value) (row : R
     abbrev like : Meant_by Ordered
     like = record m { over = λ e g. None; order = λ e. value_cmp }
 
+    -- terms of which some is not true are not all true, and do not fault
+    pub missed_rejects : (terms : List Ordered) → list_any is_missed terms ≡ true → holds m terms row ≡ Some false
+    missed_rejects terms h =
+        rejected like (record { order_total = λ e. value_total; over_bag = λ e k cs ds s. refl }) (safe most host params) terms row h
+
     -- terms that pin a column to another value than the row has there are not all true on it, and do not fault
-    pub rejects : (front : List Ordered) (terms : List Expr) → Differs params terms row
+    pub rejects : (front : List Ordered) (terms : List Expr) → Differs alone params terms row
         → holds m (front ++ map view.plain terms) row ≡ Some false
     rejects front terms d =
-        rejected like (record { order_total = λ e. value_total; over_bag = λ e k cs ds s. refl }) (safe most host params)
-        (front ++ map view.plain terms) row
-        (list_any-append is_missed front (map view.plain terms) ∙ or_right _ _ (some_miss terms d.at d.wanted d.pins d.differs))
+        missed_rejects (front ++ map view.plain terms)
+        (list_any-append is_missed front (map view.plain terms) ∙ or_right _ _ (differing alone (alone_stands row) terms d))
 
     -- so it is with terms that want a column above an integer, where the row has one there that is not
     pub rejects_below : (front : List Ordered) (terms : List Expr) (at : ℕ) (n v : ℤ) → lower_bound params terms at ≡ Some n
         → get_or row at Null ≡ Int v → v ≤ℤ n → holds m (front ++ map view.plain terms) row ≡ Some false
     rejects_below front terms at n v h is low =
-        rejected like (record { order_total = λ e. value_total; over_bag = λ e k cs ds s. refl }) (safe most host params)
-        (front ++ map view.plain terms) row
+        missed_rejects (front ++ map view.plain terms)
         (list_any-append is_missed front (map view.plain terms) ∙ or_right _ _ (some_miss_above terms at n v h is low))

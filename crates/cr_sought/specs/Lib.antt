@@ -2,3 +2,4 @@ pub mod Sought
 pub mod Laws
 pub mod Writes
 pub mod Bounds
+pub mod Joins

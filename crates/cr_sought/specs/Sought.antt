@@ -1,6 +1,6 @@
--- Which key the terms of a WHERE ask for: the values that `column = constant` gives to the key columns. Source: this
--- project's own.
-use Rattle.std.specs.Prelude.{ℕ, ◌-◌, ◌==◌, Bool, false, not, ◌&&◌, nat_lt, nat_le, cond, List, [], ◌∷◌, length, get_or, slice_get, Option, Some, None}
+-- Which key the terms of a WHERE ask for: the values that `column = constant` gives to the key columns, and in a join
+-- `column = column` beside a row of another table. Source: this project's own.
+use Rattle.std.specs.Prelude.{ℕ, ◌+◌, ◌-◌, ◌==◌, Bool, false, not, ◌&&◌, nat_lt, nat_le, cond, List, [], ◌∷◌, length, get_or, slice_get, Option, Some, None}
 use Rattle.std.specs.List.{list_any, position}
 use Rattle.std.specs.Option.{option_and_then, option_map, option_map_or, option_or}
 use Rattle.cr_value.specs.declared.value.Value.{Value}
@@ -23,6 +23,8 @@ use Rattle.cr_term.specs.Operands.{binary}
 use Rattle.cr_term.specs.Same.{Layer}
 use Rattle.cr_scalar.specs.Numbers.{is_null}
 use Rattle.cr_bags.specs.Bags.{gather, single}
+use Rattle.cr_sought.specs.declared.beside.Beside.{Beside as Borrowed}
+use Rattle.cr_sought.specs.declared.joined.Partner.{Partner}
 
 -- ---- operands
 
@@ -52,6 +54,28 @@ constant params = fold-Expr (Option Value) (Unit {0}) (constant_layer params) no
 abbrev pub is_column : ℕ → Expr → Bool
 is_column at x = option_map_or (λ c. c.at == at) (column_under x) false
 
+-- ---- a row of another table
+
+-- a row, and the place of its first column in a combination
+pub record Beside : Type 0 where
+  pub start : ℕ
+  pub row : List Value
+
+abbrev pub standing : Borrowed → Beside
+standing b = record { start = b.start; row = b.row.now }
+
+-- no row of another table
+abbrev pub alone : Beside
+alone = record { start = 0; row = [] }
+
+-- the value of the column at a place of the combination, where that row has one there
+abbrev pub held : Beside → ℕ → Option Value
+held b at = cond (nat_lt at b.start) None (slice_get b.row (at - b.start))
+
+-- the value of a literal or a parameter, or of a column of that row, possibly under COLLATE
+abbrev pub known : Beside → List Value → Expr → Option Value
+known b params e = option_or (constant params e) (option_and_then (λ c. held b c.at) (column_under e))
+
 -- ---- terms that pin a column
 
 -- what a comparison makes of its right operand, where it leaves the left one as it is
@@ -66,34 +90,35 @@ on_left Neither v = Some v
 on_left (Left a) v = Some (applied a v)
 on_left (Right a) v = None
 
-abbrev pub pin_in : List Value → ℕ → Layer → Option Value
-pin_in params at (Compare Equal m x y) =
+abbrev pub pin_in : Beside → List Value → ℕ → Layer → Option Value
+pin_in b params at (Compare Equal m x y) =
     cond (same_bytes m.collation binary)
-    (cond (is_column at x) (option_and_then (on_right m.adjusted) (constant params y))
-    (cond (is_column at y) (option_and_then (on_left m.adjusted) (constant params x)) None))
+    (cond (is_column at x) (option_and_then (on_right m.adjusted) (known b params y))
+    (cond (is_column at y) (option_and_then (on_left m.adjusted) (known b params x)) None))
     None
-pin_in params at _ = None
+pin_in b params at _ = None
 
--- The only value of the column at this place on which the term can be true, where the term is `column = constant` or
--- `constant = column`, byte by byte, and leaves the column's value as it is.
-abbrev pub pin : List Value → ℕ → Expr → Option Value
-pin params at e = pin_in params at (out-Expr e)
+-- The only value of the column at this place on which the term can be true beside the row, where the term is
+-- `column = operand` or `operand = column`, byte by byte, and leaves the column's value as it is.
+abbrev pub pin : Beside → List Value → ℕ → Expr → Option Value
+pin b params at e = pin_in b params at (out-Expr e)
 
 -- by the first term that pins it
-abbrev pub pinned : List Value → List Expr → ℕ → Option Value
-pinned params [] at = None
-pinned params (e ∷ es) at = option_or (pin params at e) (pinned params es at)
+abbrev pub pinned : Beside → List Value → List Expr → ℕ → Option Value
+pinned b params [] at = None
+pinned b params (e ∷ es) at = option_or (pin b params at e) (pinned b params es at)
 
 -- ---- the key
 
--- the value that the key column at a place of the key is pinned to, if a column stands there
-abbrev pub sought_part : TableDef → List Value → List Expr → ℕ → Option (List Value)
-sought_part def params terms place =
-    option_map_or (λ at. option_map single (pinned params terms at)) (position (stands_at place) def.columns) (Some [])
+-- the value that the key column at a place of the key is pinned to, if a column stands there; the columns of the table begin
+-- at this place of a combination
+abbrev pub sought_part : Beside → ℕ → TableDef → List Value → List Expr → ℕ → Option (List Value)
+sought_part b base def params terms place =
+    option_map_or (λ at. option_map single (pinned b params terms (base + at))) (position (stands_at place) def.columns) (Some [])
 
 -- the values that all key columns are pinned to, in the order of their places in the key
-abbrev pub sought_values : TableDef → List Value → List Expr → Option (List Value)
-sought_values def params terms = gather (sought_part def params terms) key_places
+abbrev pub sought_values : Beside → ℕ → TableDef → List Value → List Expr → Option (List Value)
+sought_values b base def params terms = gather (sought_part b base def params terms) key_places
 
 -- some values, none of them NULL
 abbrev pub can_pack : List Value → Bool
@@ -105,7 +130,28 @@ key_from vs = cond (can_pack vs && nat_le (length (packed vs)) size_limit) (Some
 
 -- The packed key of the only row of the table on which the terms can be true, where they pin each column of its key.
 unfoldable pub sought_key : TableDef → List Value → List Expr → Option (List ℕ)
-sought_key def params terms = option_and_then key_from (sought_values def params terms)
+sought_key def params terms = option_and_then key_from (sought_values alone 0 def params terms)
+
+-- the key of the row that is joined where its key has these values: of none where one is NULL
+abbrev pub joined_key : List Value → Option (Option (List ℕ))
+joined_key vs = cond (list_any is_null vs) (Some None) (option_map Some (key_from vs))
+
+abbrev pub key_or_none : Option (List ℕ) → List (List ℕ)
+key_or_none None = []
+key_or_none (Some pk) = single pk
+
+-- The keys of the rows of a table that can be joined with a row of another, where the terms tell them.
+abbrev pub keys_beside : ℕ → TableDef → List Value → List Expr → Beside → Option (List (List ℕ))
+keys_beside base def params terms b = option_map key_or_none (option_and_then joined_key (sought_values b base def params terms))
+
+-- with each row of another
+abbrev pub keys_by : ℕ → TableDef → List Value → List Expr → Partner → Option (List (List ℕ))
+keys_by base def params terms p = gather (λ r. keys_beside base def params terms (record { start = p.start; row = r })) p.rows
+
+-- by the first of other tables by which the terms tell them
+abbrev pub joined_keys : ℕ → TableDef → List Value → List Expr → List Partner → Option (List (List ℕ))
+joined_keys base def params terms [] = None
+joined_keys base def params terms (p ∷ ps) = option_or (keys_by base def params terms p) (joined_keys base def params terms ps)
 
 -- ---- assignments
 

@@ -1,12 +1,13 @@
 //! The key that the terms of a WHERE ask for.
 
-ghost use Rattle.std.specs.Prelude.{◌≡◌, ◌≤◌, IfOk, length, position};
+ghost use Rattle.std.specs.Prelude.{◌≡◌, ◌≤◌, ◌+◌, IfOk, length, position};
 ghost use Rattle.std.specs.List.{list_any};
 ghost use Rattle.std.specs.Option.{option_map};
 ghost use Rattle.cr_lattice.specs.Check.{stands_at};
 ghost use Rattle.cr_scalar.specs.Numbers.{is_null};
-ghost use Rattle.cr_sought.specs.Sought.{assigns_key, can_pack, is_to_key, key_from, sought_key, sought_values};
+ghost use Rattle.cr_sought.specs.Sought.{assigns_key, can_pack, is_to_key, key_from, sought_key, sought_values, standing};
 
+use crate::beside::Beside;
 use crate::pin::pinned;
 use cr_lattice::table::{ColumnDef, TableDef};
 use cr_scalar::compare::is_null;
@@ -24,19 +25,33 @@ fn key_column(columns: &[ColumnDef], place: u8) -> Option<usize>
     columns.iter().position(|column| column.key == Some(place))
 }
 
-// The values that the terms pin all key columns to, in the order of the key.
-fn sought_values(
+// A place so far behind another. A combination of more columns than there are numbers does not fit in memory.
+fn place_from(base: usize, at: usize) -> Result<usize, AllocError>
+    ensures { IfOk result (λ place. place ≡ base + at) }
+{
+    match base.checked_add(at) {
+        Some(place) => Ok(place),
+        None => Err(AllocError),
+    }
+}
+
+// The values that the terms pin all key columns to beside a row, in the order of the key; the table's columns begin at a place
+// of a combination.
+pub(crate) fn sought_values(
     alloc: Global,
+    beside: &Beside<'_>,
+    base: usize,
     definition: &TableDef,
     params: &[Value],
     terms: &[Expr],
 ) -> Result<Option<Vec<Value>>, AllocError>
-    ensures { IfOk result (λ o. option_map (λ v. v.items) o ≡ sought_values definition.now params.now terms.now) }
+    ensures { IfOk result (λ o. option_map (λ v. v.items) o ≡ sought_values (standing beside.now) base definition.now params.now terms.now) }
 {
     let mut values = Vec::new(alloc);
     for place in 1..9 {
         if let Some(at) = key_column(definition.columns.as_slice(), place) {
-            match pinned(alloc, params, terms, at)? {
+            let column = place_from(base, at)?;
+            match pinned(alloc, beside, params, terms, column)? {
                 Some(value) => values.push(value)?,
                 None => return Ok(None),
             }
@@ -45,7 +60,7 @@ fn sought_values(
     Ok(Some(values))
 }
 
-fn has_null(values: &[Value]) -> bool
+pub(crate) fn has_null(values: &[Value]) -> bool
     ensures { result ≡ list_any is_null values.now }
 {
     values.iter().any(|value| is_null(value))
@@ -59,7 +74,7 @@ fn can_pack(values: &[Value]) -> bool
 }
 
 // The key that values are packed as; `None` where there are none, one is NULL, or it has over 1,000,000 bytes.
-fn key_from(alloc: Global, values: &[Value]) -> Result<Option<Bytes>, AllocError>
+pub(crate) fn key_from(alloc: Global, values: &[Value]) -> Result<Option<Bytes>, AllocError>
     requires { length values.now ≤ 8 }
     ensures { IfOk result (λ o. o ≡ key_from values.now) }
 {
@@ -86,7 +101,8 @@ pub fn sought_key(
 ) -> Result<Option<Bytes>, AllocError>
     ensures { IfOk result (λ o. o ≡ sought_key definition.now params.now terms.now) }
 {
-    match sought_values(alloc, definition, params, terms)? {
+    let alone = Beside { start: 0, row: &[] };
+    match sought_values(alloc, &alone, 0, definition, params, terms)? {
         Some(values) => key_from(alloc, &values),
         None => Ok(None),
     }

@@ -2,7 +2,9 @@
 //! integer need no row that isn't.
 #![tactic(auto)]
 
+pub mod beside;
 pub mod bound;
+pub mod joined;
 pub mod key;
 pub mod laws;
 pub mod pin;

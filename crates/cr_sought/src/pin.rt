@@ -2,8 +2,9 @@
 
 ghost use Rattle.std.specs.Prelude.{◌≡◌, IfOk};
 ghost use Rattle.std.specs.Option.{option_map};
-ghost use Rattle.cr_sought.specs.Sought.{column_under, constant, is_column, on_left, on_right, pin, pinned};
+ghost use Rattle.cr_sought.specs.Sought.{column_under, constant, is_column, on_left, on_right, pin, pinned, standing};
 
+use crate::beside::{Beside, known};
 use cr_lattice::profile::BINARY;
 use cr_scalar::operand::Operand;
 use cr_term::expr::Expr;
@@ -75,9 +76,15 @@ pub fn on_left(
     }
 }
 
-// The only value of the column at a place on which a term can be true, if the term tells it.
-fn pin(alloc: Global, params: &[Value], at: usize, term: &Expr) -> Result<Option<Value>, AllocError>
-    ensures { IfOk result (λ o. o ≡ pin params.now at term.now) }
+// The only value of the column at a place on which a term can be true beside a row, if the term tells it.
+fn pin(
+    alloc: Global,
+    beside: &Beside<'_>,
+    params: &[Value],
+    at: usize,
+    term: &Expr,
+) -> Result<Option<Value>, AllocError>
+    ensures { IfOk result (λ o. o ≡ pin (standing beside.now) params.now at term.now) }
 {
     let Expr::Compare(Comparison::Equal, meeting, left, right) = term else {
         return Ok(None);
@@ -86,12 +93,12 @@ fn pin(alloc: Global, params: &[Value], at: usize, term: &Expr) -> Result<Option
         return Ok(None);
     }
     if is_column(at, left.get()) {
-        match constant(params, right.get()) {
+        match known(beside, params, right.get()) {
             Some(value) => on_right(alloc, meeting.adjusted, value),
             None => Ok(None),
         }
     } else if is_column(at, right.get()) {
-        match constant(params, left.get()) {
+        match known(beside, params, left.get()) {
             Some(value) => on_left(alloc, meeting.adjusted, value),
             None => Ok(None),
         }
@@ -103,14 +110,15 @@ fn pin(alloc: Global, params: &[Value], at: usize, term: &Expr) -> Result<Option
 // The value by the first term that tells it.
 pub(crate) fn pinned(
     alloc: Global,
+    beside: &Beside<'_>,
     params: &[Value],
     terms: &[Expr],
     at: usize,
 ) -> Result<Option<Value>, AllocError>
-    ensures { IfOk result (λ o. o ≡ pinned params.now terms.now at) }
+    ensures { IfOk result (λ o. o ≡ pinned (standing beside.now) params.now terms.now at) }
 {
     for term in terms {
-        if let Some(value) = pin(alloc, params, at, term)? {
+        if let Some(value) = pin(alloc, beside, params, at, term)? {
             return Ok(Some(value));
         }
     }

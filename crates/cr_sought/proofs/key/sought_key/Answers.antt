@@ -2,14 +2,14 @@ use Rattle.std.proofs.Common.{◌≡◌, ◌≤◌, length, sym, ap, subst, ◌�
 use Rattle.std.specs.Prelude.{IfOk}
 use Rattle.std.specs.Option.{option_map, option_and_then}
 use Rattle.cr_delta.specs.Key.{key_places}
-use Rattle.cr_sought.specs.Sought.{key_from, sought_key}
+use Rattle.cr_sought.specs.Sought.{alone, key_from, sought_key}
 use Rattle.cr_sought.proofs.Keys.{few}
 use Rattle.cr_sought.proofs.key.sought_key.Goals as goal
 
 pub key_from-requires : goal.key_from-requires
 key_from-requires c =
     subst (λ vs. length vs ≤ 8) (sym c.deref.ensures.value)
-    (few c.args.definition.now c.args.params.now c.args.terms.now key_places c.in-Some.values.items
+    (few alone 0 c.args.definition.now c.args.params.now c.args.terms.now key_places c.in-Some.values.items
     (sym c.in_ok-values.ensures ∙ ap (option_map (λ v. v.items)) c.in-Some.is))
 
 pub returns-in-Some : goal.returns-in-Some
