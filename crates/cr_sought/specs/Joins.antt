@@ -41,7 +41,7 @@ AreWide (j ∷ js) (t ∷ ts) = AllByRecursion (λ r. length r ≡ width j) t ×
 
 -- the most rows of a table by which others are looked up
 abbrev pub most_rows : ℕ
-most_rows = 256
+most_rows = 4096
 
 -- without rows of another table
 abbrev pub no_row : Partner

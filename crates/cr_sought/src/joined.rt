@@ -19,8 +19,8 @@ use cr_value::text::Bytes;
 use cr_value::value::Value;
 use std::alloc::{AllocError, Global};
 
-/// The most rows of a table by which others are looked up: beyond them a look-up of each costs more than to read a table.
-const MOST_ROWS: usize = 256;
+/// The most rows of a table by which others are looked up, since they are copied for it.
+const MOST_ROWS: usize = 4096;
 
 /// Rows of a table, and the place of its first column in a combination.
 #[derive(Drop)]
@@ -167,7 +167,7 @@ fn partner_rows(alloc: Global, joined: &Joined, rows: &[Row]) -> Result<Items<Ro
     Ok(Items::new(copies))
 }
 
-/// Adds the rows of a table of a join to those by which others are looked up, unless it has over 256. Its columns begin at
+/// Adds the rows of a table of a join to those by which others are looked up, unless it has over 4,096. Its columns begin at
 /// `start` in a combination. Fails for want of memory alone.
 pub fn push_partner(
     alloc: Global,
