@@ -3,3 +3,4 @@ pub mod Showing
 pub mod Updating
 pub mod Hearing
 pub mod ByPlan
+pub mod Defining

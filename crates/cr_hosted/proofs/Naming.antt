@@ -119,7 +119,7 @@ first_found : (m : ModuleState) (b : Bool) (o : Option ModuleState) (p : Option 
 first_found m true o p e = refl
 first_found m false o p e = e
 
-found_of : (name : List ℕ) (ms : List ModuleState) → find (λ (d : TableDef). same_bytes d.name name) (map module_definition ms) ≡ option_map module_definition (module_in ms name)
+pub found_of : (name : List ℕ) (ms : List ModuleState) → find (λ (d : TableDef). same_bytes d.name name) (map module_definition ms) ≡ option_map module_definition (module_in ms name)
 found_of name [] = refl
 found_of name (m ∷ ms) = first_found m (is_module name m) (module_in ms name) (find (λ (d : TableDef). same_bytes d.name name) (map module_definition ms)) (found_of name ms)
 

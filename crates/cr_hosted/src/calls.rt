@@ -1,31 +1,72 @@
-//! The calls of a session that name no module: changes are taken, given and pulled, rows shown. The modules stand as they stood.
+//! The calls of a session that are no SQL: tables are defined, changes taken, given and pulled, rows shown. The modules stand as
+//! they stood.
+
+ghost use Rattle.std.specs.Prelude.{◌≡◌, ◌⊎◌};
+ghost use Rattle.cr_world.specs.declared.refusal.Refusal.TheVariants.{Memory};
+ghost use Rattle.cr_hosted.specs.Hosted.{taken_name};
 
 use crate::session::HostedSession;
 use cr_cells::marks::Mark;
 use cr_cells::store::{Cells, CellsError};
 use cr_guard::guarding::Guarding;
+use cr_host::functions::Functions;
 use cr_lattice::change::{Change, Site};
+use cr_lattice::profile::profile;
 use cr_lattice::stamped::Stamped;
-use cr_lattice::table::{Items, Row};
+use cr_lattice::table::{Items, Row, TableDef};
 use cr_module::module::Module;
-use cr_script::speaking::Watching;
+use cr_replica::definition::DefineError;
+use cr_script::executor::Executor;
+use cr_script::speaking::{Speaking, Watching};
 use cr_session::session::Session;
-use cr_world::refusal::Refusal;
+use cr_world::refusal::{Refusal, of_definition};
 use std::alloc::Global;
 
+// What is told of a definition whose name a module has: what it breaks by itself, or else that the name is taken.
+fn of_taken_name(alloc: Global, def: &TableDef) -> Refusal
+    ensures { (result ≡ Memory) ⊎ (result ≡ taken_name def.now) }
+{
+    match profile(def) {
+        Ok(()) => of_definition(alloc, def, DefineError::TableExists),
+        Err(fault) => of_definition(alloc, def, DefineError::Profile(fault)),
+    }
+}
+
 impl<C: Cells, M: Module> HostedSession<C, M> {
-    ghost use Rattle.std.specs.Prelude.{◌≡◌, ◌≤ℤ◌, None, Some, pos};
+    ghost use Rattle.std.specs.Prelude.{◌≤ℤ◌, ℕ, Bool, List, None, Some, pos, true};
     ghost use Rattle.cr_cells.specs.Calls.{Reads, UnlessWant, is_want};
     ghost use Rattle.cr_cells.specs.Marks.{seen_of};
+    ghost use Rattle.cr_cells.specs.Tables.{has_folded_names};
     ghost use Rattle.cr_meaning.specs.View.{Ordered};
     ghost use Rattle.cr_script.specs.Hearing.{Hears};
-    ghost use Rattle.cr_session.specs.Sessions.{Does, PullsUnless, TakesUnless, changes_reply, clean, honest, rows_reply, standing};
+    ghost use Rattle.cr_session.specs.Sessions.{Does, PullsUnless, TakesUnless, changes_reply, clean, honest, reply_of, rows_reply, standing};
     ghost use Rattle.cr_tree.specs.declared.statement.Statement.{Statement};
-    ghost use Rattle.cr_world.specs.declared.command.Command.TheVariants.{Rows, Changes};
+    ghost use Rattle.cr_world.specs.declared.command.Command.TheVariants.{Define, Rows, Changes};
+    ghost use Rattle.cr_world.specs.declared.command.Declaration.TheVariants as declared;
     ghost use Rattle.cr_world.specs.Language.{Language};
     ghost use Rattle.cr_world.specs.State.{heard_between};
     ghost use Rattle.cr_world.specs.Statement.{Host};
     ghost use Rattle.cr_world.specs.Takings.{changes_above, pull_cause, pull_since_cause, seen_at, take_cause};
+
+    /// Makes a replicated table, as `Session::define` does. A module's name is taken as a table's is.
+    ///
+    /// # Errors
+    /// As of `Session::define`, `TableExists` for the name of a module, too. Then nothing is changed.
+    pub fn define<F: Functions>(
+        &mut self,
+        alloc: Global,
+        functions: &F,
+        def: &TableDef,
+    ) -> Result<(), Refusal>
+        requires { has_folded_names def.now ≡ true }
+        ensures does { (has : List ℕ → Bool) (host : Host) → Does (⟦<F as Speaking>⟧.language functions.now has) host (⟦<HostedSession<C, M> as Executor>⟧.is_honest) (⟦<HostedSession<C, M> as Executor>⟧.is_clean) (⟦<HostedSession<C, M> as Executor>⟧.stands) self.old (Define (declared.Table def.now)) (reply_of result) self.new }
+        ensures modules { self.new.modules ≡ self.old.modules }
+    {
+        if self.modules.has(def.name.as_str()) {
+            return Err(of_taken_name(alloc, def));
+        }
+        self.session.define(alloc, functions, def)
+    }
 
     /// The site that the replica was made with.
     pub fn site_id(&self) -> Site

@@ -2,6 +2,7 @@
 #![tactic(auto)]
 
 pub mod calls;
+pub mod connection;
 mod performing;
 mod planning;
 pub mod session;

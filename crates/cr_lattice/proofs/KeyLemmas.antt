@@ -1,6 +1,7 @@
 -- The changes of one key in a list that is sorted by keys, and the row that they show.
 use Rattle.std.proofs.Common.{◌≡◌, ℕ, ◌-◌, ◌≤◌, pos, Bool, true, false, ◌&&◌, not, List, [], length, take, drop, map, refl, sym, ap, ◌∙◌, Ordering, Less, Equal, Greater, arith}
-use Rattle.std.specs.Prelude.{filter, find}
+use Rattle.std.specs.Prelude.{filter, find, IsTrue}
+use Rattle.std.specs.List.{IsAllAdjacentAnswer}
 use Rattle.std.specs.List.Sorted.{IsSortedBy, IsPartitionedBy, IsPartitionPoint, IsStableBy, ties}
 use Rattle.std.specs.Ordering.{ordering_reverse, is_eq, is_lt, is_le}
 use Rattle.std.specs.Cmp.{IsTotalOrder, IsStrictWeakOrder}
@@ -90,6 +91,15 @@ partitioned_below xs pk sorted = λ i j d le lt e. lower bytes_total _ _ pk (sor
 
 pub partitioned_to : (xs : List Change) (pk : List ℕ) → IsSortedBy has_lesser_key xs → IsPartitionedBy (is_below_or_under pk) xs
 partitioned_to xs pk sorted = λ i j d le lt e. no_higher bytes_total _ _ pk (sorted_far has_lesser_key by_key_order xs sorted i j d le lt) e
+
+not_true : (b : Bool) → true ≡ not b → b ≡ false
+not_true true e = absurd cc
+not_true false e = refl
+
+-- a look at all neighbours tells whether changes are sorted
+pub sorted_if_told : (xs : List Change) (r : Bool) → IsAllAdjacentAnswer (λ x y b. b ≡ not (has_lesser_key y x)) xs r → IsTrue r → IsSortedBy has_lesser_key xs
+sorted_if_told xs true all t = λ k d low lt. not_true _ (all k d lt)
+sorted_if_told xs false all t = absurd cc
 
 -- a partition point by a test
 abbrev Splits : (Change → Bool) → List Change → ℕ → Type 0

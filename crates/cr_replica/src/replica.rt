@@ -15,7 +15,7 @@ use cr_cells::tables::{check_all, table_named};
 use cr_host::functions::Functions;
 use cr_lattice::change::{Change, Site};
 use cr_lattice::check::{BadChange, CheckError};
-use cr_lattice::merge::merge;
+use cr_lattice::merge::keep;
 use cr_lattice::rows::rows;
 use cr_lattice::stamped::Stamped;
 use cr_lattice::table::{ColumnDef, Items, Row, TableDef};
@@ -442,7 +442,7 @@ impl<C: Cells> Replica<C> {
             Err(error) => return Err(RowsError::from(error)),
         };
         let changes = changes_of(alloc, cells)?;
-        let kept = merge(alloc, &changes, &[])?;
+        let kept = keep(changes)?;
         let rows = in_order(rows(alloc, &kept, &table.definition)?)?;
         Ok(Items::new(rows))
     }
@@ -496,7 +496,7 @@ impl<C: Cells> Replica<C> {
             Err(error) => return Err(error),
         };
         let changes = copied_changes(alloc, &cells)?;
-        let kept = merge(alloc, &changes, &[])?;
+        let kept = keep(changes)?;
         let site = names.site;
         Ok(Snapshot {
             tables: names.tables,
@@ -529,7 +529,7 @@ impl<C: Cells> Replica<C> {
             Ok(changes) => changes,
             Err(error) => return Err(error),
         };
-        Ok(merge(alloc, &changes, &[])?)
+        Ok(keep(changes)?)
     }
 
     /// What is kept of some tables, in the order of changes. Reads the cells of these tables and no others.
@@ -552,7 +552,7 @@ impl<C: Cells> Replica<C> {
             Ok(changes) => changes,
             Err(error) => return Err(error),
         };
-        Ok(merge(alloc, &changes, &[])?)
+        Ok(keep(changes)?)
     }
 
     /// The kept changes that are stamped above a version, by version, then by place.

@@ -108,13 +108,14 @@ fn value_at(row: &Row, at: usize, alloc: Global) -> Result<Value, Error>
 fn site_at(row: &Row, at: usize) -> Result<Site, Error>
     ensures { IfOk result (λ s. column row.now at ≡ SqlBlob s) }
 {
-    let bytes = blob_at(row, at)?;
-    if bytes.len() != 16 {
-        return Err(Error::InvalidQuery);
+    match row.get_ref(at)? {
+        ValueRef::Blob(bytes) if bytes.len() == 16 => {
+            let mut site = [0; 16];
+            site.copy_from_slice(bytes);
+            Ok(site)
+        }
+        _ => Err(Error::InvalidQuery),
     }
-    let mut site = [0; 16];
-    site.copy_from_slice(&bytes);
-    Ok(site)
 }
 
 // The name of the table whose ordinal a row begins with.

@@ -20,7 +20,7 @@ use cr_delta::error::DeltaError;
 use cr_delta::key::{are_keyed, is_keyed, key_of};
 use cr_lattice::change::Change;
 use cr_lattice::check::{CheckError, check};
-use cr_lattice::merge::merge;
+use cr_lattice::merge::{keep, merge};
 use cr_lattice::order::beats;
 use cr_lattice::profile::{duplicate, no_default, profile};
 use cr_lattice::rows::rows;
@@ -99,20 +99,20 @@ fn shown(alloc: Global, given: &str) -> Result<String, ToldError> {
 
 // What the changes keep.
 #[tactic(auto, using(cr_lattice::proofs::KeepLaws::keep_keep))]
-fn kept_of(alloc: Global, told: &[Change]) -> Result<Vec<Change>, AllocError>
+fn kept_of(told: Vec<Change>) -> Result<Vec<Change>, AllocError>
     ensures { IfOk result (λ kept. keep kept.items ≡ kept.items) }
 {
-    merge(alloc, told, &[])
+    keep(told)
 }
 
 // The changes that A's write makes; `None` where a row has no key.
 fn write(
     alloc: Global,
     table: &TableDef,
-    told: &[Change],
+    told: Vec<Change>,
     wanted: &[Row],
 ) -> Result<Option<Vec<Change>>, DeltaError> {
-    let kept = kept_of(alloc, told)?;
+    let kept = kept_of(told)?;
     if !are_keyed(alloc, table, wanted)? {
         return Ok(None);
     }
@@ -126,7 +126,7 @@ fn written(alloc: Global, given: &str) -> Result<String, ToldError> {
     match write(
         alloc,
         &table,
-        &changes(alloc, kept)?,
+        changes(alloc, kept)?,
         &rows_of(alloc, wanted)?,
     ) {
         Ok(Some(made)) => Ok(told_changes(alloc, &made)?),

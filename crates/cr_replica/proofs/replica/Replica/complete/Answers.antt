@@ -1,8 +1,7 @@
-use Rattle.std.proofs.Common.{◌≡◌, ◌∙◌, List, [], pos, ap, sym}
-use Rattle.cr_lattice.specs.declared.change.Change.{Change}
-use Rattle.cr_lattice.specs.Keep.{join, keep}
+use Rattle.std.proofs.Common.{◌≡◌, ◌∙◌, pos, ap, sym}
+use Rattle.cr_lattice.specs.Keep.{keep}
 use Rattle.cr_cells.specs.Holding.{Holding, changes_of, kept_of, since}
-use Rattle.cr_replica.proofs.Shown.{kept_listed, joined_once}
+use Rattle.cr_replica.proofs.Shown.{kept_listed, kept_once}
 use Rattle.cr_replica.proofs.replica.Replica.complete.Goals as goal
 
 pub returns-clause-reads : goal.returns-clause-reads
@@ -11,7 +10,7 @@ returns-clause-reads g c = λ clean.
     let start : g.C.Cells.holding c.self.inside.cells ≡ g.C.Cells.holding c.args.self.now = ap g.C.Cells.holding c.self.view_is in
     let ends : g.C.Cells.holding c.since.new.self ≡ g.C.Cells.holding c.args.self.now = read.same ∙ start in
     let kept = kept_listed (g.C.Cells.holding c.since.new.self) c.in_ok-changes.changes.items c.in_ok-kept.kept.items (c.in-Ok.ensures.sound clean)
-    (c.in_ok-changes.ensures ∙ ap changes_of (c.deref.ensures.value ∙ read.answers ∙ ap (λ (h : Holding). since h.cells (pos 0)) (sym read.same))) (c.in_ok-kept.ensures ∙ ap (λ (l : List Change). join l []) c.deref-2.ensures.value) in
+    (c.in_ok-changes.ensures ∙ ap changes_of (c.deref.ensures.value ∙ read.answers ∙ ap (λ (h : Holding). since h.cells (pos 0)) (sym read.same))) c.in_ok-kept.ensures in
     record {
       same = ends;
       answers = record {
@@ -22,4 +21,4 @@ returns-clause-reads g c = λ clean.
 
 pub returns-clause-kept : goal.returns-clause-kept
 returns-clause-kept g c =
-    ap keep c.new-2.ensures ∙ joined_once c.in_ok-changes.changes.items c.in_ok-kept.kept.items (c.in_ok-kept.ensures ∙ ap (λ (l : List Change). join l []) c.deref-2.ensures.value) ∙ sym c.new-2.ensures
+    ap keep c.new-2.ensures ∙ kept_once c.in_ok-changes.changes.items c.in_ok-kept.kept.items c.in_ok-kept.ensures ∙ sym c.new-2.ensures

@@ -1,7 +1,6 @@
-use Rattle.std.proofs.Common.{◌≡◌, List, [], Some, ap, ◌∙◌}
+use Rattle.std.proofs.Common.{◌≡◌, List, Some, ap, ◌∙◌}
 use Rattle.std.specs.Prelude.{find}
 use Rattle.cr_lattice.specs.declared.change.Change.{Change}
-use Rattle.cr_lattice.specs.Keep.{join}
 use Rattle.cr_lattice.specs.Rows.{rows}
 use Rattle.cr_cells.specs.Holding.{Holding, changes_of}
 use Rattle.cr_cells.specs.Tables.{is_named}
@@ -18,6 +17,6 @@ returns-clause-shows g c = λ clean.
     let h = g.C.Cells.holding c.tables.new.self in
     let t = c.in-Some.table.now in
     let found : Some t ≡ find (is_named c.args.name.now) start.tables = c.in-Some.ensures ∙ ap (find (is_named c.args.name.now)) (c.deref.ensures.value ∙ first.answers) in
-    let kept = kept_listed h c.in_ok-changes.changes.items c.in_ok-kept.kept.items (c.in-Ok.ensures.sound before) (c.in_ok-changes.ensures ∙ ap changes_of second.answers) (c.in_ok-kept.ensures ∙ ap (λ (l : List Change). join l []) c.deref-2.ensures.value) in
-    let shown = shown_is h t c.in_ok-kept.kept.items c.in_ok-rows.field-0.items c.in_ok-rows-2.rows.items kept (c.in_ok-rows.ensures ∙ ap (λ (l : List Change). rows l t.definition) c.deref-3.ensures.value) c.in_ok-rows-2.ensures c.if-not-table.false in
+    let kept = kept_listed h c.in_ok-changes.changes.items c.in_ok-kept.kept.items (c.in-Ok.ensures.sound before) (c.in_ok-changes.ensures ∙ ap changes_of second.answers) c.in_ok-kept.ensures in
+    let shown = shown_is h t c.in_ok-kept.kept.items c.in_ok-rows.field-0.items c.in_ok-rows-2.rows.items kept (c.in_ok-rows.ensures ∙ ap (λ (l : List Change). rows l t.definition) c.deref-2.ensures.value) c.in_ok-rows-2.ensures c.if-not-table.false in
     rw (← c.self.view_is, ← found) (c.new-2.ensures ∙ shown ∙ ap (λ (held : Holding). shown_of held t) first.same)
