@@ -1,11 +1,21 @@
 //! A store of cells in a file.
 #![tactic(auto)]
 
-ghost use Rattle.std.specs.Prelude.{◌≡◌, IfOk};
+ghost use Rattle.std.specs.Prelude.{◌≡◌, ◌≢◌, true, false, None, Some, Err, IfOk, IfErr, MatchResult};
+ghost use Rattle.sqlite.specs.Effect.{Database};
 ghost use Rattle.sqlite.specs.Held.{state};
 ghost use Rattle.sqlite.specs.Files.{over_files};
+ghost use Rattle.cr_rows.specs.Schema.{no_schema};
+ghost use Rattle.cr_cells.specs.declared.store.CellsError.TheVariants.{Store};
+ghost use Rattle.cr_cells.specs.declared.store.StoreFault.TheVariants.{Taken, Damaged, Refused};
+ghost use Rattle.cr_cells.specs.Calls.{IsRefusal};
 ghost use Rattle.cr_cells.specs.Holding.{empty_holding};
-ghost use Rattle.cr_store.specs.Opening.{IsHeld};
+ghost use Rattle.cr_store.specs.declared.format.Format.{Format};
+ghost use Rattle.cr_store.specs.Making.{has_store};
+ghost use Rattle.cr_store.specs.Opening.{IsHeld, IsOpenError};
+ghost use Rattle.cr_store.specs.Schema.{schema_of};
+ghost use Rattle.cr_file.specs.declared.FileFault.TheVariants.{NoSite};
+ghost use Rattle.cr_file.specs.Opening.{FailsToMake, FailsToOpen, IsOfDatabase, IsStoreOf};
 
 use cr_cells::store::{Cells, CellsError};
 use cr_lattice::change::{Change, Site};
@@ -117,7 +127,8 @@ impl FileCells {
     /// A store of a site that holds nothing, in a database that has nothing.
     ///
     /// # Errors
-    /// Those of `Store::create`; then the database is as it was.
+    /// `Store(Refused)` where a transaction is open; else `Store(Taken)` where the database has a table of a store; else
+    /// `Store(Refused)` where it has anything else, or where sqlite refuses the tables, and `Memory`. Then the database is as it was.
     pub fn create(
         alloc: Global,
         conn: Connection<FileStore<File>>,
@@ -125,6 +136,10 @@ impl FileCells {
     ) -> Result<FileCells, CellsError>
         ensures made { IfOk result (λ m. ⟦<FileCells as Cells>⟧.is_clean m → ⟦<FileCells as Cells>⟧.holding m ≡ empty_holding site) }
         ensures clean { IfOk result (λ m. ⟦<FileCells as Cells>⟧.is_honest m → ⟦<FileCells as Cells>⟧.is_clean m) }
+        ensures busy { (state over_files conn).in_transaction ≡ true → result ≡ Err (Store Refused) }
+        ensures taken { (state over_files conn).in_transaction ≡ false → has_store (state over_files conn).now.schema ≡ true → result ≡ Err (Store Taken) }
+        ensures foreign { (state over_files conn).in_transaction ≡ false → has_store (state over_files conn).now.schema ≡ false → (state over_files conn).now.schema ≢ no_schema → result ≡ Err (Store Refused) }
+        ensures why { has_store (state over_files conn).now.schema ≡ false → IfErr result IsRefusal }
     {
         match Store::create(alloc, conn, site) {
             Ok(store) => Ok(FileCells { store }),
@@ -135,10 +150,15 @@ impl FileCells {
     /// The store that a database holds.
     ///
     /// # Errors
-    /// Those of `Store::open`; then the database is as it was.
+    /// `Store(Refused)` where a transaction is open; else `Store(Damaged)` where the database has another schema than a store's, or
+    /// rows that are those of nothing that a store holds; `Store(Refused)` where sqlite refuses to read or to write them, and
+    /// `Memory`. Then the database is as it was.
     pub fn open(alloc: Global, conn: Connection<FileStore<File>>) -> Result<FileCells, CellsError>
         ensures held { IfOk result (λ m. ⟦<FileCells as Cells>⟧.is_clean m → IsHeld (state over_files conn).now (⟦<FileCells as Cells>⟧.holding m)) }
         ensures clean { IfOk result (λ m. ⟦<FileCells as Cells>⟧.is_honest m → ⟦<FileCells as Cells>⟧.is_clean m) }
+        ensures busy { (state over_files conn).in_transaction ≡ true → result ≡ Err (Store Refused) }
+        ensures foreign { (state over_files conn).in_transaction ≡ false → ((format : Format) → (state over_files conn).now.schema ≢ schema_of format) → result ≡ Err (Store Damaged) }
+        ensures why { IfErr result IsOpenError }
     {
         match Store::open(alloc, conn) {
             Ok(store) => Ok(FileCells { store }),
@@ -152,7 +172,12 @@ impl FileCells {
         conn: Connection<FileStore<File>>,
         site: Option<Site>,
     ) -> Result<FileCells, FileFault>
-        ensures { IfOk result (λ m. ⟦<FileCells as Cells>⟧.is_honest m → ⟦<FileCells as Cells>⟧.is_clean m) }
+        ensures opens { has_store (state over_files conn).now.schema ≡ true
+            → MatchResult result (λ m. ⟦<FileCells as Cells>⟧.is_clean m → IsHeld (state over_files conn).now (⟦<FileCells as Cells>⟧.holding m)) FailsToOpen }
+        ensures makes { has_store (state over_files conn).now.schema ≡ false
+            → MatchResult result (λ m. ⟦<FileCells as Cells>⟧.is_clean m → IsStoreOf site (⟦<FileCells as Cells>⟧.holding m)) (FailsToMake site) }
+        ensures no_site { has_store (state over_files conn).now.schema ≡ false → site ≡ None → result ≡ Err NoSite }
+        ensures clean { IfOk result (λ m. ⟦<FileCells as Cells>⟧.is_honest m → ⟦<FileCells as Cells>⟧.is_clean m) }
     {
         if has_tables(&conn) {
             return match FileCells::open(alloc, conn) {
@@ -176,7 +201,9 @@ impl FileCells {
     /// `NoSite` where a store is to be made and there is no site; then no file is made. `Unopened` where the file can't be opened
     /// as a database. `Cells` with what `open` and `create` tell, as where its store is damaged or it holds something else.
     pub fn in_file(rt: &HostRuntime, path: &str, site: Option<Site>) -> Result<FileCells, FileFault>
-        ensures { IfOk result (λ m. ⟦<FileCells as Cells>⟧.is_honest m → ⟦<FileCells as Cells>⟧.is_clean m) }
+        ensures holds { IfOk result (λ m. ⟦<FileCells as Cells>⟧.is_clean m → (db : Database) × IsOfDatabase site db (⟦<FileCells as Cells>⟧.holding m)) }
+        ensures no_site { IfErr result (λ e. e ≡ NoSite → site ≡ None) }
+        ensures clean { IfOk result (λ m. ⟦<FileCells as Cells>⟧.is_honest m → ⟦<FileCells as Cells>⟧.is_clean m) }
     {
         if site.is_none() && fs::metadata(rt, path).is_err() {
             return Err(FileFault::NoSite);

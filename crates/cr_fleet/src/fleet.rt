@@ -347,7 +347,7 @@ impl<C: NewCells> Fleet<C> {
     /// Carries out the commands in order, one reply each.
     ///
     /// # Errors
-    /// Where there is no memory for the replies; then no command is carried out.
+    /// Where there is no memory for the replies; then no command is carried out, and the guard is as it was.
     pub fn run<F: Functions, G: Guarding>(
         &mut self,
         alloc: Global,
@@ -374,6 +374,7 @@ impl<C: NewCells> Fleet<C> {
             → IsUnharmed (clean C.is_clean) self.old replies.items self.new → (w : World) → Shows (standing C.holding) w (G.rules guard.old) self.old
             → HearsRun (⟦<F as Speaking>⟧.language functions.now has) (⟦<G as Watching>⟧.closures guard.old) (⟦<G as Watching>⟧.hears) guard.old w commands.now replies.items guard.new) }
         ensures refused { OnErr result (self.new ≡ self.old) }
+        ensures unasked { OnErr result (guard.new ≡ guard.old) }
         ensures closures { ⟦<G as Watching>⟧.closures guard.new ≡ ⟦<G as Watching>⟧.closures guard.old }
         ensures faithful { G.is_faithful guard.new }
     {

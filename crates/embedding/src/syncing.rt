@@ -29,10 +29,11 @@ const SITE_C: Site = [0x0c; 16];
 const TABLE: &str =
     "CREATE TABLE t(id INTEGER PRIMARY KEY, name TEXT DEFAULT 'none'); SELECT crsql_as_crr('t')";
 
-// A replica with the engine's own functions, under no rules.
-type Replica = Connection<PlainCells, BuiltIns, Policy, Numbers>;
+/// A replica with the engine's own functions, under no rules.
+pub type Replica = Connection<PlainCells, BuiltIns, Policy, Numbers>;
 
-fn new_replica(alloc: Global, site: Site) -> Replica {
+/// A replica of a site that has nothing yet.
+pub fn new_replica(alloc: Global, site: Site) -> Replica {
     let session = Session::new(PlainCells::new(alloc, site));
     Connection::new(alloc, session, BuiltIns, Policy::new(alloc))
 }

@@ -1,0 +1,31 @@
+-- What becomes of a file's database as a store. Source: this project's own.
+use Rattle.std.specs.Prelude.{◌≡◌, ℕ, List, Option, Some, None, MatchBool}
+use Rattle.sqlite.specs.Effect.{Database}
+use Rattle.cr_cells.specs.Calls.{IsRefusal}
+use Rattle.cr_cells.specs.Holding.{Holding, empty_holding}
+use Rattle.cr_store.specs.Making.{has_store}
+use Rattle.cr_store.specs.Opening.{IsHeld, IsOpenError}
+use Rattle.cr_file.specs.declared.FileFault.{FileFault}
+use Rattle.cr_file.specs.declared.FileFault.TheVariants.{NoSite, Unopened, Cells}
+
+-- what may be told where a store is to be opened: what opening tells
+abbrev pub FailsToOpen : FileFault → Type 0
+FailsToOpen NoSite = ⊥
+FailsToOpen Unopened = ⊥
+FailsToOpen (Cells e) = IsOpenError e
+
+-- what may be told where one is to be made: that there is no site for it, or what making it tells
+abbrev pub FailsToMake : Option (List ℕ) → FileFault → Type 0
+FailsToMake None e = e ≡ NoSite
+FailsToMake (Some site) NoSite = ⊥
+FailsToMake (Some site) Unopened = ⊥
+FailsToMake (Some site) (Cells e) = IsRefusal e
+
+-- a new store of the site
+abbrev pub IsStoreOf : Option (List ℕ) → Holding → Type 0
+IsStoreOf None h = ⊥
+IsStoreOf (Some site) h = h ≡ empty_holding site
+
+-- what a database that has tables of a store holds, or else a new store of the site
+abbrev pub IsOfDatabase : Option (List ℕ) → Database → Holding → Type 0
+IsOfDatabase site db h = MatchBool (has_store db.schema) (IsHeld db h) (IsStoreOf site h)
