@@ -1,14 +1,23 @@
--- A store that can't be made is refused for want of memory or by sqlite, where no table of a store is there.
-use Rattle.std.proofs.Common.{◌≡◌, Bool, true, false, refl, sym, subst}
+-- What is told of a file whose database gives no store.
+use Rattle.std.proofs.Common.{◌≡◌, ℕ, Bool, true, false, List, Option, Some, None, Result, Ok, Err, refl, sym, subst}
+use Rattle.std.specs.Prelude.{IfOk, IfErr, MatchResult}
+use Rattle.sqlite.specs.Effect.{Database}
 use Rattle.cr_cells.specs.declared.store.CellsError.{CellsError}
 use Rattle.cr_cells.specs.declared.store.CellsError.TheVariants as error
 use Rattle.cr_cells.specs.declared.store.StoreFault.TheVariants as fault
 use Rattle.cr_cells.specs.Calls.{IsRefusal}
+use Rattle.cr_cells.specs.Holding.{Holding}
+use Rattle.cr_store.specs.Making.{has_store}
+use Rattle.cr_store.specs.Opening.{IsHeld}
+use Rattle.cr_file.specs.declared.FileFault.{FileFault}
+use Rattle.cr_file.specs.declared.FileFault.TheVariants.{NoSite}
+use Rattle.cr_file.specs.Opening.{FailsToMake, FailsToOpen, IsOfDatabase, IsStoreOf}
 
 apart : (P : Type 0) → ((P → ⊥) → ⊥) → (P → ⊥) → ⊥
 apart P f g = f g
 
--- whether a transaction is open, and whether the database has something
+-- A store that can't be made is refused for want of memory or by sqlite, where no table of a store is there: whether a transaction is
+-- open, and whether the database has something.
 pub refused_by : (e : CellsError) (is_busy : Bool) (HasNothing : Type 0) → (is_busy ≡ true → e ≡ error.Store fault.Refused) → (is_busy ≡ false → (HasNothing → ⊥) → e ≡ error.Store fault.Refused)
     → (is_busy ≡ false → HasNothing → IsRefusal e) → IsRefusal e
 refused_by e true P busy foreign why = subst IsRefusal (sym (busy refl)) refl
@@ -20,3 +29,23 @@ refused_by (error.Store fault.Damaged) false P busy foreign why =
     absurd (apart P (λ no. (let e = foreign refl no in let z : ⊥ = cc in z)) (λ p. (let f = why refl p in let z : ⊥ = cc in z)))
 refused_by error.VersionLimit false P busy foreign why =
     absurd (apart P (λ no. (let e = foreign refl no in let z : ⊥ = cc in z)) (λ p. why refl p))
+
+-- ---- the store of a file
+
+pub of_database : {A : Type 0} (is_clean : A → Type 0) (holding : A → Holding) (site : Option (List ℕ)) (db : Database) (result : Result A FileFault) (b : Bool) → has_store db.schema ≡ b
+    → (b ≡ true → MatchResult result (λ m. is_clean m → IsHeld db (holding m)) FailsToOpen) → (b ≡ false → MatchResult result (λ m. is_clean m → IsStoreOf site (holding m)) (FailsToMake site))
+    → IfOk result (λ m. is_clean m → (x : Database) × IsOfDatabase site x (holding m))
+of_database is_clean holding site db (Ok m) true e opens makes = λ clean. (db, rw e (opens refl clean))
+of_database is_clean holding site db (Ok m) false e opens makes = λ clean. (db, rw e (makes refl clean))
+of_database is_clean holding site db (Err f) b e opens makes = tt
+
+without_site : (site : Option (List ℕ)) (e : FileFault) → FailsToMake site e → e ≡ NoSite → site ≡ None
+without_site None e fails same = refl
+without_site (Some s) e fails same = absurd (subst (FailsToMake (Some s)) same fails)
+
+-- that there is no site is told where there is none
+pub tells_no_site : {A : Type 0} (P Q : A → Type 0) (site : Option (List ℕ)) (result : Result A FileFault) (b : Bool) → (b ≡ true → MatchResult result P FailsToOpen) → (b ≡ false → MatchResult result Q (FailsToMake site))
+    → IfErr result (λ e. e ≡ NoSite → site ≡ None)
+tells_no_site P Q site (Ok m) b opens makes = tt
+tells_no_site P Q site (Err e) true opens makes = λ same. absurd (subst FailsToOpen same (opens refl))
+tells_no_site P Q site (Err e) false opens makes = λ same. without_site site e (makes refl) same

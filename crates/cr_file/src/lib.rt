@@ -6,14 +6,12 @@ ghost use Rattle.sqlite.specs.Effect.{Database};
 ghost use Rattle.sqlite.specs.Held.{state};
 ghost use Rattle.sqlite.specs.Files.{over_files};
 ghost use Rattle.cr_rows.specs.Schema.{no_schema};
-ghost use Rattle.cr_cells.specs.declared.store.CellsError.TheVariants.{Store};
-ghost use Rattle.cr_cells.specs.declared.store.StoreFault.TheVariants.{Taken, Damaged, Refused};
+ghost use Rattle.cr_cells.specs.declared.store.CellsError.TheVariants as refusal;
+ghost use Rattle.cr_cells.specs.declared.store.StoreFault.TheVariants.{Taken, Refused};
 ghost use Rattle.cr_cells.specs.Calls.{IsRefusal};
 ghost use Rattle.cr_cells.specs.Holding.{empty_holding};
-ghost use Rattle.cr_store.specs.declared.format.Format.{Format};
 ghost use Rattle.cr_store.specs.Making.{has_store};
 ghost use Rattle.cr_store.specs.Opening.{IsHeld, IsOpenError};
-ghost use Rattle.cr_store.specs.Schema.{schema_of};
 ghost use Rattle.cr_file.specs.declared.FileFault.TheVariants.{NoSite};
 ghost use Rattle.cr_file.specs.Opening.{FailsToMake, FailsToOpen, IsOfDatabase, IsStoreOf};
 
@@ -136,9 +134,9 @@ impl FileCells {
     ) -> Result<FileCells, CellsError>
         ensures made { IfOk result (λ m. ⟦<FileCells as Cells>⟧.is_clean m → ⟦<FileCells as Cells>⟧.holding m ≡ empty_holding site) }
         ensures clean { IfOk result (λ m. ⟦<FileCells as Cells>⟧.is_honest m → ⟦<FileCells as Cells>⟧.is_clean m) }
-        ensures busy { (state over_files conn).in_transaction ≡ true → result ≡ Err (Store Refused) }
-        ensures taken { (state over_files conn).in_transaction ≡ false → has_store (state over_files conn).now.schema ≡ true → result ≡ Err (Store Taken) }
-        ensures foreign { (state over_files conn).in_transaction ≡ false → has_store (state over_files conn).now.schema ≡ false → (state over_files conn).now.schema ≢ no_schema → result ≡ Err (Store Refused) }
+        ensures busy { (state over_files conn).in_transaction ≡ true → result ≡ Err (refusal.Store Refused) }
+        ensures taken { (state over_files conn).in_transaction ≡ false → has_store (state over_files conn).now.schema ≡ true → result ≡ Err (refusal.Store Taken) }
+        ensures foreign { (state over_files conn).in_transaction ≡ false → has_store (state over_files conn).now.schema ≡ false → (state over_files conn).now.schema ≢ no_schema → result ≡ Err (refusal.Store Refused) }
         ensures why { has_store (state over_files conn).now.schema ≡ false → IfErr result IsRefusal }
     {
         match Store::create(alloc, conn, site) {
@@ -156,8 +154,7 @@ impl FileCells {
     pub fn open(alloc: Global, conn: Connection<FileStore<File>>) -> Result<FileCells, CellsError>
         ensures held { IfOk result (λ m. ⟦<FileCells as Cells>⟧.is_clean m → IsHeld (state over_files conn).now (⟦<FileCells as Cells>⟧.holding m)) }
         ensures clean { IfOk result (λ m. ⟦<FileCells as Cells>⟧.is_honest m → ⟦<FileCells as Cells>⟧.is_clean m) }
-        ensures busy { (state over_files conn).in_transaction ≡ true → result ≡ Err (Store Refused) }
-        ensures foreign { (state over_files conn).in_transaction ≡ false → ((format : Format) → (state over_files conn).now.schema ≢ schema_of format) → result ≡ Err (Store Damaged) }
+        ensures busy { (state over_files conn).in_transaction ≡ true → result ≡ Err (refusal.Store Refused) }
         ensures why { IfErr result IsOpenError }
     {
         match Store::open(alloc, conn) {

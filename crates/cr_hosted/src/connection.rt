@@ -230,7 +230,12 @@ impl<C: Cells, F: Functions + Drop, G: Guarding + Drop, M: Module> Connection<C,
     ///
     /// # Errors
     /// As of `Session::take_from`. Then nothing is changed.
-    pub fn take_from(&mut self, alloc: Global, changes: &[Change], mark: Mark) -> Result<(), Refusal>
+    pub fn take_from(
+        &mut self,
+        alloc: Global,
+        changes: &[Change],
+        mark: Mark,
+    ) -> Result<(), Refusal>
         requires faithful { G.is_faithful self.old.guard }
         requires from_0 { pos 0 ≤ℤ mark.1 }
         ensures takes { TakesUnless (honest C.is_honest) (clean C.is_clean) (standing C.holding) (λ st. take_cause (⟦<G as Watching>⟧.host self.old.guard) st changes.now (Some mark)) self.old.hosted.session changes.now (Some mark) result self.new.hosted.session }
@@ -239,8 +244,7 @@ impl<C: Cells, F: Functions + Drop, G: Guarding + Drop, M: Module> Connection<C,
         ensures modules { self.new.hosted.modules ≡ self.old.hosted.modules }
         ensures functions { self.new.functions ≡ self.old.functions }
     {
-        self.hosted
-            .take_from(alloc, &mut self.guard, changes, mark)
+        self.hosted.take_from(alloc, &mut self.guard, changes, mark)
     }
 
     /// Takes all that a peer keeps, in one commit or nothing. The peer stays where it stands.

@@ -49,12 +49,7 @@ fn print_script<W: Write>(alloc: Global, script: Script, out: &mut W) -> io::Res
 }
 
 // Runs a script on a replica, and prints it with what its statements answer.
-fn run<W: Write>(
-    alloc: Global,
-    replica: &mut Replica,
-    text: &str,
-    out: &mut W,
-) -> io::Result<()> {
+fn run<W: Write>(alloc: Global, replica: &mut Replica, text: &str, out: &mut W) -> io::Result<()> {
     writeln!(out, "{text}")?;
     let script = replica.run(alloc, text);
     print_script(alloc, script, out)
@@ -183,18 +178,10 @@ fn pull_inside<W: Write>(
 ) -> io::Result<()> {
     run(alloc, a, "BEGIN", out)?;
     writeln!(out, "in a transaction: {}", a.in_transaction())?;
-    print_done(
-        "A pulls from B what is new",
-        &a.pull_since(alloc, b),
-        out,
-    )?;
+    print_done("A pulls from B what is new", &a.pull_since(alloc, b), out)?;
     print_done("A takes no changes", &a.take(alloc, &[]), out)?;
     run(alloc, a, "COMMIT", out)?;
-    print_done(
-        "A pulls from B what is new",
-        &a.pull_since(alloc, b),
-        out,
-    )?;
+    print_done("A pulls from B what is new", &a.pull_since(alloc, b), out)?;
     writeln!(out, "version {}", a.db_version())
 }
 
@@ -237,12 +224,7 @@ fn definition(alloc: Global, name: &str) -> Result<TableDef, AllocError> {
 }
 
 // C defines the table under a name.
-fn define<W: Write>(
-    alloc: Global,
-    c: &mut Replica,
-    name: &str,
-    out: &mut W,
-) -> io::Result<()> {
+fn define<W: Write>(alloc: Global, c: &mut Replica, name: &str, out: &mut W) -> io::Result<()> {
     let def = definition(alloc, name)?;
     if has_folded_names(&def) {
         write!(out, "C defines ")?;
