@@ -1,6 +1,6 @@
 -- A table is defined beside a host's modules as without them, unless one has its name.
 use Rattle.std.proofs.Common.{◌≡◌, ◌⊎◌, inl, inr, ℕ, Bool, true, false, cond, List, [], ◌∷◌, map, find, Option, Some, None, Result, Ok, Err, refl, sym, ap, subst, ◌∙◌}
-use Rattle.std.specs.Prelude.{is_some, unwrap_or}
+use Rattle.std.specs.Prelude.{is_some, not, unwrap_or}
 use Rattle.std.specs.Option.{option_map, option_or}
 use Rattle.cr_lattice.specs.declared.change.Change.{Change}
 use Rattle.cr_lattice.specs.declared.table.TableDef.{TableDef}
@@ -15,12 +15,13 @@ use Rattle.cr_world.specs.declared.command.FleetReply.{FleetReply}
 use Rattle.cr_world.specs.declared.refusal.Refusal.{Refusal}
 use Rattle.cr_world.specs.declared.refusal.Refusal.TheVariants as refusal
 use Rattle.cr_world.specs.Refusals.{of_profile}
+use Rattle.cr_world.specs.Resolved as target
 use Rattle.cr_world.specs.Answers.{IsDone}
 use Rattle.cr_world.specs.Causes.{Cause, IsWant, Tells, first_cause, of_option, where_true}
 use Rattle.cr_world.specs.Language.{Language, definition_in}
-use Rattle.cr_world.specs.State.{ModuleState, State, catalog, changes_definition, module_definition}
-use Rattle.cr_world.specs.Statement.{Host}
-use Rattle.cr_world.specs.Takings.{define_cause}
+use Rattle.cr_world.specs.State.{ModuleState, State, catalog, changes_definition, in_transaction, module_definition}
+use Rattle.cr_world.specs.Statement.{Host, no_default}
+use Rattle.cr_world.specs.Takings.{define_cause, first_repeat}
 use Rattle.cr_world.specs.World.{Member}
 use Rattle.cr_modules.specs.States.{module_in}
 use Rattle.cr_session.specs.Performing.{placed}
@@ -67,8 +68,18 @@ told_by def None true causes e = refl
 told_by def None false causes e = absurd (let z : ⊥ = cc in z)
 
 -- that a module has the name
-pub tells_taken : (has_collation : List ℕ → Bool) (h : Holding) (pending : Option (List Change)) (ms : List ModuleState) (def : TableDef) → is_some (module_in ms def.name) ≡ true → Tells (define_cause has_collation (placed ms (state_of h pending)) def) (taken_name def)
-tells_taken has_collation h pending ms def e = told_by def (profile_fault def) _ _ (taken (state_of h pending) ms def.name e)
+tells_taken : (has_collation : List ℕ → Bool) (h : Holding) (pending : Option (List Change)) (ms : List ModuleState) (def : TableDef) → is_some (module_in ms def.name) ≡ true → Tells (define_cause has_collation (placed ms (state_of h pending)) def) (taken_name def)
+tells_taken has_collation h pending ms def e =
+    told_by def (profile_fault def) (is_some (definition_in (catalog (placed ms (state_of h pending))) def.name))
+    (of_option (option_map refusal.AmbiguousColumn (first_repeat [] (map (λ c. c.name) def.columns)))
+    ∷ of_option (option_map (λ c. refusal.NoSuchCollation c.collation) (find (λ c. not (has_collation c.collation)) def.columns))
+    ∷ where_true (in_transaction (placed ms (state_of h pending))) refusal.TransactionState ∷ no_default (target.Table def) ∷ [])
+    (taken (state_of h pending) ms def.name e)
+
+pub told : (has_collation : List ℕ → Bool) (h : Holding) (pending : Option (List Change)) (ms : List ModuleState) (def : TableDef) (r : Refusal) → is_some (module_in ms def.name) ≡ true
+    → (r ≡ refusal.Memory) ⊎ (r ≡ taken_name def) → IsWant r ⊎ Tells (define_cause has_collation (placed ms (state_of h pending)) def) r
+told has_collation h pending ms def r e (inl want) = inl (inl want)
+told has_collation h pending ms def r e (inr is) = inr (subst (Tells (define_cause has_collation (placed ms (state_of h pending)) def)) (sym is) (tells_taken has_collation h pending ms def e))
 
 -- else the same as without modules
 pub done_beside : (has_collation : List ℕ → Bool) (h : Holding) (pending : Option (List Change)) (ms : List ModuleState) (def : TableDef) (reply : FleetReply) → is_some (module_in ms def.name) ≡ false
