@@ -19,8 +19,8 @@ use cr_world::refusal::Refusal;
 use std::alloc::Global;
 
 /// A session that has its host's functions and collations, its guard and its table modules with it, as a connection of SQLite has
-/// them. Each call promises what that of `HostedSession` promises under these, and leaves the functions as they were; what the
-/// guard's listener hears is all that a call changes of the guard.
+/// them. Each call promises what that of `HostedSession` promises under these, and leaves the functions as they were and a guard that
+/// answers as before.
 #[derive(Drop)]
 pub struct Connection<C: Cells, F: Functions + Drop, G: Guarding + Drop, M: Drop> {
     hosted: HostedSession<C, M>,
