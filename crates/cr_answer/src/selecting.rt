@@ -1,11 +1,14 @@
 //! What a query answers.
 
-ghost use Rattle.cr_answer.specs.Selecting.{Gives, answer_over};
+ghost use Rattle.cr_answer.specs.Selecting.{Gives, answer_over, answer_seen};
 
 use cr_exec::select::select as rows_of;
+use cr_exec::streamed::{SelectFault, select_from};
 use cr_expr::given::Hosted;
 use cr_host::functions::Functions;
 use cr_lattice::table::{Items, Row};
+use cr_replica::snapshot::Snapshot;
+use cr_tables::view::View;
 use cr_term::query::Query;
 use cr_value::value::Value;
 use cr_world::refusal::Refusal;
@@ -28,5 +31,32 @@ pub fn answer_query<F: Functions>(
     match rows_of(alloc, query, tables, functions, params) {
         Ok(rows) => Ok(Items::new(rows)),
         Err(fault) => Err(Refusal::from(fault)),
+    }
+}
+
+/// The rows that a query answers over what is seen of a replica, with these parameters. The rows of its first table are made
+/// one after another.
+///
+/// # Errors
+/// `Eval` and `TooBig` where an expression has a fault; `Memory`.
+pub fn answer_view<F: Functions>(
+    alloc: Global,
+    functions: &F,
+    snapshot: &Snapshot,
+    query: &Query,
+    params: &[Value],
+) -> Result<Items<Row>, Refusal>
+    requires { F.is_faithful functions.now }
+    ensures { Gives (⟦<F as Hosted>⟧.means functions.now) params.now (answer_seen snapshot.now query.now) result }
+{
+    let mut view = View {
+        snapshot,
+        joined: query.joined.as_slice(),
+    };
+    match select_from(alloc, query, &mut view, functions, params) {
+        Ok(rows) => Ok(Items::new(rows)),
+        Err(SelectFault::Eval(fault)) => Err(Refusal::from(fault)),
+        // A view reads what stands in memory, which doesn't fail.
+        Err(SelectFault::Store) => Err(Refusal::Memory),
     }
 }

@@ -12,3 +12,4 @@ pub mod Selected
 pub mod Sought
 pub mod LeftOut
 pub mod Indexed
+pub mod Streams

@@ -10,14 +10,14 @@ use Rattle.cr_expr.specs.Eval.{eval_of}
 use Rattle.cr_bags.specs.Bags.{gather, each, single}
 use Rattle.cr_scalar.specs.declared.fault.EvalFault.{EvalFault}
 use Rattle.cr_query.specs.Queries.{Shown}
-use Rattle.cr_query.specs.Query.{Row, groups, has, pair, shows, shown, shown_groups, joined, finished, answer}
+use Rattle.cr_query.specs.Query.{Row, groups, has, pair, shows, shown, shown_groups, finished}
 use Rattle.cr_query.proofs.PlanLaws.{gather-map}
 use Rattle.cr_meaning.specs.View.{Ordered, plain, group_term, result_term, order_term, query}
 use Rattle.cr_meaning.specs.Meaning.{value_of, at_row, at_group, limit_of, meaning}
-use Rattle.cr_exec.specs.Answers.{Faults, IsBoth, Answers}
+use Rattle.cr_exec.specs.Answers.{IsBoth, Answers}
 use Rattle.cr_exec.specs.Groups.{result_expr, order_expr, shows_by, judged_by}
 use Rattle.cr_exec.specs.Scopes.{there}
-use Rattle.cr_exec.proofs.Stages.{faults_on, faults_after, both_after}
+use Rattle.cr_exec.proofs.Stages.{both_on}
 use Rattle.cr_exec.proofs.ByClass.{answers_on}
 
 module _ (host : Host) (params : List Value) (q : Resolved) where
@@ -50,24 +50,10 @@ module _ (host : Host) (params : List Value) (q : Resolved) where
         → Answers host params r view (λ m. each (λ c. shows_by (λ e. m.value e c) results keys) cs) → Answers host params r view (λ m. shown m (query q) cs)
     plain_shown view is cs r h = answers_on host params (λ m. each (λ c. shows_by (λ e. m.value e c) results keys) cs) (λ m. shown m (query q) cs) view (plain_is is cs) r h
 
-  -- ---- the answer
+  -- ---- what is shown, finished
 
-  module _ (tables : List (List Row)) where
-    pub answer_joined_fault : (e : EvalFault) → Faults host params (λ m. joined m (query q) tables) e → Faults host params (λ m. answer m (query q) tables) e
-    answer_joined_fault e h =
-        faults_on host params (λ m. joined m (query q) tables) (λ m. answer m (query q) tables) e
-        (λ most k. ap (λ o. option_map (finished (meaning most host params) (query q)) (option_and_then (shown (meaning most host params) (query q)) o)) k) h
-
-    pub answer_shown_fault : (cs ds : List Row) (e : EvalFault) → ds ≡ cs → IsBoth host params (λ m. joined m (query q) tables) cs → Faults host params (λ m. shown m (query q) ds) e → Faults host params (λ m. answer m (query q) tables) e
-    answer_shown_fault cs ds e is b h =
-        faults_after host params (λ m. joined m (query q) tables) cs (λ m. shown m (query q) ds) (λ m. answer m (query q) tables) e
-        (λ most j k. ap (λ o. option_map (finished (meaning most host params) (query q)) (option_and_then (shown (meaning most host params) (query q)) o)) j
-        ∙ ap (λ l. option_map (finished (meaning most host params) (query q)) (shown (meaning most host params) (query q) l)) (sym is) ∙ ap (option_map (finished (meaning most host params) (query q))) k) b h
-
-    pub answer_both : (cs ds : List Row) (sh : List Shown) (rows : List Row) → ds ≡ cs → IsBoth host params (λ m. joined m (query q) tables) cs → IsBoth host params (λ m. shown m (query q) ds) sh
-        → ((most : Option ℕ) (ps : List Value) → rows ≡ finished (meaning most host ps) (query q) sh) → IsBoth host params (λ m. answer m (query q) tables) rows
-    answer_both cs ds sh rows is b h last =
-        both_after host params (λ m. joined m (query q) tables) cs (λ m. shown m (query q) ds) sh (λ m. answer m (query q) tables) rows
-        (λ most j k. ap (λ o. option_map (finished (meaning most host params) (query q)) (option_and_then (shown (meaning most host params) (query q)) o)) j
-        ∙ ap (λ l. option_map (finished (meaning most host params) (query q)) (shown (meaning most host params) (query q) l)) (sym is) ∙ ap (option_map (finished (meaning most host params) (query q))) k
-        ∙ ap (λ (l : List Row). Some l) (sym (last most params))) b h
+  pub answered_both : (cs : List Row) (sh : List Shown) (rows : List Row) → IsBoth host params (λ m. shown m (query q) cs) sh → ((most : Option ℕ) (ps : List Value) → rows ≡ finished (meaning most host ps) (query q) sh)
+      → IsBoth host params (λ m. option_map (finished m (query q)) (shown m (query q) cs)) rows
+  answered_both cs sh rows h last =
+      both_on host params (λ m. shown m (query q) cs) (λ m. option_map (finished m (query q)) (shown m (query q) cs)) sh rows
+      (λ most k. ap (option_map (finished (meaning most host params) (query q))) k ∙ ap (λ (l : List Row). Some l) (sym (last most params))) h

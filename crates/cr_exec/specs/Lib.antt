@@ -8,3 +8,4 @@ pub mod Comparisons
 pub mod Groups
 pub mod Equalities
 pub mod LookUps
+pub mod Streamed

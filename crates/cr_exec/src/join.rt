@@ -224,7 +224,7 @@ fn left_joined<F: Functions>(
 
 // Puts the combinations of one with those of further tables, on which all terms are true, behind others.
 #[cycle(join)]
-fn join_rest<F: Functions>(
+pub(crate) fn join_rest<F: Functions>(
     alloc: Global,
     out: &mut Vec<Row>,
     terms: &[&Expr],

@@ -15,5 +15,6 @@ mod push;
 pub mod select;
 pub mod show;
 mod source;
+pub mod streamed;
 pub mod terms;
 pub mod value;

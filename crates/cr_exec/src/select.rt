@@ -1,7 +1,7 @@
 //! What a query answers of lists of rows.
 
-ghost use Rattle.std.specs.Prelude.{◌≡◌, map, IfOk};
-ghost use Rattle.cr_query.specs.Query.{shown, answer};
+ghost use Rattle.std.specs.Prelude.{◌≡◌, map, option_map, IfOk};
+ghost use Rattle.cr_query.specs.Query.{shown, finished, answer};
 ghost use Rattle.cr_meaning.specs.View as view;
 ghost use Rattle.cr_exec.specs.Answers.{Answers};
 ghost use Rattle.cr_exec.specs.Groups.{result_expr, order_expr};
@@ -75,6 +75,23 @@ fn show_asked<F: Functions>(
     show_each(alloc, results, keys, combinations, functions, params)
 }
 
+// The rows that a query answers, of its combinations.
+pub(crate) fn answered<F: Functions>(
+    alloc: Global,
+    query: &Query,
+    combinations: &[Row],
+    functions: &F,
+    params: &[Value],
+) -> Result<Vec<Row>, EvalFault>
+    requires { F.is_faithful functions.now }
+    ensures { Answers (⟦<F as Hosted>⟧.means functions.now) params.now result (λ v. v.items)
+        (λ m. option_map (finished m (view.query query.now)) (shown m (view.query query.now) combinations.now)) }
+{
+    let shown = show_asked(alloc, query, combinations, functions, params)?;
+    let rows = finished(alloc, query, shown, functions)?;
+    Ok(rows)
+}
+
 /// The rows that a query answers, of tables in the order of FROM: of the combinations on which its terms are true, or of
 /// their groups, each once under DISTINCT, in the order of ORDER BY, behind OFFSET and within LIMIT. All is evaluated, so
 /// a limit hides no fault.
@@ -93,7 +110,5 @@ pub fn select<F: Functions>(
     ensures { Answers (⟦<F as Hosted>⟧.means functions.now) params.now result (λ v. v.items) (λ m. answer m (view.query query.now) tables.now) }
 {
     let combinations = joined(alloc, query, tables, functions, params)?;
-    let shown = show_asked(alloc, query, combinations.as_slice(), functions, params)?;
-    let rows = finished(alloc, query, shown, functions)?;
-    Ok(rows)
+    answered(alloc, query, combinations.as_slice(), functions, params)
 }

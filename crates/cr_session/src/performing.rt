@@ -14,7 +14,7 @@ ghost use Rattle.cr_session.specs.Lookup.{ShowsQuery};
 ghost use Rattle.cr_session.specs.Performing.{Passes, Performs, not_replicated};
 
 use crate::session::Session;
-use cr_answer::selecting::answer_query;
+use cr_answer::selecting::{answer_query, answer_view};
 use cr_cells::store::Cells;
 use cr_expr::given::Hosted;
 use cr_guard::guarding::Guarding;
@@ -24,7 +24,6 @@ use cr_lattice::table::{ColumnDef, Items, Row, TableDef};
 use cr_replica::definition::DefineError;
 use cr_replica::snapshot::Snapshot;
 use cr_script::speaking::Watching;
-use cr_snapshot::rows::tables_of;
 use cr_term::query::{Alter, Create, Held, MarkReplicated, Query, Relation, Resolved};
 use cr_value::text::Text;
 use cr_value::value::Value;
@@ -119,8 +118,10 @@ pub fn answered<F: Functions>(
     requires { F.is_faithful functions.now }
     ensures { (host : Host) (st : State) → ShowsQuery (⟦<F as Hosted>⟧.means functions.now) params.now query.now st snapshot.now → Performs (⟦<F as Hosted>⟧.means functions.now) params.now host st (view (r.Select query.now)) result st }
 {
-    let tables = tables_of(alloc, snapshot, query.joined.as_slice())?;
-    answered_over(alloc, functions, tables.as_slice(), query, params)
+    match answer_view(alloc, functions, snapshot, query, params) {
+        Ok(shown) => Ok(Reply::Rows(shown)),
+        Err(refusal) => Err(refusal),
+    }
 }
 
 impl<C: Cells> Session<C> {

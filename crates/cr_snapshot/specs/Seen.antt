@@ -1,10 +1,7 @@
 -- What a statement sees of a replica as it stood at a moment. Source: this project's own; what may be named and which rows
 -- are shown is said of states of sessions.
 use Rattle.std.specs.Prelude.{◌≡◌, ℕ, pos, Bool, List, [], ◌∷◌, map, find, Option, Some, None, if◌then◌else◌}
-use Rattle.cr_value.specs.declared.value.Value.{Value}
-use Rattle.cr_value.specs.declared.value.Value.TheVariants.{Int, Text, Blob}
 use Rattle.cr_lattice.specs.declared.catalog.Catalog.{Catalog}
-use Rattle.cr_lattice.specs.declared.stamped.Stamped.{Stamped}
 use Rattle.cr_lattice.specs.declared.table.TableDef.{TableDef}
 use Rattle.cr_lattice.specs.Check.{same_bytes}
 use Rattle.cr_cells.specs.Holding.{since}
@@ -14,16 +11,6 @@ use Rattle.cr_replica.specs.declared.snapshot.Listing.{Listing}
 use Rattle.cr_replica.specs.declared.snapshot.Snapshot.{Snapshot}
 use Rattle.cr_term.specs.declared.query.Joined.{Joined}
 use Rattle.cr_world.specs.State.{State, ModuleState, changes_definition, changes_name, module_definition, now, row_of, rows_or}
-
--- a row of the table of changes, in three parts
-abbrev pub key_values : Stamped → List Value
-key_values s = Text s.change.table ∷ Blob s.change.pk ∷ Text s.change.cid ∷ s.change.val ∷ []
-
-abbrev pub write_values : Stamped → List Value
-write_values s = Int s.change.col_version ∷ Int s.version ∷ Blob s.change.site ∷ []
-
-abbrev pub place_values : Stamped → List Value
-place_values s = Int s.change.cl ∷ Int s.seq ∷ []
 
 abbrev pub definition_of : Listing → TableDef
 definition_of l = l.definition

@@ -1,4 +1,4 @@
-//! What a statement sees of a replica: what it may name, and the rows of tables, of the table of changes and of modules.
+//! What a statement sees of a replica: what it may name, the table of changes, and the rows of a table.
 #![tactic(auto)]
 
 pub mod catalog;

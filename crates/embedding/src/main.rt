@@ -1,7 +1,7 @@
 //! A host that embeds the engine: it registers tables of its own with a session, listens to what becomes of rows, has statements
 //! carried out, one with values for its parameters, and prints each with what was heard of it and its answer. A second host has an
-//! authorizer in place of the listener, and prints each statement with what the authorizer was asked about it. At last three replicas
-//! of a host speak to one another by calls.
+//! authorizer in place of the listener, and prints each statement with what the authorizer was asked about it. Then three replicas
+//! of a host speak to one another by calls, and at last one refuses statements for each of many causes.
 #![tactic(auto)]
 
 mod asking;
@@ -10,6 +10,7 @@ mod listening;
 mod module;
 mod offering;
 mod printing;
+mod refusing;
 mod syncing;
 
 use asking::{Questions, note, print_asked};
@@ -17,8 +18,9 @@ use counted::Counted;
 use cr_cells::plain::PlainCells;
 use cr_guard::closures::AuthorizerFn;
 use cr_guard::guard::Guard;
+use cr_guard::guarding::Guarding;
 use cr_guard::listener::Listener;
-use cr_guard::policy::Policy;
+use cr_guard::policy::{Policy, PolicyRule, ReadRule};
 use cr_guard::samples::Notes;
 use cr_host::functions::BuiltIns;
 use cr_host::meaning::{Action, Auth};
@@ -31,6 +33,7 @@ use listening::{Shared, Silent, print_heard};
 use module::Numbers;
 use offering::{Observed, Offered, print_offered};
 use printing::{print_done, print_reply};
+use refusing::run_refused;
 use std::alloc::{AllocError, Global};
 use std::cell::RefCell;
 use std::io::{self, LineWriter, Write};
@@ -146,6 +149,18 @@ const ASKED_STATEMENTS: [&str; 39] = [
     "SELECT abs(nope) FROM t",
 ];
 
+/// The same host under a policy that denies READ of `t.name`: nothing is asked behind the question that is denied.
+const DENIED_STATEMENTS: [&str; 8] = [
+    "SELECT n, upper(name), abs(id) FROM t WHERE length(hex(n)) = 1",
+    "SELECT abs(n) FROM t AS a JOIN u ON u.id = a.id AND name = lower('A') ORDER BY a.id + abs(n)",
+    "SELECT count(*) FROM t WHERE id > 0 GROUP BY n, name HAVING max(id) > 0",
+    "INSERT INTO u VALUES(abs(-4))",
+    "UPDATE t SET n = length(name) + abs(id) WHERE upper(id) > ''",
+    "UPDATE t SET name = lower('B'), n = abs(n) WHERE id = 1",
+    "DELETE FROM t WHERE id = 1 AND name LIKE 'a' AND abs(n) > 0",
+    "SELECT id, n FROM t",
+];
+
 /// `m` has the numbers from 1 to 3, `many` those to 4,000,000,000, each in its column `v`. They are offered what compares that with
 /// constants byte by byte, and an order where theirs is the only table and each of its rows is shown.
 const OFFERED_STATEMENTS: [&str; 20] = [
@@ -257,10 +272,12 @@ fn ask_unheard<W: Write>(
     asked
 }
 
-// Has a statement carried out, and prints it with what the authorizer was asked about it and its answer.
+// Has a statement carried out under a rule, if there is one, and prints it with what the authorizer was asked about it and its
+// answer.
 fn ask_authorized<W: Write>(
     alloc: Global,
     host: &mut Host,
+    rule: Option<&PolicyRule>,
     text: &str,
     out: &mut W,
 ) -> io::Result<()> {
@@ -272,6 +289,9 @@ fn ask_authorized<W: Write>(
         Auth::Ok
     })?;
     let mut guard: Guard<Silent> = Guard::new(alloc);
+    if let Some(rule) = rule {
+        guard.policy(alloc, rule)?;
+    }
     guard.set_authorizer(0, answer);
     let outcome = host
         .session
@@ -309,13 +329,25 @@ fn run_listening<W: Write>(alloc: Global, out: &mut W) -> io::Result<()> {
     Ok(())
 }
 
+fn run_denied<W: Write>(alloc: Global, host: &mut Host, out: &mut W) -> io::Result<()> {
+    let rule = PolicyRule::Read(ReadRule {
+        table: Text::from_str(alloc, "t")?,
+        column: Text::from_str(alloc, "name")?,
+        answer: Auth::Deny,
+    });
+    for text in &DENIED_STATEMENTS {
+        ask_authorized(alloc, host, Some(&rule), text, out)?;
+    }
+    Ok(())
+}
+
 fn run_authorized<W: Write>(alloc: Global, out: &mut W) -> io::Result<()> {
     let mut host = new_host(alloc)?;
     register(alloc, &mut host, "m", three(alloc, true)?, out)?;
     for text in &ASKED_STATEMENTS {
-        ask_authorized(alloc, &mut host, text, out)?;
+        ask_authorized(alloc, &mut host, None, text, out)?;
     }
-    Ok(())
+    run_denied(alloc, &mut host, out)
 }
 
 // The numbers up to a last one, which note what they are offered.
@@ -375,5 +407,6 @@ fn main(rt: HostRuntime) -> io::Result<()> {
     run_authorized(rt.alloc(), &mut out)?;
     run_offered(rt.alloc(), &mut out)?;
     run_syncing(rt.alloc(), &mut out)?;
+    run_refused(rt.alloc(), &mut out)?;
     out.flush()
 }

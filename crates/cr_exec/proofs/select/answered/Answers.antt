@@ -1,0 +1,13 @@
+use Rattle.std.proofs.Common.{map}
+use Rattle.cr_scalar.specs.Host.{host}
+use Rattle.cr_exec.specs.Shows.{shown_of}
+use Rattle.cr_exec.proofs.Selected.{answered_both}
+use Rattle.cr_exec.proofs.select.answered.Goals as goal
+
+pub returns : goal.returns
+returns g c =
+    let f = g.F.Functions in
+    let own = c.args.functions.now in
+    let h = host (f.function_of own) (f.scalar own) (f.step own) (f.finish own) (f.order_of own) in
+    answered_both h c.args.params.now c.args.query.now c.args.combinations.now (map shown_of c.in_ok-shown.shown.items)
+    c.in_ok-rows.rows.items c.in_ok-shown.ensures c.in_ok-rows.ensures

@@ -1,0 +1,11 @@
+use Rattle.std.proofs.Common.{◌≡◌, ◌∙◌, false, length, ap, sym}
+use Rattle.cr_module.specs.Lawful.{first_row, is_at_end}
+use Rattle.cr_tables.specs.Views.{rows_before}
+use Rattle.cr_tables.specs.declared.view.Standing.{Standing}
+use Rattle.cr_tables.proofs.Places.{change_width}
+use Rattle.cr_tables.proofs.view.ViewSource.width.Goals as goal
+
+pub returns-in-Changes : goal.returns-in-Changes
+returns-in-Changes c =
+    change_width c.in-Changes.field-0.now (ap (λ (s : Standing). is_at_end (rows_before s)) (sym c.in-Changes.is) ∙ c.requires)
+    ∙ ap (λ (s : Standing). length (first_row (rows_before s))) (sym c.in-Changes.is)

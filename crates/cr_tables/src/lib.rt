@@ -1,0 +1,6 @@
+//! The rows that a statement sees, read one after another: of tables, of the table of changes and of modules.
+#![tactic(auto)]
+
+pub mod changes;
+pub mod shown;
+pub mod view;
