@@ -133,12 +133,7 @@ impl<S: Source> Source for Failing<S> {
         self.source.width(cursor)
     }
 
-    fn column(
-        &mut self,
-        alloc: Global,
-        cursor: &S::Cursor,
-        at: usize,
-    ) -> Result<Value, ReadFault> {
+    fn column(&mut self, alloc: Global, cursor: &S::Cursor, at: usize) -> Result<Value, ReadFault> {
         self.count()?;
         self.source.column(alloc, cursor, at)
     }

@@ -1,6 +1,6 @@
 -- The tables of a view, by their places.
-use Rattle.std.proofs.Common.{◌≡◌, ℕ, zero, suc, ◌+◌, arith, List, [], ◌∷◌, refl, ap, ◌∙◌, length, map}
-use Rattle.std.specs.Prelude.{Option, Some, slice_get}
+use Rattle.std.proofs.Common.{◌≡◌, ℕ, suc, ◌+◌, arith, List, [], ◌∷◌, refl, ap, ◌∙◌, length, map}
+use Rattle.std.specs.Prelude.{Some, slice_get}
 use Rattle.cr_query.specs.Query.{Row}
 use Rattle.cr_module.specs.Reading.{tables_between}
 use Rattle.cr_replica.specs.declared.snapshot.Snapshot.{Snapshot}

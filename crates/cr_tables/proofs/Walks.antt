@@ -6,7 +6,7 @@ use Rattle.std.proofs.Common.{true≢false}
 use Rattle.std.proofs.lemmas.Bool.{eqb-true, false_from_ne_true}
 use Rattle.std.proofs.lemmas.List.{append_cancel_left, length-map}
 use Rattle.std.proofs.lemmas.Option.{slice_get-map}
-use Rattle.std.specs.List.{list_any, AllByRecursion}
+use Rattle.std.specs.List.{AllByRecursion}
 use Rattle.std.specs.List.Sorted.{IsSortedBy}
 use Rattle.std.specs.Ordering.{is_eq, is_lt, match_ordering, ordering_reverse}
 use Rattle.std.specs.BTreeSet.{insert_key}
@@ -19,7 +19,7 @@ use Rattle.cr_lattice.specs.declared.change.Change.{Change}
 use Rattle.cr_lattice.specs.declared.table.ColumnDef.{ColumnDef}
 use Rattle.cr_lattice.specs.declared.table.TableDef.{TableDef}
 use Rattle.cr_lattice.specs.Sets.{set_of}
-use Rattle.cr_lattice.specs.Rows.{alive_keys, cell, has_lesser_key, is_below, is_present, is_under, keys_in_order, row, rows}
+use Rattle.cr_lattice.specs.Rows.{alive_keys, cell, has_lesser_key, is_below, is_present, is_under, row, rows}
 use Rattle.cr_lattice.proofs.KeyLemmas.{by_key_order, row-under}
 use Rattle.cr_value.specs.Unpacking.{unpacked}
 use Rattle.cr_module.specs.Lawful.{first_row, head_value, is_at_end, rest_of}
@@ -223,9 +223,9 @@ module _ (def : TableDef) where
       let same : map (row (g ++ l) def) later ≡ map (row l def) later = rows_later pk g l later under (keys_above def.name pk l up) in
       ap (map (row (g ++ l) def)) (keys_first def.name pk g l under up)
       ∙ elim (is_shown def.name g) as (λ b. map (row (g ++ l) def) (cond b (pk ∷ later) later) ≡ cond b (row g def pk ∷ map (row l def) later) (map (row l def) later)) [
-          | true ↦ λ i. row_first pk g l under up i ∷ same i
-          | false ↦ same
-        ]
+        | true ↦ λ i. row_first pk g l under up i ∷ same i
+        | false ↦ same
+      ]
 
   -- the row of the first key, where it is present, before those of the later ones
   pub rows_first : (cs : List Change) → IsSortedBy has_lesser_key cs

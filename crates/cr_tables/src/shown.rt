@@ -1,13 +1,11 @@
 //! The rows that kept changes show, one key after another.
 
-ghost use Rattle.std.specs.Prelude.{◌≡◌, false, length, map, unwrap_or, IfOk, OnOk, IsTrue, [], slice_index_or, ◌-◌};
-ghost use Rattle.std.specs.List.{list_any};
+ghost use Rattle.std.specs.Prelude.{◌≡◌, ◌-◌, false, length, slice_index_or, IfOk, OnOk, IsTrue};
 ghost use Rattle.std.specs.List.Sorted.{IsSortedBy};
-ghost use Rattle.cr_value.specs.Unpacking.{unpacked};
 ghost use Rattle.cr_value.specs.declared.value.Value.TheVariants.{Null};
 ghost use Rattle.cr_lattice.specs.Rows.{cell, has_lesser_key, rows};
 ghost use Rattle.cr_module.specs.Lawful.{first_row, head_value, is_at_end, rest_of};
-ghost use Rattle.cr_tables.specs.Shown.{Stands, first_group, first_key, is_shown, key_values};
+ghost use Rattle.cr_tables.specs.Shown.{first_group, first_key, is_shown, key_values};
 
 use cr_lattice::change::Change;
 use cr_lattice::rows::{column_value, is_present};
@@ -44,7 +42,10 @@ impl<'a> Model for Shown<'a> {
 pub(crate) fn are_by_key(changes: &[Change]) -> bool
     ensures { IsTrue result → IsSortedBy has_lesser_key changes.now }
 {
-    changes.is_sorted_by(|change, next| !cmp_bytes(next.pk.as_slice(), change.pk.as_slice()).is_lt())
+    changes.is_sorted_by(|change, next| !cmp_bytes(
+        next.pk.as_slice(),
+        change.pk.as_slice(),
+    ).is_lt())
 }
 
 // How many changes at the front are of the first key.
@@ -170,13 +171,7 @@ impl Shown<'_> {
         ensures { IfOk result (λ v. v ≡ head_value at self.now) }
     {
         match self.def.columns.as_slice().get(at) {
-            Some(column) => cell(
-                alloc,
-                self.def.name.as_str(),
-                self.group,
-                &self.key,
-                column,
-            ),
+            Some(column) => cell(alloc, self.def.name.as_str(), self.group, &self.key, column),
             None => Ok(Value::Null),
         }
     }

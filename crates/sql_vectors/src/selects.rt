@@ -22,7 +22,10 @@ use cr_tree::statement::Statement;
 use std::alloc::{AllocError, Global};
 
 /// The columns and the rows of the tables `t` and `u`.
-const T: (&str, &str) = ("id|INT|1|NULL / name|TEXT||NULL / n|INT||NULL", "1|'a'|10 / 2|'b'|NULL / 3|'a'|30 / 4|NULL|20");
+const T: (&str, &str) = (
+    "id|INT|1|NULL / name|TEXT||NULL / n|INT||NULL",
+    "1|'a'|10 / 2|'b'|NULL / 3|'a'|30 / 4|NULL|20",
+);
 
 const U: (&str, &str) = ("id|INT|1|NULL / t|INT||NULL", "1|1 / 2|3 / 3|9");
 

@@ -1,4 +1,4 @@
-use Rattle.std.proofs.Common.{◌≡◌, ◌∙◌, ◌++◌, ◌∷◌, [], List, ap, arith}
+use Rattle.std.proofs.Common.{◌∙◌, ◌++◌, ◌∷◌, [], List, ap, arith}
 use Rattle.cr_query.specs.Query.{Row}
 use Rattle.cr_module.specs.Lawful.{first_row, head_value}
 use Rattle.cr_module.proofs.Readings.{next_value}

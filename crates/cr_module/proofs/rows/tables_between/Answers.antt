@@ -1,4 +1,4 @@
-use Rattle.std.proofs.Common.{◌≡◌, ◌∙◌, ◌+◌, ◌-◌, ◌++◌, ◌∷◌, [], ℕ, List, ap, arith}
+use Rattle.std.proofs.Common.{◌∙◌, ◌+◌, ◌-◌, ◌++◌, ◌∷◌, [], ℕ, List, arith}
 use Rattle.cr_query.specs.Query.{Row}
 use Rattle.cr_module.specs.Reading.{tables_between}
 use Rattle.cr_module.proofs.Sources.{next_table, or_none}

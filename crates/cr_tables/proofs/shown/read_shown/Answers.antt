@@ -42,8 +42,8 @@ loop-rest-preserved c =
     let later = c.split_at.ensures.back ∙ ap (λ (n : ℕ). drop n rest) c.group_length.ensures ∙ dropped_front (first_key rest) rest in
     let def = c.args.def.now in
     let none =
-        ap (λ (cs : List Change). is_shown def.name cs) (sym group) ∙ ap (λ (name : List ℕ). is_shown name c.split_at.result.0.now) (sym c.as_str.ensures.value)
-            ∙ sym c.is_shown.ensures ∙ c.if-is_shown.false in (
+    ap (λ (cs : List Change). is_shown def.name cs) (sym group) ∙ ap (λ (name : List ℕ). is_shown name c.split_at.result.0.now) (sym c.as_str.ensures.value)
+    ∙ sym c.is_shown.ensures ∙ c.if-is_shown.false in (
       subst (IsSortedBy has_lesser_key) (sym later) (behind_sorted (first_key rest) rest c.loop-rest.invariant.0),
       ap (λ (cs : List Change). rows cs def) later ∙ skipped def rest c.loop-rest.invariant.0 none ∙ c.loop-rest.invariant.1,
     )

@@ -1,4 +1,4 @@
-use Rattle.std.proofs.Common.{◌≡◌, ◌∙◌, List, ap, sym}
+use Rattle.std.proofs.Common.{◌∙◌, List, ap, sym}
 use Rattle.cr_value.specs.declared.value.Value.{Value}
 use Rattle.cr_module.specs.Lawful.{is_at_end, rest_of}
 use Rattle.cr_tables.proofs.Walks.{later_sorted, rest_is}

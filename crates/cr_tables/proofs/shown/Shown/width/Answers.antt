@@ -1,4 +1,4 @@
-use Rattle.std.proofs.Common.{◌≡◌, ◌∙◌, List, ap, sym, length}
+use Rattle.std.proofs.Common.{◌∙◌, List, ap, sym, length}
 use Rattle.cr_value.specs.declared.value.Value.{Value}
 use Rattle.cr_module.specs.Lawful.{first_row, is_at_end}
 use Rattle.cr_tables.proofs.Walks.{width_is}

@@ -1,4 +1,4 @@
-use Rattle.std.proofs.Common.{◌≡◌, ◌∙◌, false, length, ap, sym}
+use Rattle.std.proofs.Common.{◌∙◌, length, ap, sym}
 use Rattle.cr_module.specs.Lawful.{first_row, is_at_end}
 use Rattle.cr_tables.specs.Views.{rows_before}
 use Rattle.cr_tables.specs.declared.view.Standing.{Standing}
