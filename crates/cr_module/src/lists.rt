@@ -1,7 +1,4 @@
-//! Sources over lists of rows, and one that fails.
-
-ghost use Rattle.std.specs.Prelude.{◌≡◌, ◌||◌};
-ghost use Rattle.cr_module.specs.Reading.{is_failure};
+//! A source over lists of rows.
 
 use crate::source::{ReadFault, Source};
 use cr_lattice::table::{Items, Row};
@@ -72,74 +69,5 @@ impl<'a> Source for Lists<'a> {
             cursor.rows = later;
         }
         Ok(())
-    }
-}
-
-/// A source whose rows stand in something that fails once it was called so many times.
-#[derive(Drop)]
-pub struct Failing<S: Source> {
-    pub source: S,
-    /// How many calls don't fail yet.
-    pub calls: usize,
-    has_failed: bool,
-}
-
-impl<S: Source> Failing<S> {
-    /// The source, of which so many calls don't fail.
-    pub fn new(source: S, calls: usize) -> Failing<S>
-        ensures rows { ⟦<Failing<S> as Source>⟧.rows_of result ≡ S.rows_of source }
-        ensures failed { ⟦<Failing<S> as Source>⟧.has_failed result ≡ S.has_failed source }
-    {
-        Failing {
-            source,
-            calls,
-            has_failed: false,
-        }
-    }
-
-    // One call more.
-    fn count(&mut self) -> Result<(), ReadFault>
-        ensures source { self.new.source ≡ self.old.source }
-        ensures failed { self.new.has_failed ≡ self.old.has_failed || is_failure result }
-    {
-        if self.calls == 0 {
-            self.has_failed = true;
-            return Err(ReadFault::Store);
-        }
-        self.calls -= 1;
-        Ok(())
-    }
-}
-
-impl<S: Source> Source for Failing<S> {
-    type Cursor = S::Cursor;
-
-    ghost rows_of = { λ f. S.rows_of f.source };
-
-    ghost left = { λ f. S.left f.source };
-
-    ghost has_failed = { λ f. f.has_failed || S.has_failed f.source };
-
-    fn filter(&mut self, alloc: Global, table: usize) -> Result<S::Cursor, ReadFault> {
-        self.count()?;
-        self.source.filter(alloc, table)
-    }
-
-    fn eof(&self, cursor: &S::Cursor) -> bool {
-        self.source.eof(cursor)
-    }
-
-    fn width(&self, cursor: &S::Cursor) -> usize {
-        self.source.width(cursor)
-    }
-
-    fn column(&mut self, alloc: Global, cursor: &S::Cursor, at: usize) -> Result<Value, ReadFault> {
-        self.count()?;
-        self.source.column(alloc, cursor, at)
-    }
-
-    fn next(&mut self, alloc: Global, cursor: &mut S::Cursor) -> Result<(), ReadFault> {
-        self.count()?;
-        self.source.next(alloc, cursor)
     }
 }
