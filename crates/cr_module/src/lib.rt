@@ -1,4 +1,4 @@
-//! Table modules of a host: what one is, and how it is read.
+//! Table modules of a host, and tables that are read row by row: what they are, and how their rows are read.
 #![tactic(auto)]
 
 pub mod lists;
