@@ -1,4 +1,4 @@
-//! Statements that are refused, each for another cause, and what is said of each.
+//! Statements that are refused, for many causes, and what is said of each.
 
 use crate::printing::print_reply;
 use crate::syncing::{Replica, new_replica};
