@@ -3,7 +3,7 @@
 ghost use Rattle.cr_answer.specs.Selecting.{Gives, answer_over, answer_seen};
 
 use cr_exec::select::select as rows_of;
-use cr_exec::streamed::{SelectFault, select_from};
+use cr_exec::streamed::{SourceFault, select_from};
 use cr_expr::given::Hosted;
 use cr_host::functions::Functions;
 use cr_lattice::table::{Items, Row};
@@ -55,8 +55,8 @@ pub fn answer_view<F: Functions>(
     };
     match select_from(alloc, query, &mut view, functions, params) {
         Ok(rows) => Ok(Items::new(rows)),
-        Err(SelectFault::Eval(fault)) => Err(Refusal::from(fault)),
+        Err(SourceFault::Eval(fault)) => Err(Refusal::from(fault)),
         // A view reads what stands in memory, which doesn't fail.
-        Err(SelectFault::Store) => Err(Refusal::Memory),
+        Err(SourceFault::Store) => Err(Refusal::Memory),
     }
 }

@@ -17,8 +17,8 @@ use Rattle.cr_meaning.specs.View.{Ordered, query, terms as terms_of}
 use Rattle.cr_module.specs.Lawful.{first_row, is_at_end, rest_of}
 use Rattle.cr_module.specs.Reading.{tables_between}
 use Rattle.cr_exec.specs.declared.source.Source.{Source}
-use Rattle.cr_exec.specs.declared.streamed.SelectFault.{SelectFault}
-use Rattle.cr_exec.specs.declared.streamed.SelectFault.TheVariants.{Eval, Store}
+use Rattle.cr_exec.specs.declared.streamed.SourceFault.{SourceFault}
+use Rattle.cr_exec.specs.declared.streamed.SourceFault.TheVariants.{Eval, Store}
 use Rattle.cr_exec.specs.Answers.{Stage, Faults, IsBoth, behind}
 use Rattle.cr_exec.specs.Combinations.{tail}
 use Rattle.cr_exec.specs.LookUps.{join_of, joined_rows, rows_of}
@@ -120,7 +120,7 @@ module _ (host : Host) (params : List Value)
       ∙ sym (tail_inner most host params terms j js (rows 0) tables [] inner)
       ∙ (λ i. tail m terms (sym parts i) (all_are i) [])
 
-  pub read_fault : (old new : List Row) (f : SelectFault)
+  pub read_fault : (old new : List Row) (f : SourceFault)
       → AddsRead host params read_rows old new (Err f) → AddsRead host params wanted old new (Err f)
   read_fault old new (Eval e) h =
       joined_fault host params q all_tables ts q.joined same refl e

@@ -25,48 +25,48 @@ use cr_term::query::{Joined, Query};
 use cr_value::value::Value;
 use std::alloc::{AllocError, Global};
 
-/// Why a SELECT over a source has no answer.
+/// Why a statement over a source has no rows.
 #[derive(Debug, Drop)]
-pub enum SelectFault {
+pub enum SourceFault {
     /// An expression has a fault, or memory ran out: `EvalFault::Memory`.
     Eval(EvalFault),
     /// What the rows stand in failed.
     Store,
 }
 
-impl From<EvalFault> for SelectFault {
+impl From<EvalFault> for SourceFault {
     ghost use Rattle.std.specs.Prelude.{◌≡◌};
-    ghost use Rattle.cr_exec.specs.declared.streamed.SelectFault.TheVariants.{Eval};
+    ghost use Rattle.cr_exec.specs.declared.streamed.SourceFault.TheVariants.{Eval};
 
     ghost from_gives = { λ fault e. e ≡ Eval fault };
 
-    fn from(fault: EvalFault) -> SelectFault {
-        SelectFault::Eval(fault)
+    fn from(fault: EvalFault) -> SourceFault {
+        SourceFault::Eval(fault)
     }
 }
 
-impl From<AllocError> for SelectFault {
+impl From<AllocError> for SourceFault {
     ghost use Rattle.std.specs.Prelude.{◌≡◌};
     ghost use Rattle.cr_scalar.specs.declared.fault.EvalFault.TheVariants.{Memory};
-    ghost use Rattle.cr_exec.specs.declared.streamed.SelectFault.TheVariants.{Eval};
+    ghost use Rattle.cr_exec.specs.declared.streamed.SourceFault.TheVariants.{Eval};
 
     ghost from_gives = { λ _ e. e ≡ Eval Memory };
 
-    fn from(_e: AllocError) -> SelectFault {
-        SelectFault::Eval(EvalFault::Memory)
+    fn from(_e: AllocError) -> SourceFault {
+        SourceFault::Eval(EvalFault::Memory)
     }
 }
 
-impl From<ReadFault> for SelectFault {
+impl From<ReadFault> for SourceFault {
     ghost use Rattle.std.specs.Prelude.{◌≡◌};
     ghost use Rattle.cr_exec.specs.Streamed.{of_reading};
 
     ghost from_gives = { λ fault e. e ≡ of_reading fault };
 
-    fn from(fault: ReadFault) -> SelectFault {
+    fn from(fault: ReadFault) -> SourceFault {
         match fault {
-            ReadFault::Memory => SelectFault::Eval(EvalFault::Memory),
-            ReadFault::Store => SelectFault::Store,
+            ReadFault::Memory => SourceFault::Eval(EvalFault::Memory),
+            ReadFault::Store => SourceFault::Store,
         }
     }
 }
@@ -81,7 +81,7 @@ fn join_read<F: Functions, S: Source>(
     source: &mut S,
     functions: &F,
     params: &[Value],
-) -> Result<(), SelectFault>
+) -> Result<(), SourceFault>
     requires faithful { F.is_faithful functions.now }
     requires quiet_first { IsQuietFirst (map there terms.now) }
     requires sound { AreSound (⟦<F as Hosted>⟧.means functions.now) (map there terms.now) later.now }
@@ -107,7 +107,7 @@ fn joined_as_lists<F: Functions, S: Source>(
     source: &mut S,
     functions: &F,
     params: &[Value],
-) -> Result<Vec<Row>, SelectFault>
+) -> Result<Vec<Row>, SourceFault>
     requires { F.is_faithful functions.now }
     ensures rows { S.rows_of source.new ≡ S.rows_of source.old }
     ensures failed { S.has_failed source.new ≡ S.has_failed source.old || is_store result }
@@ -129,7 +129,7 @@ fn joined_row_by_row<F: Functions, S: Source>(
     source: &mut S,
     functions: &F,
     params: &[Value],
-) -> Result<Vec<Row>, SelectFault>
+) -> Result<Vec<Row>, SourceFault>
     requires faithful { F.is_faithful functions.now }
     requires parts { query.now.joined ≡ first.now ∷ later.now }
     requires inner { first.now.is_left ≡ false }
@@ -165,7 +165,7 @@ fn joined_from<F: Functions, S: Source>(
     source: &mut S,
     functions: &F,
     params: &[Value],
-) -> Result<Vec<Row>, SelectFault>
+) -> Result<Vec<Row>, SourceFault>
     requires { F.is_faithful functions.now }
     ensures rows { S.rows_of source.new ≡ S.rows_of source.old }
     ensures failed { S.has_failed source.new ≡ S.has_failed source.old || is_store result }
@@ -194,7 +194,7 @@ pub fn select_from<F: Functions, S: Source>(
     source: &mut S,
     functions: &F,
     params: &[Value],
-) -> Result<Vec<Row>, SelectFault>
+) -> Result<Vec<Row>, SourceFault>
     requires faithful { F.is_faithful functions.now }
     requires not_failed { S.has_failed source.old ≡ false }
     ensures answers { Selects (⟦<F as Hosted>⟧.means functions.now) params.now result (λ v. v.items)

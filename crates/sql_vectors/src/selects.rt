@@ -6,7 +6,7 @@
 //! | `failing` | a SELECT | how many calls of its readings fail it, as each of them fails in turn, and its rows or its fault then |
 
 use crate::failing::FailingLists;
-use cr_exec::streamed::{SelectFault, select_from};
+use cr_exec::streamed::{SourceFault, select_from};
 use cr_grouped::select::select as query_of;
 use cr_host::functions::BuiltIns;
 use cr_lattice::catalog::Catalog;
@@ -87,16 +87,16 @@ fn answer_within(
     query: &Query,
     tables: &[Items<Row>],
     calls: usize,
-) -> Result<Vec<Row>, SelectFault> {
+) -> Result<Vec<Row>, SourceFault> {
     let mut source = FailingLists::new(tables, calls);
     select_from(alloc, query, &mut source, &BuiltIns, &[])
 }
 
-fn told(alloc: Global, answer: &Result<Vec<Row>, SelectFault>) -> Result<String, AllocError> {
+fn told(alloc: Global, answer: &Result<Vec<Row>, SourceFault>) -> Result<String, AllocError> {
     match answer {
         Ok(rows) => told_rows(alloc, rows.as_slice()),
-        Err(SelectFault::Eval(fault)) => Ok(format!(in alloc; "{fault:?}")?),
-        Err(SelectFault::Store) => String::from_str(alloc, "Store"),
+        Err(SourceFault::Eval(fault)) => Ok(format!(in alloc; "{fault:?}")?),
+        Err(SourceFault::Store) => String::from_str(alloc, "Store"),
     }
 }
 
@@ -110,7 +110,7 @@ fn of_select(alloc: Global, query: &Query, tables: &[Items<Row>]) -> Result<Stri
 fn of_failing(alloc: Global, query: &Query, tables: &[Items<Row>]) -> Result<String, ToldError> {
     for calls in 0..MOST_CALLS {
         let answer = answer_within(alloc, query, tables, calls);
-        if !matches!(answer, Err(SelectFault::Store)) {
+        if !matches!(answer, Err(SourceFault::Store)) {
             let told = told(alloc, &answer)?;
             return Ok(format!(in alloc; "fails at each of {calls} calls, then {told}")?);
         }
