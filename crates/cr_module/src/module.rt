@@ -84,13 +84,14 @@ pub trait Module: Drop {
 
     /// A reading by an index that it chose, with the arguments of the constraints that it chose then. Of its rows it gives each
     /// at most as often as it has it, and leaves none out that meets these constraints; each row meets those that it checks
-    /// itself, and where it said so rows come in the order that was offered.
+    /// itself, and where it said so rows come in the order that was offered. Each of its rows has a value for each column.
     ///
     /// # Errors
     /// Want of memory.
     fn filter(&self, alloc: Global, index: i64, args: &[Value]) -> Result<Cursor, AllocError>
         ensures filtered { IfOk result (λ c. IsFiltered (best self.now) (rows_of self.now) index args.now (left self.now c)) }
-        ensures wide { IfOk result (λ c. AreWide (columns_of self.now) (left self.now c)) };
+        ensures wide { IfOk result (λ c. AreWide (columns_of self.now) (left self.now c)) }
+        ensures all_wide { IfOk result (λ _. AreWide (columns_of self.now) (rows_of self.now)) };
 
     /// Whether a reading has come to its end.
     fn eof(&self, cursor: &Cursor) -> bool

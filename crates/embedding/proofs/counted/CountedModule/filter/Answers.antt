@@ -36,3 +36,6 @@ returns-clause-filtered c = λ cs os e many.
 
 pub returns-clause-wide : goal.returns-clause-wide
 returns-clause-wide c = numbers_wide c.args.self.now.columns c.part-span.result.start _ c.args.self.now.one
+
+pub returns-clause-all_wide : goal.returns-clause-all_wide
+returns-clause-all_wide c = numbers_wide c.args.self.now.columns 1 c.args.self.now.last c.args.self.now.one
