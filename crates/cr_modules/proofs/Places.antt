@@ -13,10 +13,7 @@ use Rattle.cr_world.specs.declared.refusal.Refusal.TheVariants as refusal
 use Rattle.cr_world.specs.Causes.{Free, or_else, where_true}
 use Rattle.cr_world.specs.State.{ModuleState, is_module}
 use Rattle.cr_world.specs.Statement.{ModuleLeaves, ModulesLeave}
-use Rattle.cr_module.specs.declared.plan.Order.{Order}
-use Rattle.cr_plan.specs.declared.offer.Offer.{Offer}
-use Rattle.cr_plan.specs.Offers.{IsReadBy}
-use Rattle.cr_modules.specs.States.{AreGivenOf, Best, HasNone, IsPlace, IsRefusedBy, Updates, UpdatesTo, are_distinct, is_taken, module_in, register_cause}
+use Rattle.cr_modules.specs.States.{HasNone, IsPlace, IsRefusedBy, Updates, UpdatesTo, are_distinct, is_taken, module_in, register_cause}
 use Rattle.cr_modules.proofs.Naming.{has_none}
 
 -- an item that is like the one in whose place it is set
@@ -43,17 +40,6 @@ module _ {X : Type 0} (f : X → ModuleState) (name : List ℕ) where
   found_at [] i d few is none = absurd (omega (arith, few))
   found_at (x ∷ xs) zero d few is none = ap (λ (b : Bool). cond b (Some (f x)) (module_in (map f xs) name)) is
   found_at (x ∷ xs) (suc i) d few is none = ap (λ (b : Bool). cond b (Some (f x)) (module_in (map f xs) name)) none.0 ∙ found_at xs i d (omega (arith, few)) is none.1
-
-  -- the first of them that has the name
-
-  none_first : (xs : List X) → HasNone named xs → find named xs ≡ None
-  none_first [] none = refl
-  none_first (x ∷ xs) none = ap (λ (b : Bool). cond b (Some x) (find named xs)) none.0 ∙ none_first xs none.1
-
-  first_at : (xs : List X) (i : ℕ) (d : X) → i < length xs → named (slice_index_or xs i d) ≡ true → HasNone named (take i xs) → find named xs ≡ Some (slice_index_or xs i d)
-  first_at [] i d few is none = absurd (omega (arith, few))
-  first_at (x ∷ xs) zero d few is none = ap (λ (b : Bool). cond b (Some x) (find named xs)) is
-  first_at (x ∷ xs) (suc i) d few is none = ap (λ (b : Bool). cond b (Some x) (find named xs)) none.0 ∙ first_at xs i d (omega (arith, few)) is none.1
 
   found_some : (xs : List X) (i : ℕ) → i < length xs → ((x : X) → named (slice_index_or xs i x) ≡ true) → HasNone named (take i xs) → is_some (module_in (map f xs) name) ≡ true
   found_some [] i few is none = absurd (omega (arith, few))
@@ -85,14 +71,6 @@ module _ {X : Type 0} (f : X → ModuleState) (name : List ℕ) where
 
     pub not_there : IsPlace named looked None → module_in (map f xs) name ≡ None
     not_there none = none_found xs (subst (HasNone named) same none)
-
-    pub none_of_name : IsPlace named looked None → find named xs ≡ None
-    none_of_name none = none_first xs (subst (HasNone named) same none)
-
-    pub first_of_name : (i : ℕ) (x : X) → IsPlace named looked (Some i) → x ≡ slice_index_or xs i x → find named xs ≡ Some x
-    first_of_name i x place is =
-        let at : IsPlace named xs (Some i) = subst (λ (l : List X). IsPlace named l (Some i)) same place in
-        first_at xs i x at.0 (at.1 x) at.2 ∙ ap (λ (x : X). Some x) (sym is)
 
     pub there : (i : ℕ) (x : X) → IsPlace named looked (Some i) → x ≡ slice_index_or xs i x → module_in (map f xs) name ≡ Some (f x)
     there i x place is =
@@ -150,13 +128,3 @@ module _ {X : Type 0} (f : X → ModuleState) (name : List ℕ) where
 
       pub updates_none : IsPlace named looked None → ModulesLeave (Some name) rows (map f xs) (map f xs)
       updates_none none = all_stay xs (subst (HasNone named) same none)
-
--- ---- what it gives
-
-pub given_there : (offers : List Offer) (orders : List Order) (c : Option Best) (best : Best) (o : Option ModuleState) (m : ModuleState) (rows : List Row) → c ≡ Some best → o ≡ Some m → IsReadBy best m.rows offers orders rows → AreGivenOf c offers orders o (Some rows)
-given_there offers orders c best o m rows d e given =
-    subst (λ (c : Option Best). AreGivenOf c offers orders o (Some rows)) (sym d) (subst (λ (o : Option ModuleState). AreGivenOf (Some best) offers orders o (Some rows)) (sym e) given)
-
-pub none_given : (offers : List Offer) (orders : List Order) (c : Option Best) (o : Option ModuleState) → c ≡ None → o ≡ None → AreGivenOf c offers orders o None
-none_given offers orders c o d e =
-    subst (λ (c : Option Best). AreGivenOf c offers orders o None) (sym d) (subst (λ (o : Option ModuleState). AreGivenOf None offers orders o None) (sym e) tt)

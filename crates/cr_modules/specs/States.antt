@@ -1,21 +1,26 @@
 -- How a host's modules stand in a session, and what an update or a registration does to them. Source: this project's own.
-use Rattle.std.specs.Prelude.{◌≡◌, ◌⊎◌, ◌<◌, ℕ, Bool, true, false, not, ◌&&◌, ◌||◌, find, length, slice_index_or, take, List, [], ◌∷◌, ◌++◌, Option, Some, None, is_some, Result, Ok, Err}
+use Rattle.std.specs.Prelude.{◌≡◌, ◌⊎◌, ◌<◌, ℕ, Bool, true, false, not, ◌&&◌, ◌||◌, find, length, slice_index_or, take, map, cond, List, [], ◌∷◌, ◌++◌, Option, Some, None, is_some, Result, Ok, Err}
 use Rattle.std.specs.List.{AllByRecursion, list_all, list_any}
+use Rattle.cr_value.specs.declared.value.Value.{Value}
 use Rattle.cr_lattice.specs.declared.table.ColumnDef.{ColumnDef}
 use Rattle.cr_lattice.specs.declared.table.Table.{Table}
 use Rattle.cr_lattice.specs.Check.{same_bytes}
 use Rattle.cr_lattice.specs.Profile.{is_reserved}
-use Rattle.cr_bags.specs.Bags.{SameBag}
 use Rattle.cr_cells.specs.Tables.{is_named}
+use Rattle.cr_module.specs.Lawful.{AreWide}
 use Rattle.cr_module.specs.declared.module.UpdateError.{UpdateError}
 use Rattle.cr_module.specs.declared.plan.Choice.{Choice}
 use Rattle.cr_module.specs.declared.plan.Constraint.{Constraint}
 use Rattle.cr_module.specs.declared.plan.Order.{Order}
 use Rattle.cr_plan.specs.declared.offer.Offer.{Offer}
 use Rattle.cr_plan.specs.Offers.{IsReadBy}
+use Rattle.cr_plan.specs.Orders.{orders_for}
+use Rattle.cr_plan.specs.Told.{offers_to}
 use Rattle.cr_module.specs.declared.module.UpdateError.TheVariants as update
 use Rattle.cr_query.specs.Query.{Row}
 use Rattle.cr_replica.specs.declared.snapshot.Listing.{Listing}
+use Rattle.cr_snapshot.specs.Seen.{name_of}
+use Rattle.cr_term.specs.declared.query.Query.{Query}
 use Rattle.cr_world.specs.declared.refusal.Refusal.{Refusal}
 use Rattle.cr_world.specs.declared.refusal.Refusal.TheVariants as refusal
 use Rattle.cr_world.specs.declared.refusal.EvalFault.TheVariants as eval
@@ -65,15 +70,13 @@ IsPlace {X} p xs (Some i) = (i < length xs) × ((x : X) → p (slice_index_or xs
 abbrev pub module_in : List ModuleState → List ℕ → Option ModuleState
 module_in ms name = find (is_module name) ms
 
+abbrev pub module_width : Option ModuleState → ℕ
+module_width None = 0
+module_width (Some m) = length m.columns
+
 -- what a module chooses where constraints and an order are offered
 abbrev pub Best : Type 0
 Best = List Constraint → List Order → Choice
-
--- what the module that chooses so gives of its rows where these constraints and this order are offered
-abbrev pub AreGivenOf : Option Best → List Offer → List Order → Option ModuleState → Option (List Row) → Type 0
-AreGivenOf None offers orders None None = Unit {0}
-AreGivenOf (Some best) offers orders (Some m) (Some rows) = IsReadBy best m.rows offers orders rows
-AreGivenOf best offers orders m rows = ⊥
 
 -- the module of a name doesn't take the rows, and says so
 abbrev pub IsRefusedBy : Option ModuleState → List Row → Refusal → Type 0
@@ -91,16 +94,28 @@ Updates name rows old (Err r) new = ((r ≡ refusal.Memory) ⊎ IsRefusedBy (mod
 abbrev pub is_among : List (List ℕ) → List ℕ → Bool
 is_among names n = list_any (same_bytes n) names
 
--- what a module is called and its columns, and its rows in some order, if they were read
-abbrev pub IsListed : Bool → ModuleState → Listing → Type 0
-IsListed is_read m l = (l.definition ≡ module_definition m) × (is_read ≡ true → SameBag l.rows m.rows)
+-- what a query offers to the table of a name, if it may
+abbrev pub offered : Bool → List Value → Query → List ℕ → List Offer
+offered may_offer params q name = cond may_offer (offers_to params q name) []
 
--- each module, with its rows if the query has its name
-abbrev pub AreListed : List (List ℕ) → List ModuleState → List Listing → Type 0
-AreListed names [] [] = Unit {0}
-AreListed names (m ∷ ms) (l ∷ ls) = IsListed (is_among names m.name) m l × AreListed names ms ls
-AreListed names [] (l ∷ ls) = ⊥
-AreListed names (m ∷ ms) [] = ⊥
+-- What a module is called and its columns; and, if it was read, what it gave of its rows where these constraints and this order
+-- were offered, each with a value for each column, as all its rows have.
+pub record IsListed (is_read : Bool) (best : Best) (offers : List Offer) (orders : List Order) (m : ModuleState) (l : Listing) : Type 0 where
+  pub definition : l.definition ≡ module_definition m
+  pub given : is_read ≡ true → IsReadBy best m.rows offers orders l.rows
+  pub wide : is_read ≡ true → AreWide m.columns l.rows
+  pub all_wide : is_read ≡ true → AreWide m.columns m.rows
+
+-- each module, read by what the query offers it if the query has its name
+abbrev pub AreListed : Bool → List Value → Query → List Best → List ModuleState → List Listing → Type 0
+AreListed may_offer params q [] [] [] = Unit {0}
+AreListed may_offer params q (c ∷ cs) (m ∷ ms) (l ∷ ls) =
+    IsListed (is_among (map name_of q.joined) m.name) c (offered may_offer params q m.name) (orders_for q) m l
+    × AreListed may_offer params q cs ms ls
+AreListed may_offer params q [] [] (l ∷ ls) = ⊥
+AreListed may_offer params q [] (m ∷ ms) ls = ⊥
+AreListed may_offer params q (c ∷ cs) [] ls = ⊥
+AreListed may_offer params q (c ∷ cs) (m ∷ ms) [] = ⊥
 
 -- ---- registrations
 

@@ -8,18 +8,16 @@ ghost use Rattle.cr_lattice.specs.Profile.{is_reserved};
 ghost use Rattle.cr_module.specs.Lawful.{AreWide};
 ghost use Rattle.cr_world.specs.State.{ModuleState};
 ghost use Rattle.cr_world.specs.Causes.{Cause, Free, IsWant, Tells};
-ghost use Rattle.cr_snapshot.specs.Seen.{name_of};
-ghost use Rattle.cr_modules.specs.States.{AreGivenOf, AreListed, IsPlace, Registers, Updates, are_distinct, definition_listed, made, module_in, register_cause};
+ghost use Rattle.cr_modules.specs.States.{AreListed, IsPlace, Registers, Updates, are_distinct, definition_listed, made, module_in, module_width, register_cause};
 
 use crate::registered::{Registered, Stands};
 use cr_cells::tables::table_named;
 use cr_lattice::table::{Items, Row, Table};
 use cr_module::module::Module;
-use cr_module::plan::Order;
-use cr_plan::offer::Offer;
 use cr_replica::snapshot::Listing;
-use cr_term::query::Joined;
+use cr_term::query::Query;
 use cr_value::text::Text;
+use cr_value::value::Value;
 use cr_world::refusal::Refusal;
 use std::alloc::{AllocError, Global};
 
@@ -32,26 +30,24 @@ pub struct Modules<M: Drop> {
 
 /// How modules stand in a session.
 pub trait StandAll {
-    ghost use Rattle.std.specs.Prelude.{ℕ, List, Option};
+    ghost use Rattle.std.specs.Prelude.{List};
     ghost use Rattle.cr_world.specs.State.{ModuleState};
     ghost use Rattle.cr_modules.specs.States.{Best};
 
     /// Each module's name, columns, rows, and what an update makes of them.
     ghost states: { Self → List ModuleState };
 
-    /// What the module of a name chooses where constraints and an order are offered.
-    ghost best: { Self → List ℕ → Option Best };
+    /// What each module chooses where constraints and an order are offered.
+    ghost bests: { Self → List Best };
 }
 
 impl<M: Module> StandAll for Modules<M> {
-    ghost use Rattle.std.specs.Prelude.{find, map};
-    ghost use Rattle.std.specs.Option.{option_map};
-    ghost use Rattle.cr_lattice.specs.Check.{same_bytes};
+    ghost use Rattle.std.specs.Prelude.{map};
     ghost use Rattle.cr_modules.specs.States.{made};
 
     ghost states = { λ ms. map (λ r. made r.name (M.columns_of r.host) (M.rows_of r.host) (M.updated r.host)) ms.list.items };
 
-    ghost best = { λ ms name. option_map (λ r. M.best r.host) (find (λ r. same_bytes r.name name) ms.list.items) };
+    ghost bests = { λ ms. map (λ r. M.best r.host) ms.list.items };
 }
 
 // The place of the module of a name.
@@ -103,38 +99,34 @@ impl<M: Module> Modules<M> {
         Ok(Items::new(listings))
     }
 
-    /// What the modules are called and their columns, with the rows of those that a query has among its tables, in the order in
-    /// which they give them.
+    /// What the modules are called and their columns, with what those that a query has among its tables give of their rows: all
+    /// of them, or, if the query may offer its terms, those that each gives by what it is offered.
     ///
     /// # Errors
     /// Want of memory, of a module or for the rows.
-    pub fn listings(&self, alloc: Global, joined: &[Joined]) -> Result<Items<Listing>, AllocError>
-        ensures { IfOk result (AreListed (map name_of joined.now) (⟦<Modules<M> as StandAll>⟧.states self.now)) }
+    pub fn listings(
+        &self,
+        alloc: Global,
+        query: &Query,
+        params: &[Value],
+        may_offer: bool,
+    ) -> Result<Items<Listing>, AllocError>
+        ensures { IfOk result (AreListed may_offer params.now query.now (⟦<Modules<M> as StandAll>⟧.bests self.now) (⟦<Modules<M> as StandAll>⟧.states self.now)) }
     {
         let mut listings = Vec::new(alloc);
         for registered in &self.list {
-            listings.push(registered.listing(alloc, joined)?)?;
+            listings.push(registered.listing(alloc, query, params, may_offer)?)?;
         }
         Ok(Items::new(listings))
     }
 
-    /// What the module of a name gives of its rows where these constraints and this order are offered; `None` where no module has
-    /// the name.
-    ///
-    /// # Errors
-    /// Want of memory, of the module or for the rows.
-    pub fn rows_for(
-        &self,
-        alloc: Global,
-        name: &str,
-        offers: &[Offer],
-        orders: &[Order],
-    ) -> Result<Option<Items<Row>>, AllocError>
-        ensures { IfOk result (AreGivenOf (⟦<Modules<M> as StandAll>⟧.best self.now name.now) offers.now orders.now (module_in (⟦<Modules<M> as StandAll>⟧.states self.now) name.now)) }
+    /// How many columns the module of a name has; 0 where no module has the name.
+    pub fn width(&self, name: &str) -> usize
+        ensures { result ≡ module_width (module_in (⟦<Modules<M> as StandAll>⟧.states self.now) name.now) }
     {
         match place_of(&self.list, name) {
-            Some(at) => Ok(Some(self.list[at].rows_for(alloc, offers, orders)?)),
-            None => Ok(None),
+            Some(at) => self.list[at].width(),
+            None => 0,
         }
     }
 

@@ -1,24 +1,24 @@
 //! A host's table module under its name.
 
-ghost use Rattle.std.specs.Prelude.{◌≡◌, ◌⊎◌, map, IfOk};
-ghost use Rattle.cr_bags.specs.Bags.{SameBag};
+ghost use Rattle.std.specs.Prelude.{◌≡◌, ◌⊎◌, [], length, map, IfOk};
 ghost use Rattle.cr_module.specs.Lawful.{AreWide};
 ghost use Rattle.cr_world.specs.State.{ModuleState, is_module};
 ghost use Rattle.cr_world.specs.declared.refusal.Refusal.TheVariants as refusal;
 ghost use Rattle.cr_plan.specs.Offers.{IsReadBy};
-ghost use Rattle.cr_modules.specs.States.{IsListed, UpdatesTo, definition_listed, is_among, made, of_update};
+ghost use Rattle.cr_plan.specs.Orders.{orders_for};
+ghost use Rattle.cr_modules.specs.States.{IsListed, UpdatesTo, definition_listed, is_among, made, of_update, offered};
 ghost use Rattle.cr_snapshot.specs.Seen.{name_of};
 
 use cr_lattice::table::{ColumnDef, Items, Row, TableDef};
 use cr_module::module::{Module, UpdateError};
-use cr_module::plan::Order;
-use cr_module::reading::rows_of;
-use cr_plan::offer::Offer;
+use cr_plan::order::orders;
 use cr_plan::reading::rows_for;
+use cr_plan::told::offers_to;
 use cr_replica::snapshot::Listing;
-use cr_term::query::Joined;
+use cr_term::query::{Joined, Query};
 use cr_value::order::same_bytes;
 use cr_value::text::Text;
+use cr_value::value::Value;
 use cr_world::refusal::{EvalFault, Refusal};
 use std::alloc::{AllocError, Global};
 
@@ -84,6 +84,13 @@ impl<M: Module> Registered<M> {
         same_bytes(self.name.as_str().as_bytes(), name.as_bytes())
     }
 
+    /// How many columns it has.
+    pub(crate) fn width(&self) -> usize
+        ensures { result ≡ length (⟦<Registered<M> as Stands>⟧.state self.now).columns }
+    {
+        self.host.columns().len()
+    }
+
     /// What it is called and its columns, without its rows.
     ///
     /// # Errors
@@ -100,29 +107,24 @@ impl<M: Module> Registered<M> {
         })
     }
 
-    /// Its rows, in the order in which it gives them.
-    ///
-    /// # Errors
-    /// Want of memory, of the module or for the rows.
-    pub(crate) fn rows(&self, alloc: Global) -> Result<Items<Row>, AllocError>
-        ensures { IfOk result (λ rows. SameBag rows (⟦<Registered<M> as Stands>⟧.state self.now).rows) }
-    {
-        rows_of(alloc, &self.host)
-    }
-
-    /// What it gives of its rows where these constraints and this order are offered.
-    ///
-    /// # Errors
-    /// Want of memory, of the module or for the rows.
-    pub(crate) fn rows_for(
+    // What it gives of its rows by what a query offers it.
+    fn rows_by_offers(
         &self,
         alloc: Global,
-        offers: &[Offer],
-        orders: &[Order],
+        query: &Query,
+        params: &[Value],
+        may_offer: bool,
     ) -> Result<Items<Row>, AllocError>
-        ensures { IfOk result (IsReadBy (M.best self.now.host) (⟦<Registered<M> as Stands>⟧.state self.now).rows offers.now orders.now) }
+        ensures given { IfOk result (IsReadBy (M.best self.now.host) (M.rows_of self.now.host) (offered may_offer params.now query.now self.now.name) (orders_for query.now)) }
+        ensures wide { IfOk result (AreWide (M.columns_of self.now.host)) }
+        ensures all_wide { IfOk result (λ _. AreWide (M.columns_of self.now.host) (M.rows_of self.now.host)) }
     {
-        rows_for(alloc, &self.host, offers, orders)
+        let orders = orders(alloc, query)?;
+        if !may_offer {
+            return rows_for(alloc, &self.host, &[], &orders);
+        }
+        let offers = offers_to(alloc, query, self.name.as_str(), params)?;
+        rows_for(alloc, &self.host, &offers, &orders)
     }
 
     // Whether a query has its name among those of its tables.
@@ -137,16 +139,23 @@ impl<M: Module> Registered<M> {
         false
     }
 
-    /// What it is called and its columns, with its rows where a query has its name.
+    /// What it is called and its columns, with what it gives of its rows by what a query offers it, if the query may, where the
+    /// query has its name.
     ///
     /// # Errors
     /// Want of memory, of the module or for the rows.
-    pub(crate) fn listing(&self, alloc: Global, joined: &[Joined]) -> Result<Listing, AllocError>
-        ensures { IfOk result (IsListed (is_among (map name_of joined.now) self.now.name) (⟦<Registered<M> as Stands>⟧.state self.now)) }
+    pub(crate) fn listing(
+        &self,
+        alloc: Global,
+        query: &Query,
+        params: &[Value],
+        may_offer: bool,
+    ) -> Result<Listing, AllocError>
+        ensures { IfOk result (IsListed (is_among (map name_of query.now.joined) self.now.name) (M.best self.now.host) (offered may_offer params.now query.now self.now.name) (orders_for query.now) (⟦<Registered<M> as Stands>⟧.state self.now)) }
     {
         let mut listing = self.definition(alloc)?;
-        if self.is_among(joined) {
-            listing.rows = self.rows(alloc)?;
+        if self.is_among(query.joined.as_slice()) {
+            listing.rows = self.rows_by_offers(alloc, query, params, may_offer)?;
         }
         Ok(listing)
     }

@@ -1,10 +1,11 @@
 -- A term that is offered is quiet, and not true on a row that does not meet its constraint.
-use Rattle.std.proofs.Common.{◌≡◌, ◌⊎◌, inl, inr, ℕ, zero, suc, Bool, true, false, ◌&&◌, cond, List, [], ◌∷◌, ◌++◌, map, get_or, slice_get, Option, Some, None, refl, sym, ap, subst, ◌∙◌}
+use Rattle.std.proofs.Common.{◌≡◌, ◌⊎◌, inl, inr, ℕ, zero, suc, ◌+◌, ◌<◌, ◌≤◌, arith, length, length-append, Bool, true, false, ◌&&◌, cond, List, [], ◌∷◌, ◌++◌, map, get_or, slice_get, Option, Some, None, refl, sym, ap, subst, ◌∙◌}
 use Rattle.std.proofs.lemmas.Option.{slice_get-map, unwrap_or-slice_get}
-use Rattle.std.proofs.lemmas.List.Folds.{list_any-append}
-use Rattle.std.specs.List.{list_any, cons_option}
+use Rattle.std.proofs.lemmas.Bool.{ltb-false, ltb-true}
+use Rattle.std.proofs.lemmas.List.{get_or-append-add, get_or_append_left}
+use Rattle.std.specs.Prelude.{◌-◌, nat_lt}
+use Rattle.std.specs.List.{cons_option}
 use Rattle.std.specs.Option.{option_and_then, option_map, option_map_or, option_or}
-use Rattle.std.specs.Cmp.{IsTotalOrder}
 use Rattle.cr_value.specs.declared.value.Value.{Value}
 use Rattle.cr_value.specs.declared.value.Value.TheVariants.{Null}
 use Rattle.cr_value.proofs.Fields.{provided, some_is}
@@ -24,22 +25,20 @@ use Rattle.cr_scalar.specs.Numbers.{truth}
 use Rattle.cr_expr.specs.Setting.{Setting}
 use Rattle.cr_expr.specs.Eval.{eval_of}
 use Rattle.cr_expr.proofs.Nodes.{one_node}
-use Rattle.cr_query.specs.Query.{Row, Meaning as Meant_by, is_true, holds}
+use Rattle.cr_query.specs.Query.{Row, Meaning as Meant_by, is_true}
 use Rattle.cr_query.specs.Plans.{is_false}
-use Rattle.cr_query.proofs.PlanLaws.{rejected}
 use Rattle.cr_meaning.specs.View.{Ordered}
 use Rattle.cr_meaning.specs.View as view
 use Rattle.cr_meaning.specs.Meaning as queries
-use Rattle.cr_meaning.proofs.BagLaw.{lawful}
-use Rattle.cr_meaning.proofs.Limits.{safe}
 use Rattle.cr_exec.specs.Equalities.{OrdersBytes}
 use Rattle.cr_module.specs.declared.plan.Argument.{Argument}
 use Rattle.cr_module.specs.declared.plan.Comparison.{Comparison}
 use Rattle.cr_module.specs.Lawful.{compares, meets_all, meets_one, value_at}
 use Rattle.cr_sought.specs.Sought.{column_under, constant, on_left, on_right}
-use Rattle.cr_sought.proofs.Pins.{Has, says, Misses, here, two_miss, then_some}
+use Rattle.cr_sought.proofs.Pins.{Has, says, Misses, any_missed, here, two_miss, then_some}
+use Rattle.cr_plan.specs.declared.offer.Columns.{Columns}
 use Rattle.cr_plan.specs.declared.offer.Offer.{Offer}
-use Rattle.cr_plan.specs.Offers.{argument_of, constraints, never_null, offer, offer_in, offered, offers, of_left, of_right, op_of, place_under, turned}
+use Rattle.cr_plan.specs.Offers.{argument_of, constraints, never_null, offer, offer_in, offered, offers, of_left, of_right, op_of, place_in, place_under, turned}
 use Rattle.cr_plan.proofs.Compared.{known, meets_left, meets_right}
 
 -- ---- what an offer is made of
@@ -68,10 +67,33 @@ mapped : {A B : Type 0} (f : A → B) (o : Option A) (b : B) → option_map f o 
 mapped f None b e = absurd cc
 mapped f (Some a) b e = (a, refl, some_is (f a) b e)
 
-place_has : (s : Setting) (x : Expr) (at : ℕ) → place_under x ≡ Some at → Has s x (get_or s.row at Null)
-place_has s x at e =
-    let c = mapped (λ (c : Field). c.at) (column_under x) at e in
-    subst (λ n. Has s x (get_or s.row n Null)) c.2 ((says x s).0 c.0 c.1)
+-- what stands at a place of a combination stands at the place of the row that it is
+module _ (cs : Columns) (f r more : Row) (long : length f ≡ cs.start) (wide : length r ≡ cs.count) where
+  at_place : (at place : ℕ) → place_in cs at ≡ Some place → get_or ((f ++ r) ++ more) at Null ≡ value_at place r
+  at_place at place e = by (nat_lt at cs.start) refl e where
+    there : cs.start ≤ at → at - cs.start < cs.count → at - cs.start ≡ place → get_or ((f ++ r) ++ more) at Null ≡ value_at place r
+    there far near is =
+        let whole : at ≡ length f + place = omega (arith, long, far, is) in
+        let within : place < length r = omega (arith, wide, near, is) in
+        ap (λ (n : ℕ). get_or ((f ++ r) ++ more) n Null) whole
+        ∙ get_or_append_left (f ++ r) more Null (length f + place) (omega (arith, within, length-append f r))
+        ∙ get_or-append-add f r place Null
+        ∙ sym (unwrap_or-slice_get r place Null)
+
+    by_count : cs.start ≤ at → (b : Bool) → nat_lt (at - cs.start) cs.count ≡ b → cond b (Some (at - cs.start)) None ≡ Some place
+        → get_or ((f ++ r) ++ more) at Null ≡ value_at place r
+    by_count far true near k = (let is : at - cs.start ≡ place = cc in there far (ltb-true (at - cs.start) cs.count near) is)
+    by_count far false near k = absurd cc
+
+    by : (b : Bool) → nat_lt at cs.start ≡ b → cond b None (cond (nat_lt (at - cs.start) cs.count) (Some (at - cs.start)) None) ≡ Some place
+        → get_or ((f ++ r) ++ more) at Null ≡ value_at place r
+    by true before k = absurd cc
+    by false behind k = by_count (ltb-false at cs.start behind) (nat_lt (at - cs.start) cs.count) refl k
+
+  place_has : (s : Setting) (x : Expr) (place : ℕ) → s.row ≡ (f ++ r) ++ more → place_under cs x ≡ Some place → Has s x (value_at place r)
+  place_has s x place here e =
+      let c = then_some (λ (c : Field). place_in cs c.at) (column_under x) place e in
+      subst (Has s x) (ap (λ (row : Row). get_or row c.0.at Null) here ∙ at_place c.0.at place c.2) ((says x s).0 c.0 c.1)
 
 differ : (b : Bool) → b ≡ true → b ≡ false → ⊥
 differ b t f = absurd cc
@@ -81,41 +103,48 @@ differ b t f = absurd cc
 abbrev pub is_met : Offer → Row → Bool
 is_met o row = compares o.constraint.op (value_at o.constraint.column row) o.argument
 
-module _ (host : Host) (bytes : OrdersBytes host) (params : List Value) (row : Row) where
+module _ (host : Host) (bytes : OrdersBytes host) (params : List Value) (cs : Columns) (f r more : Row) (long : length f ≡ cs.start)
+    (wide : length r ≡ cs.count) where
+  abbrev row : Row
+  row = (f ++ r) ++ more
+
   abbrev seen : Setting
   seen = here host bytes params row
 
+  has_there : (x : Expr) (place : ℕ) → place_under cs x ≡ Some place → Has seen x (value_at place r)
+  has_there x place e = place_has cs f r more long wide seen x place refl e
+
   left_misses : (op : Relation) (m : Meeting) (x y : Expr) (o : Offer) → same_bytes m.collation binary ≡ true
-      → of_left params op m.adjusted x y ≡ Some o → is_met o row ≡ false → Misses host bytes params row (Compare op m x y)
+      → of_left cs params op m.adjusted x y ≡ Some o → is_met o r ≡ false → Misses host bytes params row (Compare op m x y)
   left_misses op m x y o binary_is e unmet =
-      let p = made (place_under x) (op_of op y) (option_and_then (on_right m.adjusted) (constant params y)) o e in
+      let p = made (place_under cs x) (op_of op y) (option_and_then (on_right m.adjusted) (constant params y)) o e in
       let k = then_some (on_right m.adjusted) (constant params y) o.argument p.beside in
       let at = o.constraint.column in
-      let v = get_or row at Null in
+      let v = value_at at r in
       let some = λ (never : never_null y ≡ true). known y params k.0 never k.1 in
-      two_miss host bytes params row op m x y v k.0 (place_has seen x at p.column) ((says y seen).1 k.0 k.1)
+      two_miss host bytes params row op m x y v k.0 (has_there x at p.column) ((says y seen).1 k.0 k.1)
       (λ so. differ (compares o.constraint.op v o.argument)
       (meets_left host bytes m binary_is op y o.constraint.op v k.0 o.argument p.stands some k.2 so)
-      (ap (λ v. compares o.constraint.op v o.argument) (sym (unwrap_or-slice_get row at Null)) ∙ unmet))
+      unmet)
 
   right_misses : (op : Relation) (m : Meeting) (x y : Expr) (o : Offer) → same_bytes m.collation binary ≡ true
-      → of_right params op m.adjusted x y ≡ Some o → is_met o row ≡ false → Misses host bytes params row (Compare op m x y)
+      → of_right cs params op m.adjusted x y ≡ Some o → is_met o r ≡ false → Misses host bytes params row (Compare op m x y)
   right_misses op m x y o binary_is e unmet =
-      let p = made (place_under y) (option_map turned (op_of op x)) (option_and_then (on_left m.adjusted) (constant params x)) o e in
+      let p = made (place_under cs y) (option_map turned (op_of op x)) (option_and_then (on_left m.adjusted) (constant params x)) o e in
       let k = then_some (on_left m.adjusted) (constant params x) o.argument p.beside in
       let t = mapped turned (op_of op x) o.constraint.op p.stands in
       let at = o.constraint.column in
-      let v = get_or row at Null in
+      let v = value_at at r in
       let some = λ (never : never_null x ≡ true). known x params k.0 never k.1 in
-      two_miss host bytes params row op m x y k.0 v ((says x seen).1 k.0 k.1) (place_has seen y at p.column)
+      two_miss host bytes params row op m x y k.0 v ((says x seen).1 k.0 k.1) (has_there y at p.column)
       (λ so. differ (compares (turned t.0) v o.argument)
       (meets_right host bytes m binary_is op x t.0 v k.0 o.argument t.1 some k.2 so)
-      ((λ i. compares (t.2 i) (sym (unwrap_or-slice_get row at Null) i) o.argument) ∙ unmet))
+      ((λ i. compares (t.2 i) v o.argument) ∙ unmet))
 
-  misses : (y : Layer) (o : Offer) → offer_in params y ≡ Some o → is_met o row ≡ false → Misses host bytes params row y
+  misses : (y : Layer) (o : Offer) → offer_in cs params y ≡ Some o → is_met o r ≡ false → Misses host bytes params row y
   misses (Compare op m x y) o e unmet =
       let b = provided (same_bytes m.collation binary) _ o e in
-      elim (one_of (of_left params op m.adjusted x y) (of_right params op m.adjusted x y) o b.1) [
+      elim (one_of (of_left cs params op m.adjusted x y) (of_right cs params op m.adjusted x y) o b.1) [
         | inl l ↦ left_misses op m x y o b.0 l unmet
         | inr other ↦ right_misses op m x y o b.0 other unmet
       ]
@@ -125,7 +154,7 @@ module _ (host : Host) (bytes : OrdersBytes host) (params : List Value) (row : R
     abbrev m : Meant_by Ordered
     m = queries.meaning most host params
 
-    term_misses : (e : Expr) (o : Offer) → offer params e ≡ Some o → is_met o row ≡ false
+    term_misses : (e : Expr) (o : Offer) → offer cs params e ≡ Some o → is_met o r ≡ false
         → (quiet e ≡ true) × (is_true m (view.plain e) row ≡ Some false)
     term_misses e o h unmet =
         let k = misses (out-Expr e) o h unmet in
@@ -134,28 +163,16 @@ module _ (host : Host) (bytes : OrdersBytes host) (params : List Value) (row : R
 
     -- ---- all terms
 
-    abbrev is_missed : Ordered → Bool
-    is_missed e = m.quiet e && is_false (is_true m e row)
-
-    abbrev any_missed : List Expr → Bool
-    any_missed terms = list_any is_missed (map view.plain terms)
-
-    some_miss : (terms : List Expr) (i : ℕ) (o : Offer) → slice_get (offers params terms) i ≡ Some o → is_met o row ≡ false
-        → any_missed terms ≡ true
+    -- of terms one of whose constraints the row does not meet some one is quiet and not true on what is made of it
+    pub some_miss : (terms : List Expr) (i : ℕ) (o : Offer) → slice_get (offers cs params terms) i ≡ Some o → is_met o r ≡ false
+        → any_missed host bytes params row most terms ≡ true
     some_miss [] i o there unmet = absurd cc
-    some_miss (e ∷ es) i o there unmet = by (λ k h. some_miss es k o h unmet) (offer params e) refl i there where
-      by : ((k : ℕ) → slice_get (offers params es) k ≡ Some o → any_missed es ≡ true) → (p : Option Offer) → offer params e ≡ p
-          → (k : ℕ) → slice_get (cons_option p (offers params es)) k ≡ Some o → any_missed (e ∷ es) ≡ true
+    some_miss (e ∷ es) i o there unmet = by (λ k h. some_miss es k o h unmet) (offer cs params e) refl i there where
+      by : ((k : ℕ) → slice_get (offers cs params es) k ≡ Some o → any_missed host bytes params row most es ≡ true) → (p : Option Offer) → offer cs params e ≡ p
+          → (k : ℕ) → slice_get (cons_option p (offers cs params es)) k ≡ Some o → any_missed host bytes params row most (e ∷ es) ≡ true
       by later None is k h = or_right _ _ (later k h)
       by later (Some p) is zero h = (let t = term_misses e o (is ∙ h) unmet in or_left _ _ (λ i. t.0 i && is_false (t.1 i)))
       by later (Some p) is (suc k) h = or_right _ _ (later k h)
-
-    -- terms one of whose constraints the row does not meet are not all true on it, and do not fault
-    pub rejects : ((name : List ℕ) → IsTotalOrder (host.order name)) → (front : List Ordered) (terms : List Expr) (i : ℕ) (o : Offer)
-        → slice_get (offers params terms) i ≡ Some o → is_met o row ≡ false → holds m (front ++ map view.plain terms) row ≡ Some false
-    rejects total front terms i o there unmet =
-        rejected m (lawful host total most params) (safe most host params) (front ++ map view.plain terms) row
-        (list_any-append is_missed front (map view.plain terms) ∙ or_right _ _ (some_miss terms i o there unmet))
 
 -- ---- what is passed
 

@@ -1,3 +1,4 @@
 pub mod Offers
+pub mod Told
 pub mod Orders
 pub mod Laws

@@ -1,7 +1,7 @@
--- Which terms of a WHERE are offered to a module as constraints on its columns, and with which arguments. Source: "The Virtual
+-- Which terms are offered to a module as constraints on its columns, and with which arguments. Source: "The Virtual
 -- Table Mechanism Of SQLite", section 2.3; that a constraint compares under BINARY, and that its argument has taken on the
 -- comparison's affinity beforehand, is this project's own.
-use Rattle.std.specs.Prelude.{ℕ, Bool, true, false, not, cond, List, map, slice_get, Option, Some, None}
+use Rattle.std.specs.Prelude.{ℕ, ◌-◌, nat_lt, Bool, true, false, not, cond, List, map, slice_get, Option, Some, None}
 use Rattle.std.specs.List.{filter_map}
 use Rattle.std.specs.Option.{option_and_then, option_map, option_map_or, option_or}
 use Rattle.cr_value.specs.declared.value.Value.{Value}
@@ -25,6 +25,7 @@ use Rattle.cr_module.specs.declared.plan.Order.{Order}
 use Rattle.cr_module.specs.Lawful.{IsRead}
 use Rattle.cr_query.specs.Query.{Row}
 use Rattle.cr_sought.specs.Sought.{no_arm, column_under, constant, on_left, on_right}
+use Rattle.cr_plan.specs.declared.offer.Columns.{Columns}
 use Rattle.cr_plan.specs.declared.offer.Offer.{Offer}
 
 -- ---- comparisons
@@ -60,9 +61,13 @@ turned Ge = Le
 
 -- ---- offers
 
--- the place of the column that an operand is, possibly under COLLATE
-abbrev pub place_under : Expr → Option ℕ
-place_under x = option_map (λ c. c.at) (column_under x)
+-- the place among the columns of a table of what stands at a place of a combination
+abbrev pub place_in : Columns → ℕ → Option ℕ
+place_in cs at = cond (nat_lt at cs.start) None (cond (nat_lt (at - cs.start) cs.count) (Some (at - cs.start)) None)
+
+-- the place of the column of the table that an operand is, possibly under COLLATE
+abbrev pub place_under : Columns → Expr → Option ℕ
+place_under cs x = option_and_then (λ c. place_in cs c.at) (column_under x)
 
 abbrev pub against : ℕ → Comparison → Value → Offer
 against at op v = record { constraint = record { column = at; op = op; usable = true }; argument = v }
@@ -72,28 +77,28 @@ abbrev pub offered : Option ℕ → Option Comparison → Option Value → Optio
 offered at op argument = option_and_then (λ i. option_and_then (λ k. option_map (against i k) argument) op) at
 
 -- a column on the left, which stays as it is, and a constant on the right
-abbrev pub of_left : List Value → Relation → Adjusted → Expr → Expr → Option Offer
-of_left params op a x y = offered (place_under x) (op_of op y) (option_and_then (on_right a) (constant params y))
+abbrev pub of_left : Columns → List Value → Relation → Adjusted → Expr → Expr → Option Offer
+of_left cs params op a x y = offered (place_under cs x) (op_of op y) (option_and_then (on_right a) (constant params y))
 
 -- a column on the right, which stays as it is, and a constant on the left
-abbrev pub of_right : List Value → Relation → Adjusted → Expr → Expr → Option Offer
-of_right params op a x y = offered (place_under y) (option_map turned (op_of op x)) (option_and_then (on_left a) (constant params x))
+abbrev pub of_right : Columns → List Value → Relation → Adjusted → Expr → Expr → Option Offer
+of_right cs params op a x y = offered (place_under cs y) (option_map turned (op_of op x)) (option_and_then (on_left a) (constant params x))
 
-abbrev pub of_sides : List Value → Relation → Adjusted → Expr → Expr → Option Offer
-of_sides params op a x y = option_or (of_left params op a x y) (of_right params op a x y)
+abbrev pub of_sides : Columns → List Value → Relation → Adjusted → Expr → Expr → Option Offer
+of_sides cs params op a x y = option_or (of_left cs params op a x y) (of_right cs params op a x y)
 
-abbrev pub offer_in : List Value → Layer → Option Offer
-offer_in params (Compare op m x y) = cond (same_bytes m.collation binary) (of_sides params op m.adjusted x y) None
-offer_in params _ = None
+abbrev pub offer_in : Columns → List Value → Layer → Option Offer
+offer_in cs params (Compare op m x y) = cond (same_bytes m.collation binary) (of_sides cs params op m.adjusted x y) None
+offer_in cs params _ = None
 
--- A term as a constraint on the only table of a query, with its argument: a comparison under BINARY of a column with a literal
--- or a parameter, which leaves the column's value as it is.
-abbrev pub offer : List Value → Expr → Option Offer
-offer params e = offer_in params (out-Expr e)
+-- A term as a constraint on a table with these columns, with its argument: a comparison under BINARY of a column of the table
+-- with a literal or a parameter, which leaves the column's value as it is.
+abbrev pub offer : Columns → List Value → Expr → Option Offer
+offer cs params e = offer_in cs params (out-Expr e)
 
 -- all that can be offered, in the order of the terms
-abbrev pub offers : List Value → List Expr → List Offer
-offers params = filter_map (offer params)
+abbrev pub offers : Columns → List Value → List Expr → List Offer
+offers cs params = filter_map (offer cs params)
 
 -- ---- what is passed
 

@@ -2,7 +2,7 @@
 
 ghost use Rattle.cr_plan.specs.Laws.{AnswersByPlan};
 
-/// A SELECT of one table answers the same over what a lawful module gives by its terms as over all that the module has.
+/// A SELECT answers the same over what a lawful module gives by the terms that it is told as over all that the module has.
 pub fn answers_by_plan()
     ensures { AnswersByPlan }
 {}

@@ -1,7 +1,7 @@
 //! Terms as constraints on the columns of a module. "The Virtual Table Mechanism Of SQLite", section 2.3.
 
-ghost use Rattle.std.specs.Prelude.{◌≡◌, IfOk};
-ghost use Rattle.cr_plan.specs.Offers.{against, never_null, of_left, of_right, of_sides, offer, offers, op_of, turned};
+ghost use Rattle.std.specs.Prelude.{◌≡◌, ◌++◌, IfOk, OnOk};
+ghost use Rattle.cr_plan.specs.Offers.{against, never_null, of_left, of_right, of_sides, offer, offers, op_of, place_in, place_under, turned};
 
 use cr_lattice::profile::BINARY;
 use cr_module::plan::{Comparison, Constraint};
@@ -13,11 +13,43 @@ use cr_value::order::same_bytes;
 use cr_value::value::Value;
 use std::alloc::{AllocError, Global};
 
+/// The columns of a table in a combination of rows: the place of the first, and how many there are.
+#[derive(Clone, Copy, Debug)]
+pub struct Columns {
+    pub start: usize,
+    pub count: usize,
+}
+
 /// A term as a constraint, which is usable, and what it compares the column with.
 #[derive(Debug, Drop)]
 pub struct Offer {
     pub constraint: Constraint,
     pub argument: Value,
+}
+
+// The place among the columns of a table of what stands at a place of a combination.
+fn place_in(columns: Columns, at: usize) -> Option<usize>
+    ensures { result ≡ place_in columns at }
+{
+    if at < columns.start {
+        return None;
+    }
+    let place = at - columns.start;
+    if place < columns.count {
+        Some(place)
+    } else {
+        None
+    }
+}
+
+// The place of the column of the table that an operand is, possibly under COLLATE.
+fn place_under(columns: Columns, expr: &Expr) -> Option<usize>
+    ensures { result ≡ place_under columns expr.now }
+{
+    match column_under(expr) {
+        Some(at) => place_in(columns, at),
+        None => None,
+    }
 }
 
 // Whether an operand is a literal other than NULL, possibly under COLLATE.
@@ -76,15 +108,16 @@ fn against(column: usize, op: Comparison, argument: Value) -> Offer
 // The offer of a comparison whose left operand is a column that stays as it is, and whose right one is a constant.
 fn of_left(
     alloc: Global,
+    columns: Columns,
     params: &[Value],
     relation: Relation,
     adjusted: Adjusted,
     left: &Expr,
     right: &Expr,
 ) -> Result<Option<Offer>, AllocError>
-    ensures { IfOk result (λ o. o ≡ of_left params.now relation adjusted left.now right.now) }
+    ensures { IfOk result (λ o. o ≡ of_left columns params.now relation adjusted left.now right.now) }
 {
-    let Some(column) = column_under(left) else {
+    let Some(column) = place_under(columns, left) else {
         return Ok(None);
     };
     let Some(op) = op_of(relation, right) else {
@@ -102,15 +135,16 @@ fn of_left(
 // The offer of a comparison whose right operand is a column that stays as it is, and whose left one is a constant.
 fn of_right(
     alloc: Global,
+    columns: Columns,
     params: &[Value],
     relation: Relation,
     adjusted: Adjusted,
     left: &Expr,
     right: &Expr,
 ) -> Result<Option<Offer>, AllocError>
-    ensures { IfOk result (λ o. o ≡ of_right params.now relation adjusted left.now right.now) }
+    ensures { IfOk result (λ o. o ≡ of_right columns params.now relation adjusted left.now right.now) }
 {
-    let Some(column) = column_under(right) else {
+    let Some(column) = place_under(columns, right) else {
         return Ok(None);
     };
     let Some(op) = op_of(relation, left) else {
@@ -128,23 +162,29 @@ fn of_right(
 // The offer of a comparison that stands between a column that stays as it is and a constant.
 fn of_sides(
     alloc: Global,
+    columns: Columns,
     params: &[Value],
     relation: Relation,
     adjusted: Adjusted,
     left: &Expr,
     right: &Expr,
 ) -> Result<Option<Offer>, AllocError>
-    ensures { IfOk result (λ o. o ≡ of_sides params.now relation adjusted left.now right.now) }
+    ensures { IfOk result (λ o. o ≡ of_sides columns params.now relation adjusted left.now right.now) }
 {
-    match of_left(alloc, params, relation, adjusted, left, right)? {
+    match of_left(alloc, columns, params, relation, adjusted, left, right)? {
         Some(offer) => Ok(Some(offer)),
-        None => of_right(alloc, params, relation, adjusted, left, right),
+        None => of_right(alloc, columns, params, relation, adjusted, left, right),
     }
 }
 
 // A term as a constraint, if it is one.
-fn offer_of(alloc: Global, params: &[Value], term: &Expr) -> Result<Option<Offer>, AllocError>
-    ensures { IfOk result (λ o. o ≡ offer params.now term.now) }
+fn offer_of(
+    alloc: Global,
+    columns: Columns,
+    params: &[Value],
+    term: &Expr,
+) -> Result<Option<Offer>, AllocError>
+    ensures { IfOk result (λ o. o ≡ offer columns params.now term.now) }
 {
     let Expr::Compare(relation, meeting, left, right) = term else {
         return Ok(None);
@@ -154,6 +194,7 @@ fn offer_of(alloc: Global, params: &[Value], term: &Expr) -> Result<Option<Offer
     }
     of_sides(
         alloc,
+        columns,
         params,
         *relation,
         meeting.adjusted,
@@ -162,21 +203,29 @@ fn offer_of(alloc: Global, params: &[Value], term: &Expr) -> Result<Option<Offer
     )
 }
 
-/// The terms of the WHERE of a query of one table that are constraints on its columns, with their arguments, in the order of
-/// the terms: each comparison under BINARY of a column with a literal or a parameter, on either side and possibly under
+/// Puts the terms that are constraints on the columns of a table, with their arguments, behind others, in the order of the
+/// terms: each comparison under BINARY of a column of the table with a literal or a parameter, on either side and possibly under
 /// COLLATE, which leaves the column's value as it is. The argument has taken on what the comparison makes it take on. `<`, `<=`,
 /// `=`, `>=` and `>` are such, and IS with a literal that is not NULL, which is an equality.
 ///
-/// A column is told by its place in the row. `params` are the parameters' values, from number 1 on; one that is not given is
-/// NULL. Fails for want of memory alone.
-pub fn offers(alloc: Global, terms: &[Expr], params: &[Value]) -> Result<Vec<Offer>, AllocError>
-    ensures { IfOk result (λ v. v.items ≡ offers params.now terms.now) }
+/// A column is told by its place among those of the table. `params` are the parameters' values, from number 1 on; one that is
+/// not given is NULL.
+///
+/// # Errors
+/// Want of memory.
+pub fn push_offers(
+    alloc: Global,
+    offers: &mut Vec<Offer>,
+    columns: Columns,
+    terms: &[Expr],
+    params: &[Value],
+) -> Result<(), AllocError>
+    ensures { OnOk result (offers.new.items ≡ offers.old.items ++ offers columns params.now terms.now) }
 {
-    let mut offers = Vec::new(alloc);
     for term in terms {
-        if let Some(offer) = offer_of(alloc, params, term)? {
+        if let Some(offer) = offer_of(alloc, columns, params, term)? {
             offers.push(offer)?;
         }
     }
-    Ok(offers)
+    Ok(())
 }

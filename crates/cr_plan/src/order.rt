@@ -43,13 +43,13 @@ fn all_orders(alloc: Global, terms: &[OrderTerm]) -> Result<Option<Vec<Order>>, 
 }
 
 /// The order in which the only table of a query is to give its rows: the terms of its ORDER BY where each is a column, possibly
-/// under COLLATE, that is ordered under BINARY; none where one is not, where there are groups, and beside DISTINCT.
+/// under COLLATE, that is ordered under BINARY; none where one is not, in a join, where there are groups, and beside DISTINCT.
 ///
 /// A column is told by its place in the row. Fails for want of memory alone.
 pub fn orders(alloc: Global, query: &Query) -> Result<Vec<Order>, AllocError>
     ensures { IfOk result (λ v. v.items ≡ orders_for query.now) }
 {
-    if query.is_grouped || query.is_distinct {
+    if query.joined.as_slice().len() > 1 || query.is_grouped || query.is_distinct {
         return Ok(Vec::new(alloc));
     }
     match all_orders(alloc, query.order.as_slice())? {

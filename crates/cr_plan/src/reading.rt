@@ -44,8 +44,9 @@ fn arguments(alloc: Global, choice: &Choice, offers: &[Offer]) -> Result<Vec<Val
     Ok(values)
 }
 
-/// What a module gives where these constraints and this order are offered, each row with a value for each column: it chooses
-/// among the constraints, gets the arguments of those that it chose, in the order of its choice, and is read to its end.
+/// What a module gives where these constraints and this order are offered, each row with a value for each column, as all its
+/// rows have: it chooses among the constraints, gets the arguments of those that it chose, in the order of its choice, and is
+/// read to its end.
 ///
 /// # Errors
 /// Want of memory, of the module or for the rows.
@@ -57,6 +58,7 @@ pub fn rows_for<M: Module>(
 ) -> Result<Items<Row>, AllocError>
     ensures read { IfOk result (IsReadBy (M.best listed.now) (M.rows_of listed.now) offers.now orders.now) }
     ensures wide { IfOk result (AreWide (M.columns_of listed.now)) }
+    ensures all_wide { IfOk result (λ _. AreWide (M.columns_of listed.now) (M.rows_of listed.now)) }
 {
     let constraints = constraints(alloc, offers)?;
     let choice = listed.best_index(alloc, &constraints, orders)?;

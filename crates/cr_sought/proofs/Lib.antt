@@ -5,6 +5,7 @@ pub mod Pins
 pub mod Around
 pub mod Rows
 pub mod Answers
+pub mod LeftOut
 pub mod Joins
 pub mod Verdicts
 pub mod Writes

@@ -162,8 +162,9 @@ const DENIED_STATEMENTS: [&str; 8] = [
 ];
 
 /// `m` has the numbers from 1 to 3, `many` those to 4,000,000,000, each in its column `v`. They are offered what compares that with
-/// constants byte by byte, and an order where theirs is the only table and each of its rows is shown.
-const OFFERED_STATEMENTS: [&str; 20] = [
+/// constants byte by byte, alone and in joins, and an order where theirs is the only table and each of its rows is shown. Of two
+/// tables that are read `many` is read last.
+const OFFERED_STATEMENTS: [&str; 24] = [
     "SELECT * FROM m WHERE v >= 2 AND 3 > v ORDER BY v DESC",
     "SELECT * FROM m WHERE v = '2' AND v <= 3",
     "SELECT * FROM m WHERE v IS 2",
@@ -184,6 +185,10 @@ const OFFERED_STATEMENTS: [&str; 20] = [
     "SELECT v FROM many WHERE v = '7' AND v > 6",
     "SELECT v FROM many WHERE v = 5 AND v = 6",
     "SELECT v FROM many WHERE v <= 0",
+    "SELECT m.v, many.v FROM m JOIN many ON many.v < 3 WHERE m.v >= 2",
+    "SELECT many.v FROM many JOIN m ON m.v = many.v WHERE 2 >= many.v ORDER BY many.v DESC",
+    "SELECT m.v, many.v FROM m LEFT JOIN many ON many.v = 4000000000 WHERE many.v > 0 AND m.v < 3",
+    "SELECT a.v, many.v FROM m AS a JOIN m AS b ON a.v = b.v JOIN many ON many.v = 7 WHERE a.v > 2",
 ];
 
 /// A session, and what its listener noted.
