@@ -1,6 +1,8 @@
 -- Which of the changes that are committed come in.
-use Rattle.std.proofs.Common.{◌≡◌, inl, inr, Bool, true, false, not, ◌&&◌, ◌||◌, List, [], ◌∷◌, ◌++◌, refl, sym, ap, ◌∙◌, ℕ}
+use Rattle.std.proofs.Common.{◌≡◌, inl, inr, Bool, true, false, not, ◌&&◌, ◌||◌, List, [], ◌∷◌, ◌++◌, Option, Some, None, refl, sym, ap, ◌∙◌, ℕ}
 use Rattle.std.specs.Prelude.{ℤ, Err, filter}
+use Rattle.std.specs.Borrow.{Bor}
+use Rattle.std.specs.Option.{ForSome, option_map_or}
 use Rattle.std.specs.List.{list_any}
 use Rattle.std.specs.List.Sorted.{IsStrictlySortedBy}
 use Rattle.std.specs.Ordering.{eq_by_cmp, int_eq, is_eq}
@@ -133,6 +135,15 @@ new_by_row ss c =
       any-changes (eq_by_cmp change_cmp c) ss,
       any-changes (λ d. beats d c) ss,
     ) refl
+
+-- the cells of the row that was read for another change are those of its own, where it is of that row
+pub read_for : (ss : List Stamped) (read : Option (Bor Change)) (c : Change) (row : List Stamped)
+    → option_map_or (λ r. is_of_row r.now.table r.now.pk c) read false ≡ true
+    → ForSome read (λ r. row ≡ cells_of ss r.now.table r.now.pk) → row ≡ cells_of ss c.table c.pk
+read_for ss None c row same there = absurd (let z : ⊥ = cc in z)
+read_for ss (Some r) c row same there =
+    let parts = and_true (same_bytes c.table r.now.table) (same_bytes c.pk r.now.pk) same in
+    there r refl ∙ (λ i. cells_of ss (sym (same_is c.table r.now.table parts.0) i) (sym (same_is c.pk r.now.pk parts.1) i))
 
 -- ---- whether some come in
 

@@ -1,8 +1,10 @@
 //! What a commit would bring in, told before it is made.
 
-ghost use Rattle.std.specs.Prelude.{◌≡◌, [], ◌∷◌, ◌++◌, not, ◌&&◌, filter, OnOk};
+ghost use Rattle.std.specs.Prelude.{◌≡◌, [], ◌∷◌, ◌++◌, false, not, ◌&&◌, filter, OnOk};
 ghost use Rattle.std.specs.List.{list_any};
+ghost use Rattle.std.specs.Option.{option_map_or};
 ghost use Rattle.std.specs.Ordering.{eq_by_cmp, int_eq};
+ghost use Rattle.cr_lattice.specs.Rows.{is_of_row};
 ghost use Rattle.cr_lattice.specs.Change.{change_cmp, beats};
 ghost use Rattle.cr_cells.specs.Holding.{kept_of, IsSound};
 ghost use Rattle.cr_cells.specs.Commit.{newly_kept, is_new, is_new_in, is_none, greatest_version};
@@ -12,6 +14,7 @@ use crate::store::{Cells, CellsError};
 use cr_lattice::change::Change;
 use cr_lattice::merge::merge;
 use cr_lattice::order::beats;
+use cr_lattice::rows::is_of_row;
 use cr_lattice::stamped::Stamped;
 use std::alloc::{AllocError, Global};
 
@@ -48,7 +51,18 @@ fn push_new(
     Ok(())
 }
 
-// The changes that come in, of changes of which none beats another.
+/// Whether a change is of the row that was read for another one, if there is one.
+pub fn is_read(read: Option<&Change>, change: &Change) -> bool
+    ensures { result ≡ option_map_or (λ r. is_of_row r.now.table r.now.pk change.now) read.entry false }
+{
+    match read {
+        Some(other) => is_of_row(change, other.table.as_str(), other.pk.as_slice()),
+        None => false,
+    }
+}
+
+// The changes that come in, of changes of which none beats another. The cells of a row are read once for changes that stand
+// together.
 fn news_of<C: Cells>(
     alloc: Global,
     cells: &mut C,
@@ -61,8 +75,13 @@ fn news_of<C: Cells>(
         (λ news. news.items ≡ filter (is_new (kept_of (C.holding cells.old))) wanted.now) }
 {
     let mut news = Vec::new(alloc);
+    let mut row = Vec::new(alloc);
+    let mut read = None;
     for change in wanted {
-        let row = cells.cells_of(alloc, change.table.as_str(), change.pk.as_slice())?;
+        if !is_read(read, change) {
+            row = cells.cells_of(alloc, change.table.as_str(), change.pk.as_slice())?;
+            read = Some(change);
+        }
         push_new(alloc, &mut news, &row, change)?;
     }
     Ok(news)

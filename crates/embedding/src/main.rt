@@ -1,7 +1,8 @@
 //! A host that embeds the engine: it registers tables of its own with a session, listens to what becomes of rows, has statements
 //! carried out, one with values for its parameters, and prints each with what was heard of it and its answer. A second host has an
 //! authorizer in place of the listener, and prints each statement with what the authorizer was asked about it. Then three replicas
-//! of a host speak to one another by calls, and at last one refuses statements for each of many causes.
+//! of a host speak to one another by calls, one refuses statements for each of many causes, and at last a store counts what it is
+//! asked for statements.
 #![tactic(auto)]
 
 mod asking;
@@ -10,6 +11,7 @@ mod listening;
 mod module;
 mod offering;
 mod printing;
+mod reading;
 mod refusing;
 mod syncing;
 
@@ -33,6 +35,7 @@ use listening::{Shared, Silent, print_heard};
 use module::Numbers;
 use offering::{Observed, Offered, print_offered};
 use printing::{print_done, print_reply};
+use reading::run_counting;
 use refusing::run_refused;
 use std::alloc::{AllocError, Global};
 use std::cell::RefCell;
@@ -413,5 +416,6 @@ fn main(rt: HostRuntime) -> io::Result<()> {
     run_offered(rt.alloc(), &mut out)?;
     run_syncing(rt.alloc(), &mut out)?;
     run_refused(rt.alloc(), &mut out)?;
+    run_counting(rt.alloc(), &mut out)?;
     out.flush()
 }
