@@ -16,7 +16,7 @@ ghost use Rattle.cr_store.specs.Words.{same_key};
 
 use crate::plan::{New, Plan};
 use crate::reads::cells_of;
-use cr_cells::newly::is_new;
+use cr_cells::newly::{is_new, is_read};
 use cr_cells::store::CellsError;
 use cr_lattice::change::Change;
 use cr_lattice::order::beats;
@@ -96,7 +96,8 @@ fn take(
     Ok(())
 }
 
-/// What is to be written where changes are taken, of which none beats another. Reads the cells of their rows and no others.
+/// What is to be written where changes are taken, of which none beats another. Reads the cells of their rows and no others,
+/// those of a row once for changes that stand together.
 ///
 /// # Errors
 /// `Memory`, or `Store(Refused)`.
@@ -122,10 +123,15 @@ pub(crate) fn plan<S: Alter>(
         news: Vec::new(alloc),
         gone: Vec::new(alloc),
     };
+    let mut row = Vec::new(alloc);
+    let mut read = None;
     for change in changes {
-        let _ = conn.is_autocommit();
-        let table = change.table.as_str();
-        let row = cells_of(conn, tables, table, change.pk.as_slice(), alloc)?;
+        if !is_read(read, change) {
+            let _ = conn.is_autocommit();
+            let table = change.table.as_str();
+            row = cells_of(conn, tables, table, change.pk.as_slice(), alloc)?;
+            read = Some(change);
+        }
         take(alloc, &mut plan, &row, change, version)?;
     }
     Ok(plan)
