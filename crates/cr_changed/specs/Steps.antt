@@ -4,10 +4,19 @@ use Rattle.cr_lattice.specs.declared.change.Change.{Change}
 use Rattle.cr_delta.specs.declared.error.DeltaError.{DeltaError}
 use Rattle.cr_delta.specs.declared.error.DeltaError.TheVariants as error
 use Rattle.cr_delta.specs.Delta.{passes_limit}
+use Rattle.cr_scalar.specs.declared.fault.EvalFault.{EvalFault}
+use Rattle.cr_scalar.specs.declared.fault.EvalFault.TheVariants as eval
+use Rattle.cr_exec.specs.declared.streamed.SourceFault.{SourceFault}
+use Rattle.cr_exec.specs.declared.streamed.SourceFault.TheVariants as source
 use Rattle.cr_wanted.specs.declared.judged.Against.{Against}
 use Rattle.cr_wanted.specs.declared.judged.Against.TheVariants as against
 use Rattle.cr_world.specs.declared.refusal.Refusal.{Refusal}
 use Rattle.cr_world.specs.declared.refusal.Refusal.TheVariants as refusal
+
+-- a fault of rows that stand in memory; a store there is not
+abbrev pub of_source : SourceFault → EvalFault
+of_source (source.Eval fault) = fault
+of_source source.Store = eval.Memory
 
 -- rows that a table does not take
 abbrev pub of_against : Against → Refusal

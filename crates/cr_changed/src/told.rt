@@ -1,11 +1,23 @@
-//! How what stands against the rows of a write is told.
+//! How what stands against a write is told.
 
 ghost use Rattle.std.specs.Prelude.{◌≡◌};
-ghost use Rattle.cr_changed.specs.Steps.{of_against, of_delta};
+ghost use Rattle.cr_changed.specs.Steps.{of_against, of_delta, of_source};
 
 use cr_delta::error::DeltaError;
+use cr_exec::streamed::SourceFault;
+use cr_scalar::fault::EvalFault;
 use cr_wanted::judged::Against;
 use cr_world::refusal::Refusal;
+
+/// How a fault of rows that stand in memory is told. Such rows are read without fail, so `Store` does not come.
+pub(crate) fn of_source(fault: SourceFault) -> EvalFault
+    ensures { result ≡ of_source fault }
+{
+    match fault {
+        SourceFault::Eval(fault) => fault,
+        SourceFault::Store => EvalFault::Memory,
+    }
+}
 
 /// How rows are refused that a table does not take.
 pub(crate) fn of_against(against: Against) -> Refusal

@@ -1,21 +1,22 @@
-//! The rows that a write wants of its table, given those that a snapshot shows of it.
+//! The rows that a write wants of its table, given what a snapshot keeps of it.
 
 ghost use Rattle.cr_exec.specs.Answers.{Answers};
 ghost use Rattle.cr_changed.specs.Changed.{update_wants, delete_wants};
 
+use crate::told::of_source;
 use cr_expr::given::Hosted;
 use cr_host::functions::Functions;
-use cr_lattice::rows::rows;
 use cr_lattice::table::Row;
 use cr_replica::snapshot::Snapshot;
 use cr_scalar::fault::EvalFault;
+use cr_tables::kept::Kept;
 use cr_term::query::{Delete, Update};
 use cr_value::value::Value;
 use cr_wanted::delete::wanted_by_delete;
 use cr_wanted::update::wanted_by_update;
 use std::alloc::Global;
 
-/// The rows that an UPDATE wants.
+/// The rows that an UPDATE wants. Those that the snapshot shows of its table are made one after another.
 ///
 /// # Errors
 /// The fault of an expression, where there are no such rows without a limit on values; `TooBig` where there are none with
@@ -32,11 +33,18 @@ pub(crate) fn update_wants<F: Functions>(
 {
     let definition = &update.relation.definition;
     let columns = definition.columns.as_slice();
-    let rows = rows(alloc, snapshot.kept.as_slice(), definition)?;
-    wanted_by_update(alloc, columns, update, rows.as_slice(), functions, params)
+    let changes = snapshot.kept.as_slice();
+    let mut kept = Kept {
+        changes,
+        definition,
+    };
+    match wanted_by_update(alloc, columns, update, &mut kept, 0, functions, params) {
+        Ok(rows) => Ok(rows),
+        Err(fault) => Err(of_source(fault)),
+    }
 }
 
-/// The rows that a DELETE wants.
+/// The rows that a DELETE wants. Those that the snapshot shows of its table are made one after another.
 ///
 /// # Errors
 /// As those of `update_wants`.
@@ -50,6 +58,14 @@ pub(crate) fn delete_wants<F: Functions>(
     requires { F.is_faithful functions.now }
     ensures { Answers (⟦<F as Hosted>⟧.means functions.now) params.now result (λ v. v.items) (delete_wants snapshot.now delete.now) }
 {
-    let rows = rows(alloc, snapshot.kept.as_slice(), &delete.relation.definition)?;
-    wanted_by_delete(alloc, delete, rows.as_slice(), functions, params)
+    let definition = &delete.relation.definition;
+    let changes = snapshot.kept.as_slice();
+    let mut kept = Kept {
+        changes,
+        definition,
+    };
+    match wanted_by_delete(alloc, delete, &mut kept, 0, functions, params) {
+        Ok(rows) => Ok(rows),
+        Err(fault) => Err(of_source(fault)),
+    }
 }

@@ -2,5 +2,7 @@
 #![tactic(auto)]
 
 pub mod changes;
+pub mod kept;
 pub mod shown;
+pub mod standing;
 pub mod view;

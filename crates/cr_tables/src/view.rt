@@ -2,17 +2,13 @@
 
 ghost use Rattle.std.specs.Prelude.{◌≡◌, find, IfOk};
 ghost use Rattle.std.specs.Option.{option_copied};
-ghost use Rattle.cr_module.specs.Lawful.{value_at};
 ghost use Rattle.cr_snapshot.specs.Seen.{is_listing, rows_listed, rows_seen};
 ghost use Rattle.cr_world.specs.State.{table_rows};
 ghost use Rattle.cr_tables.specs.Views.{rows_before};
 
-use crate::changes::{WIDTH, change_value};
-use crate::shown::{Shown, are_by_key, read_shown};
+use crate::standing::{Standing, read_kept};
 use cr_cells::tables::table_named;
 use cr_lattice::change::Change;
-use cr_lattice::rows::rows;
-use cr_lattice::stamped::Stamped;
 use cr_lattice::table::{Row, Table};
 use cr_module::source::{ReadFault, Source};
 use cr_replica::snapshot::{Listing, Snapshot};
@@ -27,19 +23,6 @@ use std::alloc::{AllocError, Global};
 pub struct View<'a> {
     pub snapshot: &'a Snapshot,
     pub joined: &'a [Joined],
-}
-
-/// Where a reading of a table stands.
-#[derive(Drop)]
-pub enum Standing<'a> {
-    /// On a row that kept changes show, which stand by their keys. A row is made as it is asked for.
-    Shown(Shown<'a>),
-    /// On one of the rows that kept changes in another order show, which were made at once.
-    Made(Vec<Row>, usize),
-    /// On a cell of the table of changes.
-    Changes(&'a [Stamped]),
-    /// On a row of a module.
-    Listed(&'a [Row]),
 }
 
 fn is_listing(listing: &Listing, name: &str) -> bool
@@ -76,10 +59,7 @@ fn of_table<'a>(
     if !table.is_replicated {
         return Ok(Standing::Listed(&[]));
     }
-    if are_by_key(kept) {
-        return Ok(Standing::Shown(read_shown(alloc, &table.definition, kept)?));
-    }
-    Ok(Standing::Made(rows(alloc, kept, &table.definition)?, 0))
+    read_kept(alloc, kept, &table.definition)
 }
 
 // A reading of the table of a name, or of the table of changes, or of a module.
@@ -96,16 +76,6 @@ fn of_name<'a>(
             Ok(Standing::Changes(snapshot.cells.as_slice()))
         }
         None => Ok(Standing::Listed(rows_listed(snapshot.modules.as_slice(), name))),
-    }
-}
-
-// A value of a row, NULL where it has none there.
-fn value_of(alloc: Global, row: &Row, at: usize) -> Result<Value, AllocError>
-    ensures { IfOk result (λ v. v ≡ value_at at row.now) }
-{
-    match row.as_slice().get(at) {
-        Some(value) => value.copy(alloc),
-        None => Ok(Value::Null),
     }
 }
 
@@ -132,21 +102,11 @@ impl<'a> Source for View<'a> {
     }
 
     fn eof(&self, cursor: &Standing<'a>) -> bool {
-        match cursor {
-            Standing::Shown(shown) => shown.is_at_end(),
-            Standing::Made(rows, at) => *at >= rows.len(),
-            Standing::Changes(cells) => cells.is_empty(),
-            Standing::Listed(rows) => rows.is_empty(),
-        }
+        cursor.is_at_end()
     }
 
     fn width(&self, cursor: &Standing<'a>) -> usize {
-        match cursor {
-            Standing::Shown(shown) => shown.width(),
-            Standing::Made(rows, at) => rows[*at].as_slice().len(),
-            Standing::Changes(_) => WIDTH,
-            Standing::Listed(rows) => rows[0].as_slice().len(),
-        }
+        cursor.width()
     }
 
     fn column(
@@ -155,22 +115,11 @@ impl<'a> Source for View<'a> {
         cursor: &Standing<'a>,
         at: usize,
     ) -> Result<Value, ReadFault> {
-        let value = match cursor {
-            Standing::Shown(shown) => shown.column(alloc, at)?,
-            Standing::Made(rows, place) => value_of(alloc, &rows[*place], at)?,
-            Standing::Changes(cells) => change_value(alloc, &cells[0], at)?,
-            Standing::Listed(rows) => value_of(alloc, &rows[0], at)?,
-        };
-        Ok(value)
+        Ok(cursor.column(alloc, at)?)
     }
 
     fn next(&mut self, alloc: Global, cursor: &mut Standing<'a>) -> Result<(), ReadFault> {
-        match cursor {
-            Standing::Shown(shown) => shown.advance(alloc)?,
-            Standing::Made(_, at) => *at += 1,
-            Standing::Changes(cells) => *cells = &cells[1..],
-            Standing::Listed(rows) => *rows = &rows[1..],
-        }
+        cursor.advance(alloc)?;
         Ok(())
     }
 }

@@ -19,10 +19,13 @@ use Rattle.cr_meaning.specs.View.{plain, assignment, insert, update, delete}
 use Rattle.cr_meaning.specs.Meaning.{meaning}
 use Rattle.cr_exec.specs.Answers.{Stage, Faults, IsBoth, Answers, behind}
 use Rattle.cr_exec.specs.Scopes.{there}
+use Rattle.cr_exec.specs.Streamed.{Selects}
+use Rattle.cr_exec.specs.declared.streamed.SourceFault.{SourceFault}
 use Rattle.cr_exec.specs.Tails.{with_quiet_first}
 use Rattle.cr_exec.proofs.Stages.{faults_on, both_on}
 use Rattle.cr_exec.proofs.ByClass.{answers_on, answers_after}
 use Rattle.cr_wanted.specs.Rows.{assigned_expr, place_of, assigned_by, updated_by, kept_by}
+use Rattle.cr_wanted.proofs.Readings.{selects_on}
 
 map-both : {X Y Z : Type 0} (g : Y → Z) (f : X → Y) (xs : List X) → map g (map f xs) ≡ map (λ x. g (f x)) xs
 map-both g f [] = refl
@@ -119,10 +122,8 @@ module _ (host : Host) (params : List Value) where
         answers_after host params is_meant b new_row left_row view
         (λ most k. sym (left_is most (Some true) (k ∙ ap (λ (c : Bool). Some c) t))) h r a
 
-    pub left_other : (b : Bool) (same : Row) → b ≡ false → same ≡ row → IsBoth host params is_meant b → IsBoth host params left_row same
-    left_other b same t s h =
-        both_on host params is_meant left_row b same
-        (λ most k. left_is most (Some false) (k ∙ ap (λ (c : Bool). Some c) t) ∙ ap (λ (l : Row). Some l) (sym s)) h
+    pub left_other : (b : Bool) → b ≡ false → IsBoth host params is_meant b → IsBoth host params left_row row
+    left_other b t h = both_on host params is_meant left_row b row (λ most k. left_is most (Some false) (k ∙ ap (λ (c : Bool). Some c) t)) h
 
   module _ (cols : List ColumnDef) (w : Update) (terms : List (Bor Expr)) (places : List ℕ) (exprs : List (Bor Expr)) (terms_are : map there terms ≡ with_quiet_first (map plain w.filter)) (places_are : places ≡ map place_of w.assignments) (exprs_are : map there exprs ≡ map assigned_expr w.assignments) where
     values_are : (most : Option ℕ) (row : Row) → each (λ e. (meaning most host params).value e row) (map there exprs) ≡ each (λ a. (meaning most host params).value a.expr row) (map assignment w.assignments)
@@ -136,10 +137,11 @@ module _ (host : Host) (params : List Value) where
         let p : places ≡ map (λ a. a.place) (map assignment w.assignments) = places_are ∙ sym (map-both (λ a. a.place) assignment w.assignments) in
         λ i. option_and_then (λ b. cond b (option_map (λ vs. put_all cols (p i) vs row) (values_are most row i)) (Some row)) (all_true (meaning most host params) (terms_are i) row)
 
-    pub wanted_updates : {X : Type 0} (view : X → List Row) (rows : List Row) (r : Result X EvalFault)
-        → Answers host params r view (λ m. each (updated_by m cols terms places exprs) rows) → Answers host params r view (λ m. writes.wanted_by_update m cols (update w) rows)
+    pub wanted_updates : {X : Type 0} (view : X → List Row) (rows : List Row) (r : Result X SourceFault)
+        → Selects host params r view (λ m. each (updated_by m cols terms places exprs) rows)
+        → Selects host params r view (λ m. writes.wanted_by_update m cols (update w) rows)
     wanted_updates view rows r h =
-        answers_on host params (λ m. each (updated_by m cols terms places exprs) rows) (λ m. writes.wanted_by_update m cols (update w) rows) view
+        selects_on host params (λ m. each (updated_by m cols terms places exprs) rows) (λ m. writes.wanted_by_update m cols (update w) rows) view
         (λ most i. each (λ row. row_is most row i) rows) r h
 
   -- ---- DELETE
@@ -164,14 +166,13 @@ module _ (host : Host) (params : List Value) where
         both_on host params is_hit (λ m. behind old (kept_row m)) b old
         (λ most k. ap (behind old) (kept_is most (Some true) (k ∙ ap (λ (c : Bool). Some c) t)) ∙ ap (λ (l : List Row). Some l) (append-nil old)) h
 
-    pub stays : (b : Bool) (old new : List Row) (same : Row) → b ≡ false → same ≡ row → new ≡ old ++ same ∷ [] → IsBoth host params is_hit b → IsBoth host params (λ m. behind old (kept_row m)) new
-    stays b old new same t s n h =
+    pub stays : (b : Bool) (old new : List Row) → b ≡ false → new ≡ old ++ row ∷ [] → IsBoth host params is_hit b → IsBoth host params (λ m. behind old (kept_row m)) new
+    stays b old new t n h =
         both_on host params is_hit (λ m. behind old (kept_row m)) b new
-        (λ most k. ap (behind old) (kept_is most (Some false) (k ∙ ap (λ (c : Bool). Some c) t))
-        ∙ ap (λ (r : Row). Some (old ++ r ∷ [])) (sym s) ∙ ap (λ (l : List Row). Some l) (sym n)) h
+        (λ most k. ap (behind old) (kept_is most (Some false) (k ∙ ap (λ (c : Bool). Some c) t)) ∙ ap (λ (l : List Row). Some l) (sym n)) h
 
-  pub wanted_deletes : {X : Type 0} (view : X → List Row) (w : Delete) (terms ts : List (Bor Expr)) (rows : List Row) → ts ≡ terms → map there terms ≡ with_quiet_first (map plain w.filter) → (r : Result X EvalFault)
-      → Answers host params r view (λ m. gather (kept_by m ts) rows) → Answers host params r view (λ m. writes.wanted_by_delete m (delete w) rows)
+  pub wanted_deletes : {X : Type 0} (view : X → List Row) (w : Delete) (terms ts : List (Bor Expr)) (rows : List Row) → ts ≡ terms → map there terms ≡ with_quiet_first (map plain w.filter) → (r : Result X SourceFault)
+      → Selects host params r view (λ m. gather (kept_by m ts) rows) → Selects host params r view (λ m. writes.wanted_by_delete m (delete w) rows)
   wanted_deletes view w terms ts rows same are r h =
-      answers_on host params (λ m. gather (kept_by m ts) rows) (λ m. writes.wanted_by_delete m (delete w) rows) view
+      selects_on host params (λ m. gather (kept_by m ts) rows) (λ m. writes.wanted_by_delete m (delete w) rows) view
       (λ most i. gather (λ row. option_map (λ b. cond b (single row) []) (option_map not (all_true (meaning most host params) ((ap (map there) same ∙ are) i) row))) rows) r h

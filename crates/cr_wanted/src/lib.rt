@@ -1,4 +1,4 @@
-//! The rows that INSERT, UPDATE and DELETE want of a table, over lists of rows, and what stands against them.
+//! The rows that INSERT, UPDATE and DELETE want of a table, and what stands against them.
 #![tactic(auto)]
 
 pub mod by_key;

@@ -1,19 +1,62 @@
-use Rattle.std.proofs.Common.{rules}
+use Rattle.std.proofs.Common.{◌≡◌, ◌∙◌, List, [], Option, false, refl, ap, rules}
 use Rattle.cr_scalar.specs.Host.{host}
 use Rattle.cr_bags.specs.Bags.{gather}
-use Rattle.cr_exec.specs.Answers.{Faults}
-use Rattle.cr_exec.proofs.Loops.{gather_next, gather_fails}
+use Rattle.cr_query.specs.Query.{Row, Meaning}
+use Rattle.cr_meaning.specs.View.{Ordered}
+use Rattle.cr_module.specs.Lawful.{is_at_end, rest_of}
+use Rattle.cr_exec.specs.Answers.{Faults, Stage}
+use Rattle.cr_exec.proofs.Streams.{read_fails, read_next}
 use Rattle.cr_wanted.specs.Rows.{kept_by}
+use Rattle.cr_wanted.proofs.Readings.{list_starts, list_ends}
 use Rattle.cr_wanted.proofs.delete.kept_each.Goals as goal
 
-pub loop-row-preserved : goal.loop-row-preserved
-loop-row-preserved g c =
-    let h = host (g.F.Functions.function_of c.args.functions.now) (g.F.Functions.scalar c.args.functions.now) (g.F.Functions.step c.args.functions.now) (g.F.Functions.finish c.args.functions.now) (g.F.Functions.order_of c.args.functions.now) in
-    gather_next h c.args.params.now (λ m r. kept_by m c.args.terms.now r) (λ m. gather (kept_by m c.args.terms.now) c.args.rows.now) c.args.rows.now c.loop-row.row-index c.row-item.result c.loop-row.out.items c.keep.new.out.items c.loop-row-test.true c.row-item.is c.in_ok-keep.ensures c.loop-row.invariant
+pub loop-alloc-init : goal.loop-alloc-init
+loop-alloc-init g c =
+    let f = g.F.Functions in
+    let own = c.args.functions.now in
+    let h = host (f.function_of own) (f.scalar own) (f.step own) (f.finish own) (f.order_of own) in
+    let one : Meaning Ordered → Row → Option (List Row) = λ m. kept_by m c.args.terms.now in
+    let all : Stage (List Row) = λ m. gather (one m) (g.S.Source.rows_of c.args.source.now c.args.table) in (
+      list_starts h c.args.params.now one all _ c.new-out.result.items _ c.new-out.ensures.items c.in_ok-cursor.ensures.starts (λ m. refl),
+      c.in_ok-cursor.ensures.rows,
+      search rules,
+    )
 
-pub returns-in_err-keep : goal.returns-in_err-keep
-returns-in_err-keep g c =
-    let h = host (g.F.Functions.function_of c.args.functions.now) (g.F.Functions.scalar c.args.functions.now) (g.F.Functions.step c.args.functions.now) (g.F.Functions.finish c.args.functions.now) (g.F.Functions.order_of c.args.functions.now) in
-    let why : Faults h c.args.params.now (λ m. gather (kept_by m c.args.terms.now) c.args.rows.now) c.in_err-keep.field-0.0 =
-    gather_fails h c.args.params.now (λ m r. kept_by m c.args.terms.now r) (λ m. gather (kept_by m c.args.terms.now) c.args.rows.now) c.args.rows.now c.loop-row.row-index c.row-item.result c.loop-row.out.items c.in_err-keep.field-0.0 c.loop-row-test.true c.row-item.is c.in_err-keep.ensures c.loop-row.invariant in
+pub returns-in_err-keep-clause-keeps : goal.returns-in_err-keep-clause-keeps
+returns-in_err-keep-clause-keeps g c =
+    let f = g.F.Functions in
+    let own = c.args.functions.now in
+    let h = host (f.function_of own) (f.scalar own) (f.step own) (f.finish own) (f.order_of own) in
+    let one : Meaning Ordered → Row → Option (List Row) = λ m. kept_by m c.args.terms.now in
+    let all : Stage (List Row) = λ m. gather (one m) (g.S.Source.rows_of c.args.source.now c.args.table) in
+    let left : List Row = g.S.Source.left c.loop-alloc.source c.loop-alloc.cursor in
+    let some : is_at_end left ≡ false = search rules in
+    let why : Faults h c.args.params.now all c.in_err-keep.field-0.0 =
+    read_fails h c.args.params.now one all [] left c.in_ok-row.row c.loop-alloc.out.items c.in_err-keep.field-0.0 some c.in_ok-row.ensures.row
+    c.in_err-keep.ensures c.loop-alloc.invariant.0 in
     search rules
+
+pub loop-alloc-preserved : goal.loop-alloc-preserved
+loop-alloc-preserved g c =
+    let f = g.F.Functions in
+    let own = c.args.functions.now in
+    let h = host (f.function_of own) (f.scalar own) (f.step own) (f.finish own) (f.order_of own) in
+    let one : Meaning Ordered → Row → Option (List Row) = λ m. kept_by m c.args.terms.now in
+    let all : Stage (List Row) = λ m. gather (one m) (g.S.Source.rows_of c.args.source.now c.args.table) in
+    let left : List Row = g.S.Source.left c.loop-alloc.source c.loop-alloc.cursor in
+    let some : is_at_end left ≡ false = search rules in (
+      read_next h c.args.params.now one all [] left _ c.in_ok-row.row c.loop-alloc.out.items c.keep.new.out.items some c.in_ok-row.ensures.row
+          (c.in_ok-next.ensures.goes_on ∙ ap rest_of c.in_ok-row.ensures.stays)
+          c.in_ok-keep.ensures c.loop-alloc.invariant.0,
+      search rules,
+      search rules,
+    )
+
+pub returns-clause-keeps : goal.returns-clause-keeps
+returns-clause-keeps g c =
+    let f = g.F.Functions in
+    let own = c.args.functions.now in
+    let h = host (f.function_of own) (f.scalar own) (f.step own) (f.finish own) (f.order_of own) in
+    let one : Meaning Ordered → Row → Option (List Row) = λ m. kept_by m c.args.terms.now in
+    let all : Stage (List Row) = λ m. gather (one m) (g.S.Source.rows_of c.args.source.now c.args.table) in
+    list_ends h c.args.params.now one all _ c.loop-alloc.out.items (search rules) c.loop-alloc.invariant.0
