@@ -67,22 +67,20 @@ module _ (may_offer : Bool) (params : List Value) (q : Query) (name : List ℕ) 
   read_of_name [] (m ∷ ms) ls among listed = absurd listed
   read_of_name (c ∷ cs) [] ls among listed = absurd listed
   read_of_name (c ∷ cs) (m ∷ ms) [] among listed = absurd listed
-  read_of_name (c ∷ cs) (m ∷ ms) (l ∷ ls) among listed = by (is_module name m) refl where
+  read_of_name (c ∷ cs) (m ∷ ms) (l ∷ ls) among listed = by (read_of_name cs ms ls among listed.1) (is_module name m) refl where
     called : is_listing name l ≡ is_module name m
     called = ap (λ (d : TableDef). same_bytes d.name name) listed.0.definition
-
-    rest : IsGiven (module_in ms name) (find (is_listing name) ls)
-    rest = read_of_name cs ms ls among listed.1
 
     own : m.name ≡ name → IsListed true c (offered may_offer params q name) (orders_for q) m l
     own is =
         subst (λ (b : Bool). IsListed b c (offered may_offer params q name) (orders_for q) m l) (ap (is_among (map name_of q.joined)) is ∙ among)
         (subst (λ (n : List ℕ). IsListed (is_among (map name_of q.joined) m.name) c (offered may_offer params q n) (orders_for q) m l) is listed.0)
 
-    by : (b : Bool) → is_module name m ≡ b → IsGiven (cond (is_module name m) (Some m) (module_in ms name)) (cond (is_listing name l) (Some l) (find (is_listing name) ls))
-    by true is =
+    by : IsGiven (module_in ms name) (find (is_listing name) ls) → (b : Bool) → is_module name m ≡ b
+        → IsGiven (cond (is_module name m) (Some m) (module_in ms name)) (cond (is_listing name l) (Some l) (find (is_listing name) ls))
+    by rest true is =
         subst (λ (b : Bool). IsGiven (cond (is_module name m) (Some m) (module_in ms name)) (cond b (Some l) (find (is_listing name) ls))) (sym (called ∙ is))
         (subst (λ (b : Bool). IsGiven (cond b (Some m) (module_in ms name)) (Some l)) (sym is) (c, own (same_is m.name name is)))
-    by false is =
+    by rest false is =
         subst (λ (b : Bool). IsGiven (cond (is_module name m) (Some m) (module_in ms name)) (cond b (Some l) (find (is_listing name) ls))) (sym (called ∙ is))
         (subst (λ (b : Bool). IsGiven (cond b (Some m) (module_in ms name)) (find (is_listing name) ls)) (sym is) rest)

@@ -186,7 +186,7 @@ table called is_left on = record {
 }
 
 abbrev joining : List Joined → List Expr → Query
-joining joined filter = record ordered false false [] { joined = joined; filter = filter }
+joining joined filter = record (ordered false false []) { joined = joined; filter = filter }
 
 abbrev one : Expr
 one = comparison c.Equal id (number 1)
@@ -268,7 +268,7 @@ no_sum : orders_for (ordered false false (rising_id ∷ by (e.Arithmetic arithme
 no_sum = simp folds refl
 
 -- in a join
-no_join : orders_for (record ordered false false (rising_id ∷ []) { joined = t ∷ u ∷ [] }) ≡ []
+no_join : orders_for (record (ordered false false (rising_id ∷ [])) { joined = t ∷ u ∷ [] }) ≡ []
 no_join = refl
 
 -- with groups, and beside DISTINCT

@@ -1,11 +1,10 @@
 -- A SELECT answers the same over what a lawful module gives by the terms that it is told as over all that the module has.
-use Rattle.std.proofs.Common.{◌≡◌, ◌⊎◌, inl, inr, ◌∙◌, ℕ, zero, suc, Bool, true, false, not, ◌&&◌, ◌||◌, cond, List, [], ◌∷◌, ◌++◌, map, length, Option, Some, refl, sym, ap, subst}
+use Rattle.std.proofs.Common.{◌≡◌, inl, inr, ◌∙◌, ℕ, zero, suc, Bool, true, false, not, ◌&&◌, ◌||◌, cond, List, [], ◌∷◌, ◌++◌, map, length, Option, Some, refl, sym, ap, subst}
 use Rattle.std.specs.Prelude.{filter, slice_get}
-use Rattle.std.specs.Cmp.{IsTotalOrder}
-use Rattle.std.specs.List.{flat_map, list_any, list_all, AllByRecursion}
+use Rattle.std.specs.List.{flat_map, list_any, list_all}
 use Rattle.std.proofs.lemmas.List.{map-append}
 use Rattle.cr_value.specs.declared.value.Value.{Value}
-use Rattle.cr_lattice.proofs.Tested.{split}
+use Rattle.cr_lattice.proofs.Tested.{or_false, split}
 use Rattle.cr_delta.proofs.Among.{Among}
 use Rattle.cr_term.specs.declared.expr.Expr.{Expr}
 use Rattle.cr_term.specs.declared.query.Joined.{Joined}
@@ -33,43 +32,34 @@ use Rattle.cr_plan.specs.declared.offer.Offer.{Offer}
 use Rattle.cr_plan.specs.Offers.{argument_of, arguments, constraints, offers}
 use Rattle.cr_plan.specs.Laws.{AnswersByPlan, AreOf, offers_behind}
 use Rattle.cr_plan.specs.Told.{is_brought, told_terms}
+use Rattle.cr_plan.proofs.Placing.{ons, told_is}
 use Rattle.cr_plan.proofs.Misses.{Unmet, some_miss, unmet_one}
 
 -- ---- a query without a LEFT JOIN
 
 none_behind : (p : Joined → Bool) (before : List Joined) (j : Joined) (after : List Joined) → list_any p (before ++ (j ∷ after)) ≡ false
     → list_any p after ≡ false
-none_behind p [] j after h = by (p j) h where
-  by : (b : Bool) → cond b true (list_any p after) ≡ false → list_any p after ≡ false
-  by true e = absurd cc
-  by false e = e
-none_behind p (k ∷ before) j after h = by (p k) h where
-  by : (b : Bool) → cond b true (list_any p (before ++ (j ∷ after))) ≡ false → list_any p after ≡ false
-  by true e = absurd cc
-  by false e = none_behind p before j after e
+none_behind p [] j after h = (or_false (p j) (list_any p after) h).1
+none_behind p (k ∷ before) j after h = none_behind p before j after (or_false (p k) (list_any p (before ++ (j ∷ after))) h).1
 
 all_safe : (js : List Joined) → list_any is_brought js ≡ false → list_all is_safe js ≡ true
 all_safe [] h = refl
-all_safe (j ∷ js) h = by j.is_left refl h where
-  by : (b : Bool) → j.is_left ≡ b → cond b true (list_any is_brought js) ≡ false → list_all is_safe (j ∷ js) ≡ true
-  by true is e = absurd cc
-  by false is e = ap (λ (b : Bool). (not b || list_all quiet j.on) && list_all is_safe js) is ∙ all_safe js e
+all_safe (j ∷ js) h =
+    let none = or_false j.is_left (list_any is_brought js) h in
+    ap (λ (b : Bool). (not b || list_all quiet j.on) && list_all is_safe js) none.0 ∙ all_safe js none.1
 
 -- all its terms are told each of its tables
-inner_terms_are : (js : List Joined) → list_any is_brought js ≡ false → flat_map view.inner_terms js ≡ map view.plain (flat_map (λ k. k.on) js)
+inner_terms_are : (js : List Joined) → list_any is_brought js ≡ false → flat_map view.inner_terms js ≡ map view.plain (ons js)
 inner_terms_are [] h = refl
-inner_terms_are (j ∷ js) h = by j.is_left refl h where
-  by : (b : Bool) → j.is_left ≡ b → cond b true (list_any is_brought js) ≡ false → flat_map view.inner_terms (j ∷ js) ≡ map view.plain (flat_map (λ k. k.on) (j ∷ js))
-  by true is e = absurd cc
-  by false is e =
-      (λ i. cond (is i) [] (map view.plain j.on) ++ inner_terms_are js e i)
-      ∙ sym (map-append view.plain j.on (flat_map (λ k. k.on) js))
+inner_terms_are (j ∷ js) h =
+    let none = or_false j.is_left (list_any is_brought js) h in
+    (λ i. cond (none.0 i) [] (map view.plain j.on) ++ inner_terms_are js none.1 i)
+    ∙ sym (map-append view.plain j.on (ons js))
 
 told_all : (q : Query) (j : Joined) → j.is_left ≡ false → list_any is_brought q.joined ≡ false → map view.plain (told_terms q j) ≡ view.terms q
 told_all q j inner none =
-    ap (λ (b : Bool). map view.plain (cond b j.on (cond (list_any is_brought q.joined) [] (flat_map (λ k. k.on) q.joined ++ q.filter)))) inner
-    ∙ ap (λ (b : Bool). map view.plain (cond b [] (flat_map (λ k. k.on) q.joined ++ q.filter))) none
-    ∙ map-append view.plain (flat_map (λ k. k.on) q.joined) q.filter
+    ap (map view.plain) (told_is q j inner none)
+    ∙ map-append view.plain (ons q.joined) q.filter
     ∙ ap (λ (es : List Ordered). es ++ map view.plain q.filter) (sym (inner_terms_are q.joined none))
 
 -- ---- lists
@@ -135,7 +125,7 @@ module _ (host : Host) (bytes : OrdersBytes host) (params : List Value) (most : 
     by_its_on : j.is_left ≡ true → Leaves
     by_its_on brought =
         left_leaves_out host bytes params most q before j after front there meets back is wide brought
-        (misses j.on (ap (λ (b : Bool). cond b j.on (cond (list_any is_brought q.joined) [] (flat_map (λ k. k.on) q.joined ++ q.filter))) brought))
+        (misses j.on (ap (λ (b : Bool). cond b j.on (cond (list_any is_brought q.joined) [] (ons q.joined ++ q.filter))) brought))
 
     by_all_terms : j.is_left ≡ false → list_any is_brought q.joined ≡ false → Leaves
     by_all_terms inner none =
@@ -158,8 +148,8 @@ module _ (host : Host) (bytes : OrdersBytes host) (params : List Value) (most : 
       | inl brought ↦ by_its_on brought
       | inr inner ↦ elim (split (list_any is_brought q.joined)) [
         | inl some ↦ by_nothing (
-            ap (λ (b : Bool). cond b j.on (cond (list_any is_brought q.joined) [] (flat_map (λ k. k.on) q.joined ++ q.filter))) inner
-            ∙ ap (λ (b : Bool). cond b [] (flat_map (λ k. k.on) q.joined ++ q.filter)) some)
+            ap (λ (b : Bool). cond b j.on (cond (list_any is_brought q.joined) [] (ons q.joined ++ q.filter))) inner
+            ∙ ap (λ (b : Bool). cond b [] (ons q.joined ++ q.filter)) some)
         | inr none ↦ by_all_terms inner none
       ]
     ]

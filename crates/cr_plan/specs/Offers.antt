@@ -10,6 +10,7 @@ use Rattle.cr_lattice.specs.Check.{same_bytes}
 use Rattle.cr_term.specs.declared.operator.Comparison.{Comparison as Relation}
 use Rattle.cr_term.specs.declared.operator.Comparison.TheVariants as r
 use Rattle.cr_term.specs.declared.operator.Adjusted.{Adjusted}
+use Rattle.cr_term.specs.declared.operator.Meeting.{Meeting}
 use Rattle.cr_term.specs.declared.expr.Expr.{Expr, out-Expr}
 use Rattle.cr_term.specs.declared.expr.Expr.TheOpen.{Expr-F, Literal, Compare, Collate}
 use Rattle.cr_term.specs.declared.expr.Expr.TheFolds.{fold-Expr}
@@ -87,8 +88,12 @@ of_right cs params op a x y = offered (place_under cs y) (option_map turned (op_
 abbrev pub of_sides : Columns → List Value → Relation → Adjusted → Expr → Expr → Option Offer
 of_sides cs params op a x y = option_or (of_left cs params op a x y) (of_right cs params op a x y)
 
+-- under BINARY
+abbrev pub of_comparison : Columns → List Value → Relation → Meeting → Expr → Expr → Option Offer
+of_comparison cs params op m x y = cond (same_bytes m.collation binary) (of_sides cs params op m.adjusted x y) None
+
 abbrev pub offer_in : Columns → List Value → Layer → Option Offer
-offer_in cs params (Compare op m x y) = cond (same_bytes m.collation binary) (of_sides cs params op m.adjusted x y) None
+offer_in cs params (Compare op m x y) = of_comparison cs params op m x y
 offer_in cs params _ = None
 
 -- A term as a constraint on a table with these columns, with its argument: a comparison under BINARY of a column of the table

@@ -1,14 +1,14 @@
 //! Terms as constraints on the columns of a module. "The Virtual Table Mechanism Of SQLite", section 2.3.
 
 ghost use Rattle.std.specs.Prelude.{◌≡◌, ◌++◌, IfOk, OnOk};
-ghost use Rattle.cr_plan.specs.Offers.{against, never_null, of_left, of_right, of_sides, offer, offers, op_of, place_in, place_under, turned};
+ghost use Rattle.cr_plan.specs.Offers.{against, never_null, of_comparison, of_left, of_right, of_sides, offer, offers, op_of, place_in, place_under, turned};
 
 use cr_lattice::profile::BINARY;
 use cr_module::plan::{Comparison, Constraint};
 use cr_scalar::compare::is_null;
 use cr_sought::pin::{column_under, constant, on_left, on_right};
 use cr_term::expr::Expr;
-use cr_term::operator::{Adjusted, Comparison as Relation};
+use cr_term::operator::{Adjusted, Comparison as Relation, Meeting};
 use cr_value::order::same_bytes;
 use cr_value::value::Value;
 use std::alloc::{AllocError, Global};
@@ -177,6 +177,32 @@ fn of_sides(
     }
 }
 
+// The offer of a comparison, where it is one under BINARY.
+fn of_comparison(
+    alloc: Global,
+    columns: Columns,
+    params: &[Value],
+    relation: Relation,
+    meeting: &Meeting,
+    left: &Expr,
+    right: &Expr,
+) -> Result<Option<Offer>, AllocError>
+    ensures { IfOk result (λ o. o ≡ of_comparison columns params.now relation meeting.now left.now right.now) }
+{
+    if !same_bytes(meeting.collation.as_str().as_bytes(), BINARY.as_bytes()) {
+        return Ok(None);
+    }
+    of_sides(
+        alloc,
+        columns,
+        params,
+        relation,
+        meeting.adjusted,
+        left,
+        right,
+    )
+}
+
 // A term as a constraint, if it is one.
 fn offer_of(
     alloc: Global,
@@ -189,15 +215,12 @@ fn offer_of(
     let Expr::Compare(relation, meeting, left, right) = term else {
         return Ok(None);
     };
-    if !same_bytes(meeting.collation.as_str().as_bytes(), BINARY.as_bytes()) {
-        return Ok(None);
-    }
-    of_sides(
+    of_comparison(
         alloc,
         columns,
         params,
         *relation,
-        meeting.adjusted,
+        meeting,
         left.get(),
         right.get(),
     )
@@ -215,16 +238,16 @@ fn offer_of(
 /// Want of memory.
 pub fn push_offers(
     alloc: Global,
-    offers: &mut Vec<Offer>,
+    out: &mut Vec<Offer>,
     columns: Columns,
     terms: &[Expr],
     params: &[Value],
 ) -> Result<(), AllocError>
-    ensures { OnOk result (offers.new.items ≡ offers.old.items ++ offers columns params.now terms.now) }
+    ensures { OnOk result (out.new.items ≡ out.old.items ++ offers columns params.now terms.now) }
 {
     for term in terms {
         if let Some(offer) = offer_of(alloc, columns, params, term)? {
-            offers.push(offer)?;
+            out.push(offer)?;
         }
     }
     Ok(())

@@ -1,9 +1,10 @@
 //! What a query offers to a table of it, alone or beside others.
 
 ghost use Rattle.std.specs.Prelude.{◌≡◌, ◌+◌, IfOk};
+ghost use Rattle.std.specs.List.{list_any};
 ghost use Rattle.std.specs.Option.{option_map};
 ghost use Rattle.cr_plan.specs.Offers.{offers};
-ghost use Rattle.cr_plan.specs.Told.{has_name, offers_to, only, placed, places_from, told_terms};
+ghost use Rattle.cr_plan.specs.Told.{has_name, is_brought, offers_to, only, placed, places_from, told_terms};
 
 use crate::offer::{Columns, Offer, push_offers};
 use cr_term::query::{Joined, Query};
@@ -47,6 +48,13 @@ fn only_table<'a>(
     Ok(found)
 }
 
+// Whether a LEFT JOIN brings one of these tables.
+fn has_brought(joined: &[Joined]) -> bool
+    ensures { result ≡ list_any is_brought joined.now }
+{
+    joined.iter().any(|table| table.is_left)
+}
+
 // The terms that are told a table, as constraints on it.
 fn offers_of(
     alloc: Global,
@@ -63,7 +71,7 @@ fn offers_of(
         return Ok(offers);
     }
     let tables = query.joined.as_slice();
-    if tables.iter().any(|table| table.is_left) {
+    if has_brought(tables) {
         return Ok(offers);
     }
     for table in tables {

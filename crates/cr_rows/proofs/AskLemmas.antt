@@ -10,7 +10,7 @@ use Rattle.sqlite.specs.State.{State, Fails, ShowsRows, FailsToQuery, IsNotRun, 
 use Rattle.sqlite.proofs.Callers.{IsPlain}
 
 -- a query that shows rows changes nothing
-shown_same : (sql : List ℕ) (params : Row) (old new : State) (rows : List Row) → IsPlain (understood old.now.schema sql) → Shown sql params old new rows → IsUnchanged old new
+pub shown_same : (sql : List ℕ) (params : Row) (old new : State) (rows : List Row) → IsPlain (understood old.now.schema sql) → Shown sql params old new rows → IsUnchanged old new
 unfolding Shown
 shown_same sql params old new rows plain h = let bare = subst IsPlain h.1.is plain in (rw bare.0 at h.2).3
 
@@ -42,6 +42,11 @@ asks_same sql params old new r plain ok err = (asks_only sql params old new r pl
 shown_open : (old new : State) (sql : List ℕ) (c : Compiled) (params : Row) (rows : List Row) (o : Option Returning) → ShowsRows old new sql c params rows o → IsTrue old.is_open
 shown_open old new sql c params rows None h = h.3.0.was_open
 shown_open old new sql c params rows (Some what) h = h.1.shown.was_open
+
+-- and was asked of an open connection
+pub shown_was_open : (sql : List ℕ) (params : Row) (old new : State) (rows : List Row) → Shown sql params old new rows → IsTrue old.is_open
+unfolding Shown
+shown_was_open sql params old new rows h = shown_open old new sql h.0 _ rows h.0.returning h.2
 
 failed_open : (old new : State) (sql : List ℕ) (c : Compiled) (params : Row) (e : Error) (o : Option Returning) → IsTrue new.is_open → FailsToShow old new sql c params e o → IsTrue old.is_open
 failed_open old new sql c params e None it h = h.3.0.was_open

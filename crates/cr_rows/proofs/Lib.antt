@@ -8,3 +8,4 @@ pub mod DeleteLemmas
 pub mod UpdateLemmas
 pub mod TextLemmas
 pub mod WriteLemmas
+pub mod EachLemmas

@@ -3,7 +3,7 @@
 //! `proofs/` has a lemma for each kind of statement on a table whose schema is written out, generic over the table.
 #![tactic(auto)]
 
-ghost use Rattle.std.specs.Prelude.{◌≡◌, ◌≢◌, ◌⊎◌, ◌<◌, ℕ, List, length, Ok, Err, false, IsTrue, IsUtf8, IfOk, IfErr, OnOk, OnErr};
+ghost use Rattle.std.specs.Prelude.{◌≡◌, ◌≢◌, ◌⊎◌, ◌<◌, ℕ, List, length, Ok, Err, false, IsTrue, IsUtf8, IfOk, IfErr, OnOk, OnErr, map};
 ghost use Rattle.std.specs.String.{string_bytes};
 ghost use Rattle.sqlite.specs.declared.types.Value.TheVariants.{Text, Blob, Int};
 ghost use Rattle.sqlite.specs.declared.error.Error.TheVariants.{SqliteFailure};
@@ -13,10 +13,12 @@ ghost use Rattle.sqlite.specs.Listing.{understood};
 ghost use Rattle.sqlite.specs.State.{HasCleanDisk, KeepsCommit, IsUnchanged, IsRolledBack, Survives, ExecutesIn, ExecutesInside, FailsToQuery, Shown};
 ghost use Rattle.sqlite.specs.Given.{IsPlain};
 ghost use Rattle.sqlite.specs.Held.{state};
-ghost use Rattle.sqlite_value.specs.Order.{column};
+ghost use Rattle.sqlite_value.specs.Order.{column, Row as Values};
+ghost use Rattle.cr_rows.specs.Made.{MakesAs};
 
 use sqlite::types::ValueRef;
-use sqlite::{Alter, Connection, Error, Row, Transaction};
+use sqlite::{Alter, Connection, Error, ErrorCode, Row, Transaction};
+use std::alloc::Global;
 
 /// The text in a column, by its place from 0.
 ///
@@ -90,4 +92,37 @@ pub fn ask<S: Alter>(
     ensures survives { HasCleanDisk (state S.Store conn.new) → HasCleanDisk (state S.Store conn.old) }
 {
     conn.query_all(sql, params)
+}
+
+/// What `read` makes of each row that a query shows, in their order. The rows are never held together: there is one at a
+/// time, and what sqlite reads ahead.
+///
+/// # Errors
+/// sqlite's, those of `read`, and want of memory. Then nothing is changed, unless the text is a write that shows rows.
+pub fn read_each<S: Alter, T: Drop, F: Fn(&Row) -> Result<T, Error>>(
+    conn: &mut Connection<S>,
+    sql: &str,
+    params: &[ValueRef<'_>],
+    alloc: Global,
+    read: F,
+) -> Result<Vec<T>, Error>
+    requires { F.IsAlwaysCallable read }
+    ensures found { HasCleanDisk (state S.Store conn.new) → IfOk result (λ made. (rows : List Values) × Shown sql.now (bound params.now) (state S.Store conn.old) (state S.Store conn.new) rows
+        × ((f : Values → T) → MakesAs f (F.post read) → made.items ≡ map f rows)) }
+    ensures same { HasCleanDisk (state S.Store conn.new) → IsPlain (understood (state S.Store conn.old).now.schema sql.now) → (state S.Store conn.old).now ≡ (state S.Store conn.old).committed
+        → IsTrue (state S.Store conn.new).is_open → (state S.Store conn.new).now ≡ (state S.Store conn.old).now }
+    ensures was_open { HasCleanDisk (state S.Store conn.new) → IsTrue (state S.Store conn.new).is_open → IsTrue (state S.Store conn.old).is_open }
+    ensures mode { conn.old.in_transaction ≡ false → conn.new.in_transaction ≡ false }
+    ensures survives { HasCleanDisk (state S.Store conn.new) → HasCleanDisk (state S.Store conn.old) }
+{
+    let mut made = Vec::new(alloc);
+    let mut rows = conn.query(sql, params)?;
+    // A loop has a bound; no query shows as many rows.
+    'rows: for _ in 0..u64::MAX {
+        let Some(row) = rows.next()? else {
+            return Ok(made);
+        };
+        made.push(read(row)?)?;
+    }
+    Err(Error::SqliteFailure(ErrorCode::TooBig))
 }

@@ -191,10 +191,11 @@ filter_made : {A B : Type 0} (f : A → B) (p : B → Bool) (q : A → Bool) (xs
     → filter p (map f xs) ≡ map f (filter q xs)
 filter_made f p q [] all = refl
 filter_made {A} {B} f p q (x ∷ xs) all =
-    ap (λ b. cond b (f x ∷ filter p (map f xs)) (filter p (map f xs))) all.0 ∙ by (q x) where
-      by : (b : Bool) → cond b (f x ∷ filter p (map f xs)) (filter p (map f xs)) ≡ map f (cond b (x ∷ filter q xs) (filter q xs))
-      by true = ap (λ (ys : List B). f x ∷ ys) (filter_made f p q xs all.1)
-      by false = filter_made f p q xs all.1
+    ap (λ b. cond b (f x ∷ filter p (map f xs)) (filter p (map f xs))) all.0 ∙ by (filter_made f p q xs all.1) (q x) where
+      by : filter p (map f xs) ≡ map f (filter q xs) → (b : Bool)
+          → cond b (f x ∷ filter p (map f xs)) (filter p (map f xs)) ≡ map f (cond b (x ∷ filter q xs) (filter q xs))
+      by rest true = ap (λ (ys : List B). f x ∷ ys) rest
+      by rest false = rest
 
 module _ (host : Host) (params : List Value) (most : Option ℕ) (def : TableDef) (q : Query) (before : List Joined) (j : Joined)
     (after : List Joined) (front : List (List Row)) (kept : List Change) (back : List (List Row)) (terms : List Expr) (keys : List (List ℕ))

@@ -15,13 +15,13 @@ pub ok_then : {B E : Type 0} (r : Result B E) (P Q : Type 0) → (P → Q) → O
 ok_then (Ok b) P Q f h = f h
 ok_then (Err e) P Q f h = tt
 
-pub on_ok : {B E : Type 0} (r : Result B E) (P : Type 0) → P → OnOk r P
-on_ok (Ok b) P p = p
-on_ok (Err e) P p = tt
-
 pub if_then : {B E : Type 0} (r : Result B E) (P Q : B → Type 0) → ((b : B) → P b → Q b) → IfOk r P → IfOk r Q
 if_then (Ok b) P Q f h = f b h
 if_then (Err e) P Q f h = tt
+
+pub ok_from : {B E : Type 0} (r : Result B E) (P : B → Type 0) (Q : Type 0) → ((b : B) → P b → Q) → IfOk r P → OnOk r Q
+ok_from (Ok b) P Q f h = f b h
+ok_from (Err e) P Q f h = tt
 
 pub was_clean : (old new : State) → Survives old new (λ _. ⊥) → HasCleanDisk new → HasCleanDisk old
 was_clean old new s clean = omega (arith, s.clean, clean)

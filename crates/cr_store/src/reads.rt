@@ -1,26 +1,32 @@
 //! The cells that are read.
 
-ghost use Rattle.std.specs.Prelude.{◌≡◌, List, true, false, filter, int_lt, IfOk, IfErr, OnOk, IsTrue, MatchResult};
+ghost use Rattle.std.specs.Prelude.{◌≡◌, ◌∷◌, List, true, false, map, filter, int_lt, IfOk, IfErr, OnOk, IsTrue, MatchResult};
 ghost use Rattle.sqlite.specs.Held.{state};
 ghost use Rattle.sqlite.specs.Order.{Row};
-ghost use Rattle.sqlite.specs.State.{HasCleanDisk};
+ghost use Rattle.sqlite.specs.State.{HasCleanDisk, Shown};
+ghost use Rattle.sqlite.specs.Given.{IsPlain};
+ghost use Rattle.sqlite.specs.Listing.{understood};
+ghost use Rattle.sqlite.specs.Values.{bound};
+ghost use Rattle.sqlite.specs.declared.types.Value.TheVariants.{Null as SqlNull};
 ghost use Rattle.cr_lattice.specs.Rows.{is_of_row};
 ghost use Rattle.std.specs.List.Sorted.{IsStrictlySortedBy};
 ghost use Rattle.cr_lattice.specs.Sets.{set_of};
 ghost use Rattle.cr_lattice.specs.declared.stamped.Stamped.{Stamped};
 ghost use Rattle.cr_cells.specs.Holding.{cell_cmp, stamp_cmp, since, is_of_table, cells_of, cells_of_table};
 ghost use Rattle.cr_cells.specs.Calls.{IsRefusal, is_want};
+ghost use Rattle.cr_store.specs.Rows.{cell_of};
 ghost use Rattle.cr_store.specs.Schema.{store_schema};
 ghost use Rattle.cr_store.specs.Shows.{HasCells};
 ghost use Rattle.cr_store.specs.Words.{SameCells};
 
+use crate::format::Format;
 use crate::ordinals::ordinal;
-use crate::rows::{read_cells, refusal};
+use crate::rows::{read_cell, refusal};
 use cr_cells::store::CellsError;
 use cr_lattice::order::cmp_changes;
 use cr_lattice::stamped::Stamped;
 use cr_lattice::table::Table;
-use cr_rows::ask;
+use cr_rows::read_each;
 use sqlite::types::ValueRef;
 use sqlite::{Alter, Connection, Error};
 use std::alloc::{AllocError, Global};
@@ -34,6 +40,32 @@ const ROW: &str =
 
 const TABLE: &str =
     "SELECT tab, pk, cid, cl, ver, val, site, dbv, seq FROM cr_cell2 WHERE tab = ?1";
+
+// The cells that a query of the nine columns of `cr_cell2` shows. Each is made as its row is read, so that no list of
+// sqlite's rows, with copies of their own, stands beside that of the cells.
+fn ask_cells<S: Alter>(
+    conn: &mut Connection<S>,
+    sql: &str,
+    params: &[ValueRef<'_>],
+    tables: &[Table],
+    alloc: Global,
+) -> Result<Vec<Stamped>, Error>
+    ensures found { HasCleanDisk (state S.Store conn.new) → IfOk result (λ cells. (rows : List Row) × Shown sql.now (bound params.now) (state S.Store conn.old) (state S.Store conn.new) rows
+        × (cells.items ≡ map (λ row. cell_of Format.Second tables.now (SqlNull ∷ row)) rows)) }
+    ensures same { HasCleanDisk (state S.Store conn.new) → IsPlain (understood (state S.Store conn.old).now.schema sql.now) → (state S.Store conn.old).now ≡ (state S.Store conn.old).committed
+        → IsTrue (state S.Store conn.new).is_open → (state S.Store conn.new).now ≡ (state S.Store conn.old).now }
+    ensures was_open { HasCleanDisk (state S.Store conn.new) → IsTrue (state S.Store conn.new).is_open → IsTrue (state S.Store conn.old).is_open }
+    ensures mode { conn.old.in_transaction ≡ false → conn.new.in_transaction ≡ false }
+    ensures clean { HasCleanDisk (state S.Store conn.new) → HasCleanDisk (state S.Store conn.old) }
+{
+    read_each(
+        conn,
+        sql,
+        params,
+        alloc,
+        |row| read_cell(row, tables, alloc),
+    )
+}
 
 /// The cells that are stamped above a version, in the order of sqlite's rows.
 pub(crate) fn cells_above<S: Alter>(
@@ -51,8 +83,7 @@ pub(crate) fn cells_above<S: Alter>(
     ensures mode { conn.old.in_transaction ≡ false → conn.new.in_transaction ≡ false }
     ensures clean { HasCleanDisk (state S.Store conn.new) → HasCleanDisk (state S.Store conn.old) }
 {
-    let rows = ask(conn, SINCE, &[ValueRef::Int(version)])?;
-    read_cells(&rows, tables, alloc)
+    ask_cells(conn, SINCE, &[ValueRef::Int(version)], tables, alloc)
 }
 
 /// The cells of one row, in the order of sqlite's rows.
@@ -72,12 +103,13 @@ pub(crate) fn cells_of_row<'a, S: Alter>(
     ensures mode { conn.old.in_transaction ≡ false → conn.new.in_transaction ≡ false }
     ensures clean { HasCleanDisk (state S.Store conn.new) → HasCleanDisk (state S.Store conn.old) }
 {
-    let rows = ask(
+    ask_cells(
         conn,
         ROW,
         &[ValueRef::Int(ordinal(tables, table)), ValueRef::Blob(pk)],
-    )?;
-    read_cells(&rows, tables, alloc)
+        tables,
+        alloc,
+    )
 }
 
 /// The cells of one table, in the order of sqlite's rows.
@@ -96,8 +128,13 @@ pub(crate) fn cells_in_table<S: Alter>(
     ensures mode { conn.old.in_transaction ≡ false → conn.new.in_transaction ≡ false }
     ensures clean { HasCleanDisk (state S.Store conn.new) → HasCleanDisk (state S.Store conn.old) }
 {
-    let rows = ask(conn, TABLE, &[ValueRef::Int(ordinal(tables, table))])?;
-    read_cells(&rows, tables, alloc)
+    ask_cells(
+        conn,
+        TABLE,
+        &[ValueRef::Int(ordinal(tables, table))],
+        tables,
+        alloc,
+    )
 }
 
 fn cmp_stamps(a: &Stamped, b: &Stamped) -> Ordering

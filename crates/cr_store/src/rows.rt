@@ -1,6 +1,6 @@
 //! The rows of `cr_cell2`: what is written and read.
 
-ghost use Rattle.std.specs.Prelude.{◌≡◌, true, [], ◌∷◌, ◌++◌, map, IfOk, OnOk};
+ghost use Rattle.std.specs.Prelude.{◌≡◌, true, [], ◌∷◌, ◌++◌, IfOk, OnOk};
 ghost use Rattle.sqlite.specs.declared.types.Value.TheVariants.{Null as SqlNull, Text as SqlText, Blob as SqlBlob, Int as SqlInt};
 ghost use Rattle.sqlite.specs.Values.{bound, bound_value};
 ghost use Rattle.sqlite_value.specs.Order.{column};
@@ -159,23 +159,4 @@ pub(crate) fn read_cell(row: &Row, tables: &[Table], alloc: Global) -> Result<St
         version,
         seq,
     })
-}
-
-/// The cells that rows of the nine columns of `cr_cell2` show.
-pub(crate) fn read_cells(
-    rows: &[Row],
-    tables: &[Table],
-    alloc: Global,
-) -> Result<Vec<Stamped>, Error>
-    ensures { IfOk result (λ cells. cells.items ≡ map (λ row. cell_of Format.Second tables.now (SqlNull ∷ row)) rows.now) }
-{
-    let mut cells = Vec::new(alloc);
-    for row in rows {
-        let cell = read_cell(row, tables, alloc)?;
-        match cells.push(cell) {
-            Ok(()) => {}
-            Err(_) => return Err(OUT_OF_MEMORY),
-        }
-    }
-    Ok(cells)
 }
