@@ -282,4 +282,4 @@ module _ (means : Means) (params : List Value) (q : Query) (total : (name : List
   names (j ∷ js) = ap (λ (ts : List (List Row)). shown j ∷ ts) (names js)
 
   pub shows_planned : ShowsQuery means params q (placed ms (state_of h pending)) there
-  shows_planned = λ most. ap (over most) (names q.joined) ∙ from [] q.joined refl (λ may. tt) most
+  shows_planned = λ most limit. ap (over most) (names q.joined) ∙ from [] q.joined refl (λ may. tt) most

@@ -22,7 +22,7 @@ use Rattle.cr_world.specs.Resolved.{Resolved, Target, Select, Mark, Insert, Upda
 use Rattle.cr_world.specs.Resolved as target
 use Rattle.cr_world.specs.State.{State, ModuleState, change_rows, changes_name, in_transaction, is_module, module_rows, now, other_rows, rows_named, rows_or, table_of, tables_named}
 use Rattle.cr_world.specs.Statement.{Host, ModulesLeave, adding, causes_of, changes_by, ended, evaluated, is_memory, left_by, reply_to, updates_module, writes}
-use Rattle.cr_session.specs.Performing.{Performs, Performed, PerformsWith, PerformedWith, against, beside, has_target, is_commit, is_held, placed, refused, touches, with_limit, without_limit}
+use Rattle.cr_session.specs.Performing.{Performs, Performed, PerformsWith, PerformedWith, against, beside, has_target, is_commit, is_held, placed, touches, with_limit, without_limit}
 use Rattle.cr_session.specs.Sessions.{SessionOf, clean, honest, standing, state_of}
 
 both_false : (a b : Bool) → (a || b) ≡ false → (a ≡ false) × (b ≡ false)

@@ -1,6 +1,7 @@
--- What is seen of one key suffices for a statement whose WHERE tells that key, and else what is seen of the tables that it names.
-use Rattle.std.proofs.Common.{◌≡◌, inl, inr, ℕ, Bool, true, false, ◌||◌, List, [], ◌∷◌, Option, Some, Result, Ok, Err, refl, sym, ap, subst, ◌∙◌, ◌≤◌, ◌<◌, arith, find, get_or, length, map}
-use Rattle.std.specs.Prelude.{if◌then◌else◌}
+-- What is seen of some keys suffices for a statement whose WHERE tells them, and else what is seen of the tables that it names.
+use Rattle.std.proofs.Common.{◌≡◌, inl, inr, ℕ, true, false, List, [], ◌∷◌, Option, Some, Result, Ok, Err, refl, sym, ap, subst, ◌∙◌, ◌≤◌, ◌<◌, arith, find, get_or, length, map}
+use Rattle.std.specs.Prelude.{◌==◌, if◌then◌else◌}
+use Rattle.std.proofs.lemmas.Bool.{eqb-true}
 use Rattle.cr_value.specs.declared.value.Value.{Value}
 use Rattle.cr_lattice.specs.declared.change.Change.{Change}
 use Rattle.cr_lattice.specs.declared.table.Table.{Table}
@@ -8,8 +9,7 @@ use Rattle.cr_lattice.specs.declared.table.TableDef.{TableDef}
 use Rattle.cr_lattice.specs.Check.{same_bytes}
 use Rattle.cr_lattice.specs.Profile.{has_key}
 use Rattle.cr_lattice.specs.Rows.{rows}
-use Rattle.cr_lattice.proofs.Tested.{both_ways}
-use Rattle.cr_cells.proofs.NewLemmas.{same_is, same_itself}
+use Rattle.cr_cells.proofs.NewLemmas.{same_is}
 use Rattle.cr_cells.specs.declared.store.CellsError.{CellsError}
 use Rattle.cr_cells.specs.Holding.{Holding, IsSound}
 use Rattle.cr_cells.specs.Tables.{IsStored, has_defaults, is_named}
@@ -35,11 +35,12 @@ use Rattle.cr_touched.specs.Shown.{AreKeptOf}
 use Rattle.cr_world.specs.declared.refusal.Refusal.{Refusal}
 use Rattle.cr_world.specs.State.{State, changes_name, now, other_rows, row_of, rows_named, rows_or, tables_named}
 use Rattle.cr_changed.specs.Changed.{Changes, IsRefused, Leads}
-use Rattle.cr_sought.specs.Sought.{assigns_key, sought_key}
-use Rattle.cr_sought.specs.Laws.{of_key}
+use Rattle.cr_sought.specs.Laws.{of_keys}
+use Rattle.cr_sought.specs.Lists.{sought_keys}
+use Rattle.cr_sought.specs.Sought.{assigns_key}
 use Rattle.cr_sought.specs.Writes.{delete_over, update_over}
-use Rattle.cr_sought.proofs.Answers.{answers_by_key}
-use Rattle.cr_sought.proofs.Writes.{deletes_by_key, updates_by_key}
+use Rattle.cr_sought.proofs.Answers.{answers_by_keys}
+use Rattle.cr_sought.proofs.Writes.{deletes_by_keys, updates_by_keys}
 use Rattle.cr_session.specs.Lookup.{IsLook, IsSeenAt, IsSought, Looks, ShowsDelete, ShowsQuery, ShowsTables, ShowsUpdate, in_order}
 use Rattle.cr_session.specs.Sessions.{state_of}
 use Rattle.cr_session.proofs.ByTable.{delete_of_table, found_passes, is_one_of, is_only, query_of_tables, update_of_table}
@@ -47,28 +48,14 @@ use Rattle.cr_session.proofs.OfTables.{now_unbeaten}
 use Rattle.cr_session.proofs.Seeing.{now_kept}
 use Rattle.cr_session.proofs.Selecting.{tables_are}
 
--- ---- one key
-
-same_turned : (a b : List ℕ) → same_bytes a b ≡ same_bytes b a
-same_turned a b = both_ways _ _ (λ e. same_itself_by b a (sym (same_is a b e))) (λ e. same_itself_by a b (sym (same_is b a e))) where
-  same_itself_by : (x y : List ℕ) → x ≡ y → same_bytes x y ≡ true
-  same_itself_by x y e = subst (λ (z : List ℕ). same_bytes x z ≡ true) e (same_itself x)
-
-or_false : (a : Bool) → (a || false) ≡ a
-or_false true = refl
-or_false false = refl
-
-one_key : (pk : List ℕ) → is_key_of (pk ∷ []) ≡ same_bytes pk
-one_key pk = λ i x. (or_false (same_bytes x pk) ∙ same_turned x pk) i
-
 -- the rows of what is no table of its own
 abbrev pub other_rows_seen : Snapshot → List ℕ → List Row
 other_rows_seen s name = if same_bytes changes_name name then map row_of s.cells else rows_listed s.modules name
 
--- ---- the table of the name, and what shows of the key
+-- ---- the table of the name, and what shows of the keys
 
-module _ (means : Means) (params : List Value) (h : Holding) (sound : IsSound h) (pending : Option (List Change)) (name : List ℕ) (terms : List Expr) (pk : List ℕ)
-    (is : IsSought means params pending h.tables name terms pk) (snap : Snapshot) (at : IsSeenAt (state_of h pending) name pk snap) where
+module _ (means : Means) (params : List Value) (h : Holding) (sound : IsSound h) (pending : Option (List Change)) (name : List ℕ) (terms : List Expr) (keys : List (List ℕ))
+    (is : IsSought means params pending h.tables name terms keys) (snap : Snapshot) (at : IsSeenAt (state_of h pending) name keys snap) where
   abbrev st : State
   st = state_of h pending
 
@@ -93,26 +80,26 @@ module _ (means : Means) (params : List Value) (h : Holding) (sound : IsSound h)
   kept_of_it : AreKeptOf def (now st)
   kept_of_it = record { unbeaten = are.unbeaten; well_formed = kept_well_formed h.tables (now st) def are there }
 
-  kept_is : snap.kept ≡ of_key def pk (now st)
-  kept_is = at.kept ∙ (λ i. part (sym name_is i) (one_key pk i) (now st))
+  kept_is : snap.kept ≡ of_keys def keys (now st)
+  kept_is = at.kept ∙ (λ i. part (sym name_is i) (is_key_of keys) (now st))
 
   -- ---- a query
 
   rows_there : rows_named st name ≡ rows (now st) def
   rows_there = ap (λ (o : Option Table). rows_or (now st) o (other_rows st name)) is.there
 
-  rows_here : rows_seen snap name ≡ rows (of_key def pk (now st)) def
+  rows_here : rows_seen snap name ≡ rows (of_keys def keys (now st)) def
   rows_here =
       (λ i. rows_or (kept_is i) (find (is_named name) (at.named.tables i)) (other_rows_seen snap name))
-      ∙ ap (λ (o : Option Table). rows_or (of_key def pk (now st)) o (other_rows_seen snap name)) is.there
+      ∙ ap (λ (o : Option Table). rows_or (of_keys def keys (now st)) o (other_rows_seen snap name)) is.there
 
-  pub query_by_key : (q : Query) (j : Joined) → q.joined ≡ j ∷ [] → j.is_left ≡ false → name_of j ≡ name → q.filter ≡ terms → ShowsQuery means params q st snap
-  query_by_key q j one inner named same = λ most.
+  pub query_by_keys : (q : Query) (j : Joined) → q.joined ≡ j ∷ [] → j.is_left ≡ false → j.on ≡ [] → name_of j ≡ name → q.filter ≡ terms → ShowsQuery means params q st snap
+  query_by_keys q j one inner no_on named same = λ most limit.
       let m = meaning most means params in
       (λ i. answer m (query q) (tables_named st (map name_of (one i))))
       ∙ (λ i. answer m (query q) (rows_named st (named i) ∷ []))
       ∙ (λ i. answer m (query q) (rows_there i ∷ []))
-      ∙ answers_by_key means params most def (now st) q j pk is.bytes keyed kept_of_it one inner (ap (sought_key def params) same ∙ is.told)
+      ∙ answers_by_keys means params most def (now st) q j keys limit is.bytes keyed kept_of_it one inner no_on (ap (sought_keys def params) same ∙ is.told)
       ∙ (λ i. answer m (query q) (sym rows_here i ∷ []))
       ∙ (λ i. answer m (query q) (rows_seen snap (sym named i) ∷ []))
       ∙ (λ i. answer m (query q) (map (λ j. rows_seen snap (name_of j)) (sym one i)))
@@ -129,12 +116,12 @@ module _ (means : Means) (params : List Value) (h : Holding) (sound : IsSound h)
   module _ (u : Update) (same_name : u.relation.definition.name ≡ name) (held : Replicates h.tables u.relation.definition) (same : u.filter ≡ terms) (stays : assigns_key u ≡ false) where
     made : (result : Result (List Change) Refusal) → Changes means params def snap.site snap.kept (update_over snap.kept u) result (λ changes. changes) → Changes means params def st.holding.site (now st) (update_over (now st) u) result (λ changes. changes)
     made result c =
-        updates_by_key means params def st.holding.site (now st) u pk result (λ changes. changes) is.bytes keyed defaults kept_of_it (sym (same_def u.relation.definition same_name held)) stays (ap (sought_key def params) same ∙ is.told)
+        updates_by_keys means params def st.holding.site (now st) u keys result (λ changes. changes) is.bytes keyed defaults kept_of_it (sym (same_def u.relation.definition same_name held)) stays (ap (sought_keys def params) same ∙ is.told)
         (subst (λ (kept : List Change). Changes means params def st.holding.site kept (update_over kept u) result (λ changes. changes)) kept_is
         (subst (λ (site : List ℕ). Changes means params def site snap.kept (update_over snap.kept u) result (λ changes. changes)) at.named.site c))
 
-    pub update_by_key : ShowsUpdate means params u st snap
-    update_by_key = record {
+    pub update_by_keys : ShowsUpdate means params u st snap
+    update_by_keys = record {
       named = at.named;
       leads = λ changes l. subst (λ (t : TableDef). Leads means params t st.holding.site (now st) (update_over (now st) u) changes) (same_def u.relation.definition same_name held)
           (made (Ok changes) (subst (λ (t : TableDef). Leads means params t snap.site snap.kept (update_over snap.kept u) changes) (sym (same_def u.relation.definition same_name held)) l));
@@ -145,12 +132,12 @@ module _ (means : Means) (params : List Value) (h : Holding) (sound : IsSound h)
   module _ (d : Delete) (same_name : d.relation.definition.name ≡ name) (held : Replicates h.tables d.relation.definition) (same : d.filter ≡ terms) where
     left : (result : Result (List Change) Refusal) → Changes means params def snap.site snap.kept (delete_over snap.kept d) result (λ changes. changes) → Changes means params def st.holding.site (now st) (delete_over (now st) d) result (λ changes. changes)
     left result c =
-        deletes_by_key means params def st.holding.site (now st) d pk result (λ changes. changes) is.bytes keyed defaults kept_of_it (sym (same_def d.relation.definition same_name held)) (ap (sought_key def params) same ∙ is.told)
+        deletes_by_keys means params def st.holding.site (now st) d keys result (λ changes. changes) is.bytes keyed defaults kept_of_it (sym (same_def d.relation.definition same_name held)) (ap (sought_keys def params) same ∙ is.told)
         (subst (λ (kept : List Change). Changes means params def st.holding.site kept (delete_over kept d) result (λ changes. changes)) kept_is
         (subst (λ (site : List ℕ). Changes means params def site snap.kept (delete_over snap.kept d) result (λ changes. changes)) at.named.site c))
 
-    pub delete_by_key : ShowsDelete means params d st snap
-    delete_by_key = record {
+    pub delete_by_keys : ShowsDelete means params d st snap
+    delete_by_keys = record {
       named = at.named;
       leads = λ changes l. subst (λ (t : TableDef). Leads means params t st.holding.site (now st) (delete_over (now st) d) changes) (same_def d.relation.definition same_name held)
           (left (Ok changes) (subst (λ (t : TableDef). Leads means params t snap.site snap.kept (delete_over snap.kept d) changes) (sym (same_def d.relation.definition same_name held)) l));
@@ -162,7 +149,7 @@ module _ (means : Means) (params : List Value) (h : Holding) (sound : IsSound h)
 
 module _ (means : Means) (params : List Value) (st : State) (snap : Snapshot) (is : IsSeen st snap) where
   pub query_seen : (q : Query) → ShowsQuery means params q st snap
-  query_seen q = λ most. λ i. answer (meaning most means params) (query q) (tables_are st snap is q.joined i)
+  query_seen q = λ most limit. λ i. answer (meaning most means params) (query q) (tables_are st snap is q.joined i)
 
   pub update_seen : (u : Update) → ShowsUpdate means params u st snap
   update_seen u = record {
@@ -187,15 +174,15 @@ pub shows_then : (Shows : State → Snapshot → Type 0) (old new : State) (snap
 shows_then Shows old new snap l = subst (λ (x : State). Shows x snap) (sym l.same) l.looks
 
 -- the same of tables that are the same
-pub retabled : (means : Means) (params : List Value) (pending : Option (List Change)) (ts us : List Table) (name : List ℕ) (terms : List Expr) (pk : List ℕ) → ts ≡ us
-    → IsSought means params pending ts name terms pk → IsSought means params pending us name terms pk
-retabled means params pending ts us name terms pk e is = subst (λ (x : List Table). IsSought means params pending x name terms pk) e is
+pub retabled : (means : Means) (params : List Value) (pending : Option (List Change)) (ts us : List Table) (name : List ℕ) (terms : List Expr) (keys : List (List ℕ)) → ts ≡ us
+    → IsSought means params pending ts name terms keys → IsSought means params pending us name terms keys
+retabled means params pending ts us name terms keys e is = subst (λ (x : List Table). IsSought means params pending x name terms keys) e is
 
--- what is seen of the key that the terms tell
-pub looked_at : (means : Means) (params : List Value) (old new : State) (name : List ℕ) (terms : List Expr) (pk : List ℕ) (result : Result Snapshot CellsError)
-    → IsSought means params old.pending old.holding.tables name terms pk → Looks (IsSeenAt old name pk) old new result → Looks (IsLook means params old name terms) old new result
-looked_at means params old new name terms pk (Ok s) is l = record { same = l.same; looks = inr (pk, is, l.looks) }
-looked_at means params old new name terms pk (Err e) is l = record { same = l.same; looks = l.looks }
+-- what is seen of the keys that the terms tell
+pub looked_at : (means : Means) (params : List Value) (old new : State) (name : List ℕ) (terms : List Expr) (keys : List (List ℕ)) (result : Result Snapshot CellsError)
+    → IsSought means params old.pending old.holding.tables name terms keys → Looks (IsSeenAt old name keys) old new result → Looks (IsLook means params old name terms) old new result
+looked_at means params old new name terms keys (Ok s) is l = record { same = l.same; looks = inr (keys, is, l.looks) }
+looked_at means params old new name terms keys (Err e) is l = record { same = l.same; looks = l.looks }
 
 -- what is seen of the table
 pub looked_in : (means : Means) (params : List Value) (old new : State) (name : List ℕ) (terms : List Expr) (result : Result Snapshot CellsError)
@@ -213,6 +200,10 @@ pub one_of : {X : Type 0} (xs : List X) (x : X) → 1 ≤ length xs → length x
 one_of [] x some few is = absurd (omega (arith, some))
 one_of (y ∷ []) x some few is = λ i. sym is i ∷ []
 one_of (y ∷ z ∷ zs) x some few is = absurd (omega (arith, few))
+
+pub empty_is : {X : Type 0} (xs : List X) → (length xs == 0) ≡ true → xs ≡ []
+empty_is [] none = refl
+empty_is (x ∷ xs) none = let e = eqb-true (length (x ∷ xs)) 0 none in absurd (omega (arith, e))
 
 -- the names of one table are its own
 each_only : (js : List Joined) (j : Joined) (name : List ℕ) → js ≡ j ∷ [] → name ≡ name_of j → (k : Joined) → Among js k → is_name_of (name ∷ []) (name_of k) ≡ true
@@ -242,18 +233,18 @@ module _ (means : Means) (params : List Value) (h : Holding) (sound : IsSound h)
   delete_shown d name named (inl (all, is)) = delete_seen means params here s is d
   delete_shown d name named (inr (other, at)) = delete_of_table h pending (name ∷ []) s at means params d (is_only name d.relation.definition.name named) (now_unbeaten h pending sound)
 
-  -- ---- that, or what is seen of one key
+  -- ---- that, or what is seen of some keys
 
-  pub query_looked : (q : Query) (j : Joined) (name : List ℕ) (terms : List Expr) → q.joined ≡ j ∷ [] → j.is_left ≡ false → name ≡ name_of j → terms ≡ q.filter → IsLook means params here name terms s → ShowsQuery means params q here s
-  query_looked q j name terms one inner named same (inl shows) = query_shown (name ∷ []) q (each_only q.joined j name one named) shows
-  query_looked q j name terms one inner named same (inr (pk, sought, at)) = query_by_key means params h sound pending name terms pk sought s at q j one inner (sym named) (sym same)
+  pub query_looked : (q : Query) (j : Joined) (name : List ℕ) (terms : List Expr) → q.joined ≡ j ∷ [] → j.is_left ≡ false → j.on ≡ [] → name ≡ name_of j → terms ≡ q.filter → IsLook means params here name terms s → ShowsQuery means params q here s
+  query_looked q j name terms one inner no_on named same (inl shows) = query_shown (name ∷ []) q (each_only q.joined j name one named) shows
+  query_looked q j name terms one inner no_on named same (inr (keys, sought, at)) = query_by_keys means params h sound pending name terms keys sought s at q j one inner no_on (sym named) (sym same)
 
   pub update_looked : (u : Update) (name : List ℕ) (terms : List Expr) → name ≡ u.relation.definition.name → terms ≡ u.filter → assigns_key u ≡ false → Replicates h.tables u.relation.definition
       → IsLook means params here name terms s → ShowsUpdate means params u here s
   update_looked u name terms named same stays held (inl shows) = update_shown u name named shows
-  update_looked u name terms named same stays held (inr (pk, sought, at)) = update_by_key means params h sound pending name terms pk sought s at u (sym named) held (sym same) stays
+  update_looked u name terms named same stays held (inr (keys, sought, at)) = update_by_keys means params h sound pending name terms keys sought s at u (sym named) held (sym same) stays
 
   pub delete_looked : (d : Delete) (name : List ℕ) (terms : List Expr) → name ≡ d.relation.definition.name → terms ≡ d.filter → Replicates h.tables d.relation.definition
       → IsLook means params here name terms s → ShowsDelete means params d here s
   delete_looked d name terms named same held (inl shows) = delete_shown d name named shows
-  delete_looked d name terms named same held (inr (pk, sought, at)) = delete_by_key means params h sound pending name terms pk sought s at d (sym named) held (sym same)
+  delete_looked d name terms named same held (inr (keys, sought, at)) = delete_by_keys means params h sound pending name terms keys sought s at d (sym named) held (sym same)

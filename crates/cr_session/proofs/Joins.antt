@@ -16,13 +16,14 @@ use Rattle.cr_cells.proofs.NewLemmas.{same_is}
 use Rattle.cr_cells.specs.declared.store.CellsError.{CellsError}
 use Rattle.cr_cells.specs.Holding.{Holding, IsSound}
 use Rattle.cr_cells.specs.Tables.{is_named}
+use Rattle.cr_term.specs.declared.expr.Expr.{Expr}
 use Rattle.cr_term.specs.declared.query.Joined.{Joined}
 use Rattle.cr_term.specs.declared.query.Query.{Query}
 use Rattle.cr_scalar.specs.Host.{Host as Means}
 use Rattle.cr_query.specs.Query.{Row, answer}
 use Rattle.cr_meaning.specs.View.{Ordered}
 use Rattle.cr_meaning.specs.View as view
-use Rattle.cr_meaning.specs.Meaning.{meaning}
+use Rattle.cr_meaning.specs.Meaning.{IsLimit, meaning}
 use Rattle.cr_snapshot.specs.Seen.{name_of}
 use Rattle.cr_taken.specs.Taken.{AreKept, Replicates}
 use Rattle.cr_taken.proofs.Tables.{in_profile, kept_well_formed}
@@ -32,9 +33,11 @@ use Rattle.cr_touched.specs.Tables.{of_tables}
 use Rattle.cr_touched.proofs.Tables.{they_show_their_rows}
 use Rattle.cr_world.specs.State.{State, now, rows_named, rows_or, other_rows, table_rows, tables_named}
 use Rattle.cr_sought.specs.declared.joined.Partner.{Partner}
+use Rattle.cr_sought.specs.Lists.{listed_keys}
 use Rattle.cr_sought.specs.Sought.{joined_keys}
 use Rattle.cr_sought.specs.Joins.{AreWide, no_row, partner, partners, partners_from, width, widths}
 use Rattle.cr_sought.proofs.Joins.{joins_by_keys}
+use Rattle.cr_sought.proofs.Lists.{joins_by_list}
 use Rattle.cr_session.specs.Joining.{Finds, IsFound, IsFoundIn, IsJoinOf, IsTableOf, IsTold, Suffice}
 use Rattle.cr_session.specs.Lookup.{in_order}
 use Rattle.cr_session.specs.Sessions.{state_of}
@@ -158,10 +161,10 @@ module _ (means : Means) (params : List Value) (q : Query) (h : Holding) (sound 
     pub base_is : base ≡ widths (take i q.joined)
     pub partners_are : ps ≡ partners (take i q.joined) ts
     pub wide : AreWide (take i q.joined) ts
-    pub alike : (most : Option ℕ) → over most (map shown q.joined) ≡ over most (ts ++ map shown (drop i q.joined))
+    pub alike : (most : Option ℕ) → IsLimit most → over most (map shown q.joined) ≡ over most (ts ++ map shown (drop i q.joined))
 
   pub at_first : (ps : List Partner) → ps ≡ no_row ∷ [] → SoFar 0 0 ps []
-  at_first ps e = record { base_is = refl; partners_are = e; wide = tt; alike = λ most. refl }
+  at_first ps e = record { base_is = refl; partners_are = e; wide = tt; alike = λ most limit. refl }
 
   module _ (i base : ℕ) (ps : List Partner) (ts : List (List Row)) (so_far : SoFar i base ps ts) (within : i < length q.joined) (j : Joined) (at : j ≡ get_or q.joined i j)
       (found : List Row) (finds : IsFoundIn params st h.tables q j base ps found) where
@@ -211,26 +214,32 @@ module _ (means : Means) (params : List Value) (q : Query) (h : Holding) (sound 
     key_in_order keys = λ k x. list_any-set_of bytes_total bytes_exact (same_bytes x) keys k
 
     told_alike : (keys : List (List ℕ)) → t.is_replicated ≡ true → IsTold params q j t.definition base ps keys → found ≡ rows (part (name_of j) (is_key_of keys) (now st)) t.definition
-        → (most : Option ℕ) → over most (ts ++ (shown j ∷ map shown after)) ≡ over most (ts ++ (found ∷ map shown after))
-    told_alike keys r told f most =
+        → (most : Option ℕ) → IsLimit most → over most (ts ++ (shown j ∷ map shown after)) ≡ over most (ts ++ (found ∷ map shown after))
+    told_alike keys r told f most limit =
         let def = t.definition in
         let there = is_replicated_table r in
         let keyed : has_key def ≡ true = (in_profile h.tables (now st) def are there).key in
         let kept_of_it : AreKeptOf def (now st) = record { unbeaten = are.unbeaten; well_formed = kept_well_formed h.tables (now st) def are there } in
         ap (λ (rs : List Row). over most (ts ++ (rs ∷ map shown after)))
         (all_rows ∙ ap (λ (b : Bool). if b then rows (now st) def else []) r)
-        ∙ joins_by_keys means params most def q before j after ts (now st) (map shown after) told.terms told.beside is.bytes keyed kept_of_it whole is.safe so_far.wide told.may
-        ((λ k. keys_told (sym so_far.base_is k) (sym so_far.partners_are k)) ∙ told.told)
+        ∙ elim told.told [
+          | inl b ↦
+              joins_by_keys means params most def q before j after ts (now st) (map shown after) b.0 told.given is.bytes keyed kept_of_it whole is.safe so_far.wide b.1
+              ((λ k. keys_told b.0 (sym so_far.base_is k) (sym so_far.partners_are k)) ∙ b.2)
+          | inr l ↦
+              joins_by_list means params most def q before j after ts (now st) (map shown after) told.given limit is.bytes keyed kept_of_it whole l.1 so_far.wide l.0
+              (ap (λ (n : ℕ). listed_keys n def params q.filter) (sym so_far.base_is) ∙ l.2)
+        ]
         ∙ ap (λ (rs : List Row). over most (ts ++ (rs ∷ map shown after)))
-        ((λ k. rows (part (of_name k) (sym (key_in_order told.beside) k) (now st)) def) ∙ ap (λ (ks : List (List ℕ)). rows (part (name_of j) (is_key_of ks) (now st)) def) (sym told.are) ∙ sym f) where
-          keys_told : ℕ → List Partner → Option (List (List ℕ))
-          keys_told n qs = joined_keys n t.definition params told.terms qs
+        ((λ k. rows (part (of_name k) (sym (key_in_order told.given) k) (now st)) def) ∙ ap (λ (ks : List (List ℕ)). rows (part (name_of j) (is_key_of ks) (now st)) def) (sym told.are) ∙ sym f) where
+          keys_told : List Expr → ℕ → List Partner → Option (List (List ℕ))
+          keys_told terms n qs = joined_keys n t.definition params terms qs
 
-    one_alike : (most : Option ℕ) → over most (ts ++ (shown j ∷ map shown after)) ≡ over most (ts ++ (found ∷ map shown after))
-    one_alike most = by (finds t table.1) where
+    one_alike : (most : Option ℕ) → IsLimit most → over most (ts ++ (shown j ∷ map shown after)) ≡ over most (ts ++ (found ∷ map shown after))
+    one_alike most limit = by (finds t table.1) where
       by : IsFound params st q j base ps t found → over most (ts ++ (shown j ∷ map shown after)) ≡ over most (ts ++ (found ∷ map shown after))
       by (inl all) = ap (λ (rs : List Row). over most (ts ++ (rs ∷ map shown after))) (all_rows ∙ sym all)
-      by (inr k) = told_alike k.1 k.0 k.2 k.3 most
+      by (inr k) = told_alike k.1 k.0 k.2 k.3 most limit
 
     pub one_more : SoFar (i + 1) (base + width j) (ps ++ partner base j found) (ts ++ found ∷ [])
     one_more = record {
@@ -240,10 +249,10 @@ module _ (means : Means) (params : List Value) (q : Query) (h : Holding) (sound 
           ∙ ap (λ (qs : List Partner). no_row ∷ qs) (sym (partners_more 0 before j ts found so_far.wide))
           ∙ ap (λ (js : List Joined). partners js (ts ++ found ∷ [])) (sym taken);
       wide = subst (λ (js : List Joined). AreWide js (ts ++ found ∷ [])) (sym taken) (wide_more before j ts found so_far.wide found_wide);
-      alike = λ most.
-          so_far.alike most
+      alike = λ most limit.
+          so_far.alike most limit
           ∙ ap (λ (js : List Joined). over most (ts ++ map shown js)) left
-          ∙ one_alike most
+          ∙ one_alike most limit
           ∙ ap (over most) (sym (append_assoc ts (found ∷ []) (map shown after)));
     } where
       placed : base ≡ 0 + widths before
@@ -258,9 +267,9 @@ module _ (means : Means) (params : List Value) (q : Query) (h : Holding) (sound 
 
   -- all tables
   pub all_alike : (i base : ℕ) (ps : List Partner) (ts : List (List Row)) → SoFar i base ps ts → length q.joined ≤ i → Suffice means params q st ts
-  all_alike i base ps ts so_far past = λ most.
+  all_alike i base ps ts so_far past = λ most limit.
       names_alike most q.joined
-      ∙ so_far.alike most
+      ∙ so_far.alike most limit
       ∙ ap (λ (js : List Joined). over most (ts ++ map shown js)) (drop_all i q.joined past)
       ∙ ap (over most) (append-nil ts) where
         names : (js : List Joined) → tables_named st (map name_of js) ≡ map shown js

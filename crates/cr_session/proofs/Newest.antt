@@ -85,7 +85,7 @@ module _ (means : Means) (params : List Value) (st : State) (name : List ℕ) (t
   above_rows = filter_map version_place version (since st.holding.cells (pos 0)) refl ∙ ap (map row_of) (above st.holding.cells version is.from_0)
 
   pub query_above : (q : Query) (j : Joined) → q.joined ≡ j ∷ [] → j.is_left ≡ false → name_of j ≡ name → q.filter ≡ terms → ShowsQuery means params q st snap
-  query_above q j one inner named same = λ most.
+  query_above q j one inner named same = λ most limit.
       let m = meaning most means params in
       (λ i. answer m (query q) (tables_named st (map name_of (one i))))
       ∙ (λ i. answer m (query q) (rows_named st (named i) ∷ []))

@@ -84,10 +84,10 @@ tables_are st snap is (j ∷ js) = λ i. rows_are st snap (name_of j) is i ∷ t
 
 module _ (means : Means) (params : List Value) (host : Host) (st : State) (tables : List (List Row)) (x : Query) (shows : Suffice means params x st tables) where
   exact_seen : without_limit means params host st (view (r.Select x)) ≡ answer_over tables x (exact means params)
-  exact_seen = shows None
+  exact_seen = shows None (inl refl)
 
   sized_seen : with_limit means params host st (view (r.Select x)) ≡ answer_over tables x (sized means params)
-  sized_seen = shows byte_limit
+  sized_seen = shows byte_limit (inr refl)
 
   seen_gains : Gains (answer_over tables x (sized means params)) (answer_over tables x (exact means params))
   seen_gains = answer_refines (sized means params) (exact means params) (refines means params) (query x) tables

@@ -1,6 +1,6 @@
 -- What a SELECT sees of tables that are joined: of each its rows, or those of the keys that its terms tell beside the rows of the
 -- tables before it. Source: this project's own.
-use Rattle.std.specs.Prelude.{◌≡◌, ◌⊎◌, ℕ, true, find, List, Option, Some, Result, MatchResult, length}
+use Rattle.std.specs.Prelude.{◌≡◌, ◌⊎◌, ℕ, true, false, find, List, Option, Some, Result, MatchResult, length}
 use Rattle.std.specs.List.{list_all, AllByRecursion}
 use Rattle.std.specs.Option.{ForSome}
 use Rattle.cr_value.specs.declared.value.Value.{Value}
@@ -18,7 +18,7 @@ use Rattle.cr_term.specs.declared.query.Resolved.TheVariants as r
 use Rattle.cr_scalar.specs.Host.{Host as Means}
 use Rattle.cr_query.specs.Query.{Row, answer}
 use Rattle.cr_meaning.specs.View as view
-use Rattle.cr_meaning.specs.Meaning.{meaning}
+use Rattle.cr_meaning.specs.Meaning.{IsLimit, meaning}
 use Rattle.cr_exec.specs.Equalities.{OrdersBytes}
 use Rattle.cr_snapshot.specs.Seen.{name_of}
 use Rattle.cr_touched.specs.Parts.{is_key_of, part}
@@ -27,7 +27,8 @@ use Rattle.cr_world.specs.Statement.{evaluated}
 use Rattle.cr_language.specs.Sql as sql
 use Rattle.cr_sought.specs.declared.joined.Partner.{Partner}
 use Rattle.cr_sought.specs.Sought.{joined_keys}
-use Rattle.cr_sought.specs.Joins.{MayLeaveOut, is_safe, width}
+use Rattle.cr_sought.specs.Joins.{MayLeaveOut, has_quiet_on, is_safe, width}
+use Rattle.cr_sought.specs.Lists.{listed_keys}
 use Rattle.cr_session.specs.Lookup.{in_order}
 
 -- ---- queries whose tables are looked up
@@ -46,13 +47,20 @@ pub record IsJoinOf (means : Means) (pending : Option (List Change)) (tables : L
 
 -- ---- the rows of one of them
 
--- terms of a query tell keys of the rows of a table beside the rows of others, in the order of their bytes and each once
+-- terms of a query tell these keys of the rows of a table beside the rows of others
+abbrev pub IsToldBeside : List Value → Query → Joined → TableDef → ℕ → List Partner → List (List ℕ) → Type 0
+IsToldBeside params q j def base ps keys = (terms : List Expr) × MayLeaveOut q j terms × (joined_keys base def params terms ps ≡ Some keys)
+
+-- a list in WHERE tells them, where no LEFT JOIN brings the table and no ON can fault
+abbrev pub IsToldByList : List Value → Query → Joined → TableDef → ℕ → List (List ℕ) → Type 0
+IsToldByList params q j def base keys =
+    (j.is_left ≡ false) × (list_all has_quiet_on q.joined ≡ true) × (listed_keys base def params q.filter ≡ Some keys)
+
+-- keys that are told in one of both ways, in the order of their bytes and each once
 pub record IsTold (params : List Value) (q : Query) (j : Joined) (def : TableDef) (base : ℕ) (ps : List Partner) (keys : List (List ℕ)) : Type 0 where
-  pub terms : List Expr
-  pub may : MayLeaveOut q j terms
-  pub beside : List (List ℕ)
-  pub told : joined_keys base def params terms ps ≡ Some beside
-  pub are : keys ≡ in_order beside
+  pub given : List (List ℕ)
+  pub told : IsToldBeside params q j def base ps given ⊎ IsToldByList params q j def base given
+  pub are : keys ≡ in_order given
 
 -- the rows that show there of the table of that name, or of a replicated table those whose keys the terms tell
 abbrev pub IsFound : List Value → State → Query → Joined → ℕ → List Partner → Table → List Row → Type 0
@@ -76,4 +84,4 @@ pub record Finds {T : Type 0} (is : T → Type 0) (old new : State) (result : Re
 -- a query answers over these rows of its tables what it answers over all that shows there
 abbrev pub Suffice : Means → List Value → Query → State → List (List Row) → Type 0
 Suffice means params q st tables =
-    (most : _) → evaluated (meaning most means params) st (sql.view (r.Select q)) ≡ answer (meaning most means params) (view.query q) tables
+    (most : Option ℕ) → IsLimit most → evaluated (meaning most means params) st (sql.view (r.Select q)) ≡ answer (meaning most means params) (view.query q) tables

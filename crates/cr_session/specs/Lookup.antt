@@ -1,4 +1,4 @@
--- What a statement sees of the tables that it names, and of one table whose WHERE may tell the key of its row. Source: this
+-- What a statement sees of the tables that it names, and of one table whose WHERE may tell the keys of its rows. Source: this
 -- project's own.
 use Rattle.std.specs.Prelude.{◌≡◌, ◌⊎◌, ℕ, ℤ, pos, ◌≤ℤ◌, Bool, true, false, find, List, [], ◌∷◌, Option, Some, None, Result, MatchResult}
 use Rattle.std.specs.Option.{ForSome}
@@ -19,7 +19,7 @@ use Rattle.cr_term.specs.declared.query.Resolved.TheVariants as r
 use Rattle.cr_term.specs.declared.query.Update.{Update}
 use Rattle.cr_scalar.specs.Host.{Host as Means}
 use Rattle.cr_query.specs.Query.{Row}
-use Rattle.cr_meaning.specs.Meaning.{meaning}
+use Rattle.cr_meaning.specs.Meaning.{IsLimit, meaning}
 use Rattle.cr_exec.specs.Answers.{Stage}
 use Rattle.cr_replica.specs.declared.snapshot.Snapshot.{Snapshot}
 use Rattle.cr_snapshot.specs.Seen.{IsNamed, IsSeen}
@@ -34,7 +34,7 @@ use Rattle.cr_answer.specs.Selecting.{answer_seen}
 use Rattle.cr_changed.specs.Changed.{IsRefused, Leads, delete_wants, update_wants}
 use Rattle.cr_exec.specs.Equalities.{OrdersBytes}
 use Rattle.cr_sought.specs.Bounds.{lower_bound}
-use Rattle.cr_sought.specs.Sought.{sought_key}
+use Rattle.cr_sought.specs.Lists.{sought_keys}
 use Rattle.cr_sought.specs.Writes.{delete_over, update_over}
 
 -- ---- some tables
@@ -61,26 +61,26 @@ pub record IsSeenIn (st : State) (tables : List (List ℕ)) (s : Snapshot) : Typ
 abbrev pub ShowsTables : State → List (List ℕ) → Snapshot → Type 0
 ShowsTables st tables s = ((names_changes tables ≡ true) × IsSeen st s) ⊎ ((names_changes tables ≡ false) × IsSeenIn st tables s)
 
--- ---- one key
+-- ---- some keys
 
--- The terms tell the key of the only row of the replicated table of a name on which they can be true; and the changes of the
+-- The terms tell the keys of the only rows of the replicated table of a name on which they can be true; and the changes of the
 -- open transaction are well formed for the tables.
-pub record IsSought (means : Means) (params : List Value) (pending : Option (List Change)) (tables : List Table) (name : List ℕ) (terms : List Expr) (pk : List ℕ) : Type 0 where
+pub record IsSought (means : Means) (params : List Value) (pending : Option (List Change)) (tables : List Table) (name : List ℕ) (terms : List Expr) (keys : List (List ℕ)) : Type 0 where
   pub bytes : OrdersBytes means
   pub fit : ForSome pending (AreWellFormed tables)
   pub def : TableDef
   pub there : find (is_named name) tables ≡ Some (replicated def)
-  pub told : sought_key def params terms ≡ Some pk
+  pub told : sought_keys def params terms ≡ Some keys
 
--- The snapshot has the names of a session that stands there, and of one key of a table what shows there.
-pub record IsSeenAt (st : State) (name pk : List ℕ) (s : Snapshot) : Type 0 where
+-- The snapshot has the names of a session that stands there, and of some keys of a table what shows there.
+pub record IsSeenAt (st : State) (name : List ℕ) (keys : List (List ℕ)) (s : Snapshot) : Type 0 where
   pub named : IsNamed st s
-  pub kept : s.kept ≡ part name (is_key_of (pk ∷ [])) (now st)
+  pub kept : s.kept ≡ part name (is_key_of keys) (now st)
 
--- It has what shows there of the table of the name, or that of the key that the terms tell.
+-- It has what shows there of the table of the name, or that of the keys that the terms tell.
 abbrev pub IsLook : Means → List Value → State → List ℕ → List Expr → Snapshot → Type 0
 IsLook means params st name terms s =
-    ShowsTables st (name ∷ []) s ⊎ ((pk : List ℕ) × IsSought means params st.pending st.holding.tables name terms pk × IsSeenAt st name pk s)
+    ShowsTables st (name ∷ []) s ⊎ ((keys : List (List ℕ)) × IsSought means params st.pending st.holding.tables name terms keys × IsSeenAt st name keys s)
 
 -- ---- what is new
 
@@ -109,9 +109,10 @@ pub record Looks (is : Snapshot → Type 0) (old new : State) (result : Result S
 
 -- ---- what suffices for a statement
 
--- a query answers over the snapshot what it answers over all that shows there
+-- a query answers over the snapshot what it answers over all that shows there, without a limit on values and with it
 abbrev pub ShowsQuery : Means → List Value → Query → State → Snapshot → Type 0
-ShowsQuery means params q st s = (most : Option ℕ) → evaluated (meaning most means params) st (view (r.Select q)) ≡ answer_seen s q (meaning most means params)
+ShowsQuery means params q st s =
+    (most : Option ℕ) → IsLimit most → evaluated (meaning most means params) st (view (r.Select q)) ≡ answer_seen s q (meaning most means params)
 
 -- What a write of a table makes over the snapshot, changes or a refusal, it makes over all that shows there.
 pub record ShowsWrite (means : Means) (params : List Value) (def : TableDef) (over whole : Stage (List Row)) (st : State) (s : Snapshot) : Type 0 where

@@ -4,7 +4,7 @@
 ghost use Rattle.std.specs.Prelude.{◌≡◌, ◌+◌, ◌++◌, ◌∷◌, [], IfOk, IsTrue};
 ghost use Rattle.std.specs.List.{list_all, AllByRecursion};
 ghost use Rattle.std.specs.Option.{ForSome};
-ghost use Rattle.cr_sought.specs.Joins.{is_safe, width};
+ghost use Rattle.cr_sought.specs.Joins.{has_quiet_on, is_safe, width};
 ghost use Rattle.cr_session.specs.Lookup.{in_order};
 ghost use Rattle.cr_session.specs.Joining.{IsTableOf, IsTold};
 
@@ -16,7 +16,10 @@ use cr_expr::given::Hosted;
 use cr_host::functions::Functions;
 use cr_lattice::table::{Items, Row, Table, TableDef};
 use cr_snapshot::rows::table_rows;
-use cr_sought::joined::{Lookup, Partner, first_partner, is_safe, joined_keys, push_partner};
+use cr_sought::joined::{
+    Lookup, Partner, first_partner, has_quiet_on, is_safe, joined_keys, push_partner,
+};
+use cr_sought::listed::listed_keys;
 use cr_term::query::{Joined, Query};
 use cr_value::text::{Bytes, Text};
 use cr_value::value::Value;
@@ -64,6 +67,12 @@ fn place_behind(base: usize, joined: &Joined) -> Result<usize, AllocError>
     }
 }
 
+fn have_quiet_ons(joined: &[Joined]) -> bool
+    ensures { result ≡ list_all has_quiet_on joined.now }
+{
+    joined.iter().all(|joined| has_quiet_on(joined))
+}
+
 // Keys in the order of their bytes, each once.
 fn in_order(keys: Vec<Bytes>) -> Result<Vec<Bytes>, AllocError>
     ensures { IfOk result (λ v. v.items ≡ in_order keys.items) }
@@ -74,8 +83,8 @@ fn in_order(keys: Vec<Bytes>) -> Result<Vec<Bytes>, AllocError>
     Ok(keys)
 }
 
-// The keys of the rows of a table that can be joined with rows of others, by the terms of its ON, else of WHERE; `None` where
-// they tell none. The columns of the table begin at `base` in a combination.
+// The keys of the rows of a table that can be joined with rows of others, by the terms of its ON, else of WHERE, else by a list in
+// WHERE where no ON can have a fault; `None` where they tell none. The columns of the table begin at `base` in a combination.
 fn told(
     alloc: Global,
     definition: &TableDef,
@@ -105,7 +114,13 @@ fn told(
         terms: query.filter.as_slice(),
         params,
     };
-    match joined_keys(alloc, &by_where, partners)? {
+    if let Some(keys) = joined_keys(alloc, &by_where, partners)? {
+        return Ok(Some(in_order(keys)?));
+    }
+    if !have_quiet_ons(query.joined.as_slice()) {
+        return Ok(None);
+    }
+    match listed_keys(alloc, &by_where)? {
         Some(keys) => Ok(Some(in_order(keys)?)),
         None => Ok(None),
     }

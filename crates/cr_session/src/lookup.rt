@@ -1,4 +1,4 @@
-//! What a statement of one table sees: what is kept of one key, where its WHERE tells the key of the only row that it can be
+//! What a statement of one table sees: what is kept of some keys, where its WHERE tells the keys of the only rows that it can be
 //! about, and else what is kept of the table. A query of the table of changes that wants those above a version sees these.
 
 use crate::session::Session;
@@ -11,7 +11,8 @@ use cr_lattice::table::{Items, Table};
 use cr_replica::snapshot::Snapshot;
 use cr_snapshot::changes::CHANGES;
 use cr_sought::bound::lower_bound;
-use cr_sought::key::{assigns_key, sought_key};
+use cr_sought::key::assigns_key;
+use cr_sought::listed::sought_keys;
 use cr_term::expr::Expr;
 use cr_term::query::{Delete, Query, Update};
 use cr_value::order::same_bytes;
@@ -36,7 +37,7 @@ impl<C: Cells> Session<C> {
     ghost use Rattle.cr_session.specs.Sessions.{standing};
     ghost use Rattle.cr_world.specs.Causes.{Free};
 
-    // The key of the only row of the replicated table of a name on which the terms can be true, where they tell it.
+    // The keys of the only rows of the replicated table of a name on which the terms can be true, where they tell them.
     fn sought<F: Functions>(
         &self,
         alloc: Global,
@@ -45,8 +46,8 @@ impl<C: Cells> Session<C> {
         name: &str,
         terms: &[Expr],
         params: &[Value],
-    ) -> Result<Option<Bytes>, AllocError>
-        ensures { IfOk result (λ key. ForSome key (IsSought (⟦<F as Hosted>⟧.means functions.now) params.now self.now.1 tables.now name.now terms.now)) }
+    ) -> Result<Option<Vec<Bytes>>, AllocError>
+        ensures { IfOk result (λ keys. ForSome keys (λ v. IsSought (⟦<F as Hosted>⟧.means functions.now) params.now self.now.1 tables.now name.now terms.now v.items)) }
     {
         let Some(table) = table_named(tables, name) else {
             return Ok(None);
@@ -54,27 +55,27 @@ impl<C: Cells> Session<C> {
         if !table.is_replicated || !self.is_of(tables) || !compares_bytes(functions) {
             return Ok(None);
         }
-        sought_key(alloc, &table.definition, terms, params)
+        sought_keys(alloc, &table.definition, terms, params)
     }
 
-    // Of one key of a table what shows there, under these names.
-    fn see_key(
+    // Of some keys of a table what shows there, under these names.
+    fn see_at(
         &mut self,
         alloc: Global,
         names: Snapshot,
         name: &str,
-        key: Bytes,
+        keys: &[Bytes],
     ) -> Result<Snapshot, CellsError>
         requires sound { C.is_clean self.old.0 → IsSound (C.holding self.old.0) }
         requires named { C.is_clean self.old.0 → IsNamed (standing C.holding self.old) names }
         ensures was_honest { C.is_honest self.new.0 → C.is_honest self.old.0 }
         ensures was_clean { C.is_clean self.new.0 → C.is_clean self.old.0 }
         ensures stays_clean { C.is_honest self.new.0 → C.is_clean self.old.0 → UnlessWant is_want result (C.is_clean self.new.0) }
-        ensures sees { C.is_clean self.new.0 → Looks (IsSeenAt (standing C.holding self.old) name.now key) (standing C.holding self.old) (standing C.holding self.new) result }
+        ensures sees { C.is_clean self.new.0 → Looks (IsSeenAt (standing C.holding self.old) name.now keys.now) (standing C.holding self.old) (standing C.holding self.new) result }
         ensures names { IfOk result (IsOfNames names) }
         ensures kept { IfOk result (λ snapshot. keep snapshot.kept ≡ snapshot.kept) }
     {
-        let kept = match self.see_keys(alloc, name, &[key]) {
+        let kept = match self.see_keys(alloc, name, keys) {
             Ok(kept) => kept,
             Err(error) => return Err(error),
         };
@@ -111,7 +112,7 @@ impl<C: Cells> Session<C> {
             terms,
             params,
         )? {
-            Some(key) => self.see_key(alloc, names, name, key),
+            Some(keys) => self.see_at(alloc, names, name, &keys),
             None => self.see_table(alloc, names, name),
         }
     }
@@ -163,7 +164,7 @@ impl<C: Cells> Session<C> {
         Ok(snapshot)
     }
 
-    /// What a query sees: of one table whose WHERE tells the key of its row, what is kept of that; of the table of changes alone,
+    /// What a query sees: of one table whose WHERE tells the keys of its rows, what is kept of these; of the table of changes alone,
     /// whose WHERE tells a version, what is stamped above it; else what is kept of the tables that it names.
     pub(crate) fn look_for_query<F: Functions>(
         &mut self,
@@ -184,7 +185,7 @@ impl<C: Cells> Session<C> {
         let [joined] = query.joined.as_slice() else {
             return self.see_joined(alloc, names, query.joined.as_slice());
         };
-        if joined.is_left {
+        if joined.is_left || !joined.on.as_slice().is_empty() {
             return self.see_joined(alloc, names, query.joined.as_slice());
         }
         let name = joined.relation.definition.name.as_str();
@@ -196,8 +197,8 @@ impl<C: Cells> Session<C> {
         }
     }
 
-    /// What an UPDATE of a replicated table sees: where its WHERE tells the key of its row and it leaves keys as they are, what
-    /// is kept of that, else of the table.
+    /// What an UPDATE of a replicated table sees: where its WHERE tells the keys of its rows and it leaves keys as they are, what
+    /// is kept of these, else of the table.
     pub(crate) fn look_for_update<F: Functions>(
         &mut self,
         alloc: Global,
@@ -233,7 +234,7 @@ impl<C: Cells> Session<C> {
         )
     }
 
-    /// What a DELETE from a replicated table sees: where its WHERE tells the key of its row, what is kept of that, else of the
+    /// What a DELETE from a replicated table sees: where its WHERE tells the keys of its rows, what is kept of these, else of the
     /// table.
     pub(crate) fn look_for_delete<F: Functions>(
         &mut self,

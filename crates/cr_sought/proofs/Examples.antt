@@ -1,6 +1,6 @@
--- Which key terms ask for, on known examples. The tables are `t(id INTEGER PRIMARY KEY, name TEXT)` and
+-- Which keys terms ask for, on known examples. The tables are `t(id INTEGER PRIMARY KEY, name TEXT)` and
 -- `p(room INTEGER, name TEXT, PRIMARY KEY (room, name))`.
-use Rattle.std.specs.Prelude.{◌≡◌, refl, ℕ, pos, false, List, [], ◌∷◌, codes, Option, Some, None}
+use Rattle.std.specs.Prelude.{◌≡◌, refl, ℕ, pos, true, false, List, [], ◌∷◌, codes, Option, Some, None}
 use Rattle.cr_value.specs.declared.value.Value.TheVariants.{Null, Int, Text}
 use Rattle.cr_value.specs.declared.affinity.Affinity.{Affinity}
 use Rattle.cr_value.specs.declared.affinity.Affinity.TheVariants as affinity
@@ -9,13 +9,16 @@ use Rattle.cr_value.specs.Packing.{packed}
 use Rattle.cr_lattice.specs.declared.table.ColumnDef.{ColumnDef}
 use Rattle.cr_lattice.specs.declared.table.TableDef.{TableDef}
 use Rattle.cr_term.specs.declared.operator.Comparison.TheVariants as c
+use Rattle.cr_term.specs.declared.operator.Adjusted.TheVariants.{Right}
+use Rattle.cr_term.specs.declared.operator.Meeting.{Meeting}
 use Rattle.cr_term.specs.declared.expr.Expr.{Expr, out-roll-Expr}
 use Rattle.cr_term.specs.declared.expr.Expr.TheFolds.{fold-roll-Expr}
 use Rattle.cr_term.specs.Nodes as e
 use Rattle.cr_term.specs.Operands.{binary, comparison}
 use Rattle.cr_sought.specs.declared.joined.Partner.{Partner}
 use Rattle.cr_sought.specs.Joins.{no_row}
-use Rattle.cr_sought.specs.Sought.{alone, joined_keys, pin, sought_key}
+use Rattle.cr_sought.specs.Lists.{listed_keys, sought_keys}
+use Rattle.cr_sought.specs.Sought.{alone, joined_keys, pin}
 
 ruleset folds = (fold-roll-Expr, out-roll-Expr)
 
@@ -83,25 +86,55 @@ p = record {
 }
 
 -- id = 1 AND id = 2: by the first
-first_term : sought_key t [] (comparison c.Equal id one ∷ comparison c.Equal id (e.Literal (Int (pos 2))) ∷ [])
-    ≡ Some (packed (Int (pos 1) ∷ []))
-unfolding sought_key
+first_term : sought_keys t [] (comparison c.Equal id one ∷ comparison c.Equal id (e.Literal (Int (pos 2))) ∷ [])
+    ≡ Some (packed (Int (pos 1) ∷ []) ∷ [])
+unfolding sought_keys listed_keys
 first_term = simp folds refl
 
 -- room = 1 AND name = 'a', in the order of the key
-two_columns : sought_key p [] (comparison c.Equal id one ∷ comparison c.Equal name (text (codes "a")) ∷ [])
-    ≡ Some (packed (Text (codes "a") ∷ Int (pos 1) ∷ []))
-unfolding sought_key
+two_columns : sought_keys p [] (comparison c.Equal id one ∷ comparison c.Equal name (text (codes "a")) ∷ [])
+    ≡ Some (packed (Text (codes "a") ∷ Int (pos 1) ∷ []) ∷ [])
+unfolding sought_keys listed_keys
 two_columns = simp folds refl
 
--- room = 1 alone, and id = NULL
-one_of_two : sought_key p [] (comparison c.Equal id one ∷ []) ≡ None
-unfolding sought_key
+-- room = 1 alone; and id = NULL: no row's
+one_of_two : sought_keys p [] (comparison c.Equal id one ∷ []) ≡ None
+unfolding sought_keys listed_keys
 one_of_two = simp folds refl
 
-no_null : sought_key t [] (comparison c.Equal id (e.Literal Null) ∷ []) ≡ None
-unfolding sought_key
+no_null : sought_keys t [] (comparison c.Equal id (e.Literal Null) ∷ []) ≡ Some []
+unfolding sought_keys listed_keys
 no_null = simp folds refl
+
+-- ---- lists
+
+abbrev meeting : Meeting
+meeting = record { collation = binary; adjusted = Right affinity.Integer }
+
+-- room IN (2, ?1, NULL), behind a term that is quiet, and name = 'a'
+abbrev rooms : Expr
+rooms = e.In false meeting id (e.Literal (Int (pos 2)) ∷ e.Param 1 ∷ e.Literal Null ∷ [])
+
+abbrev is_a : Expr
+is_a = comparison c.Equal name (text (codes "a"))
+
+by_list : sought_keys p (Int (pos 7) ∷ []) (is_a ∷ rooms ∷ [])
+    ≡ Some (packed (Text (codes "a") ∷ Int (pos 2) ∷ []) ∷ packed (Text (codes "a") ∷ Int (pos 7) ∷ []) ∷ [])
+unfolding sought_keys listed_keys int_of_text
+by_list = simp folds refl
+
+-- NOT IN tells nothing, nor does a list behind a term that can have a fault, nor one that holds a column
+not_in : sought_keys t [] (e.In true meeting id (one ∷ []) ∷ []) ≡ None
+unfolding sought_keys listed_keys
+not_in = simp folds refl
+
+behind : sought_keys t [] (e.In false meeting name (one ∷ []) ∷ e.In false meeting id (one ∷ []) ∷ []) ≡ None
+unfolding sought_keys listed_keys
+behind = simp folds refl
+
+of_a_column : sought_keys t [] (e.In false meeting id (one ∷ name ∷ []) ∷ []) ≡ None
+unfolding sought_keys listed_keys
+of_a_column = simp folds refl
 
 -- ---- joined tables
 

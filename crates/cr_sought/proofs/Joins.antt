@@ -1,5 +1,5 @@
 -- A join answers the same over the rows whose keys are told as over all rows of a table.
-use Rattle.std.proofs.Common.{◌≡◌, ◌⊎◌, inl, inr, ◌∙◌, ℕ, ◌+◌, ◌≤◌, nat_le, arith, Bool, true, false, not, cond, List, [], ◌∷◌, ◌++◌, length, length-append, append_assoc, append-nil, map, get_or, Option, Some, None, refl, sym, ap, subst}
+use Rattle.std.proofs.Common.{◌≡◌, ◌⊎◌, inl, inr, ◌∙◌, ℕ, ◌+◌, ◌≤◌, nat_le, arith, Bool, true, false, cond, List, [], ◌∷◌, ◌++◌, length, length-append, append_assoc, append-nil, map, get_or, Option, Some, None, refl, sym, ap, subst}
 use Rattle.std.specs.Prelude.{◌-◌, filter, nat_lt, slice_get}
 use Rattle.std.specs.List.{flat_map, list_any, list_all, AllByRecursion}
 use Rattle.std.specs.Option.{option_or}
@@ -21,7 +21,7 @@ use Rattle.cr_term.specs.declared.expr.Expr.{Expr}
 use Rattle.cr_term.specs.declared.query.Joined.{Joined}
 use Rattle.cr_term.specs.declared.query.Query.{Query}
 use Rattle.cr_scalar.specs.Host.{Host}
-use Rattle.cr_bags.specs.Bags.{joins, gather, those, single}
+use Rattle.cr_bags.specs.Bags.{joins, gather, single}
 use Rattle.cr_query.specs.Query.{answer, Row, nulls}
 use Rattle.cr_meaning.specs.View.{Ordered}
 use Rattle.cr_meaning.specs.View as view
@@ -29,13 +29,14 @@ use Rattle.cr_meaning.specs.Meaning.{meaning}
 use Rattle.cr_exec.specs.Equalities.{OrdersBytes}
 use Rattle.cr_touched.specs.Parts.{is_key_of, part}
 use Rattle.cr_touched.specs.Shown.{AreKeptOf}
+use Rattle.cr_touched.specs.Touched.{passes}
 use Rattle.cr_touched.proofs.Parts.{rows_part}
 use Rattle.cr_touched.proofs.Shown.{is_present, is_its_key}
 use Rattle.cr_sought.specs.declared.joined.Partner.{Partner}
-use Rattle.cr_sought.specs.Sought.{Beside, joined_keys, keys_beside, keys_by}
+use Rattle.cr_sought.specs.Sought.{Beside, joined_keys, keys_beside, keys_by, pinned}
 use Rattle.cr_sought.specs.Joins.{AreWide, JoinsByKeys, MayLeaveOut, is_safe, most_rows, no_row, partner, partner_rows, partners, partners_from, width, widths}
-use Rattle.cr_sought.proofs.Around.{all_append}
-use Rattle.cr_sought.proofs.Keys.{Differs, StandsFrom, joined_or_differs}
+use Rattle.cr_sought.proofs.Gathered.{all_append}
+use Rattle.cr_sought.proofs.Keys.{Differs, StandsFrom, told_or_differs as of_told}
 use Rattle.cr_sought.proofs.LeftOut.{IsRowOf, LeavesOut, Made, each_member, inner_leaves_out, left_leaves_out, made_long, row_wide}
 use Rattle.cr_sought.proofs.Pins.{StandsIn, alone_stands, any_missed, differing, is_missed}
 
@@ -132,25 +133,26 @@ gathered_of {A} {B} f (y ∷ ys) us q x m e = by (λ ws k among. gathered_of f y
             (g.0, g.1, λ h. ap (list_any q) (sym same) ∙ list_any-append q vs ws ∙ or_right (list_any q vs) _ (g.2 h)))
       ]
 
+-- a row stands behind what is made of the tables further left
+pub stands_from : (base : ℕ) (def : TableDef) (f : Row) → length f ≡ base → (r more : Row) → length r ≡ length def.columns → StandsFrom base r ((f ++ r) ++ more)
+stands_from base def f long r more wide at near =
+    (λ i. get_or ((f ++ r) ++ more) (sym long i + at) Null)
+    ∙ get_or_append_left (f ++ r) more Null (length f + at) (omega (arith, near, length-append f r))
+    ∙ get_or-append-add f r at Null
+
 module _ (base : ℕ) (def : TableDef) (params : List Value) (terms : List Expr) (f : Row) (long : length f ≡ base) (r more : Row)
     (wide : length r ≡ length def.columns) where
   abbrev whole : Row
   whole = (f ++ r) ++ more
 
-  stands_from : StandsFrom base r whole
-  stands_from at near =
-      (λ i. get_or whole (sym long i + at) Null)
-      ∙ get_or_append_left (f ++ r) more Null (length f + at) (omega (arith, near, length-append f r))
-      ∙ get_or-append-add f r at Null
-
   abbrev Found : List (List ℕ) → Type 0
-  Found keys = (list_any (same_bytes (key_of def r)) keys ≡ true) ⊎ ((b : Beside) × StandsIn whole b × Differs b params terms whole)
+  Found keys = (list_any (same_bytes (key_of def r)) keys ≡ true) ⊎ ((b : Beside) × StandsIn whole b × Differs (pinned b params terms) whole)
 
   by_partner : (p : Partner) → HasOne f p → (keys : List (List ℕ)) → keys_by base def params terms p ≡ Some keys → Found keys
   by_partner p one keys e =
       let b : Beside = record { start = p.start; row = one.0 } in
       let g = gathered_of (λ r. keys_beside base def params terms (record { start = p.start; row = r })) p.rows keys (same_bytes (key_of def r)) one.0 one.1 e in
-      elim (joined_or_differs b base def params terms r whole wide stands_from g.0 g.1) [
+      elim (of_told (pinned b params terms) base def r whole wide (stands_from base def f long r more wide) g.0 g.1) [
         | inl own ↦ inl (g.2 own)
         | inr d ↦ inr (b, (λ at v h. stands at v h), d)
       ] where
@@ -181,7 +183,7 @@ of_query q joined before j after filters is inner h =
       go [] = list_any-append q (view.inner_terms j) (flat_map view.inner_terms after) ∙ or_left _ _ own
       go (k ∷ js) = list_any-append q (view.inner_terms k) (flat_map view.inner_terms (js ++ (j ∷ after))) ∙ or_right (list_any q (view.inner_terms k)) _ (go js)
 
-all_behind : (p : Joined → Bool) (before : List Joined) (j : Joined) (after : List Joined) → list_all p (before ++ (j ∷ after)) ≡ true
+pub all_behind : (p : Joined → Bool) (before : List Joined) (j : Joined) (after : List Joined) → list_all p (before ++ (j ∷ after)) ≡ true
     → list_all p after ≡ true
 all_behind p [] j after h = (and_true (p j) (list_all p after) h).1
 all_behind p (k ∷ before) j after h = all_behind p before j after (and_true (p k) (list_all p (before ++ (j ∷ after))) h).1
@@ -197,6 +199,28 @@ filter_made {A} {B} f p q (x ∷ xs) all =
       by rest true = ap (λ (ys : List B). f x ∷ ys) rest
       by rest false = rest
 
+-- ---- rows that are shown
+
+pub row_width : (def : TableDef) (kept : List Change) (k : List ℕ) → length (row kept def k) ≡ length def.columns
+unfolding row
+row_width def kept k = length-map def.columns (cell kept def.name k)
+
+-- a row that is shown is that of its key
+pub of_row : (def : TableDef) (kept : List Change) (r : Row) → Among (rows kept def) r
+    → (k : List ℕ) × Among (alive_keys kept def.name) k × (r ≡ row kept def k)
+unfolding rows
+of_row def kept r m = Among-map (row kept def) (alive_keys kept def.name) r m
+
+-- those of some keys are the rows that what is kept of these keys shows
+pub told_rows : (def : TableDef) → has_key def ≡ true → (kept : List Change) → AreKeptOf def kept → (p : List ℕ → Bool)
+    → filter (passes def p) (rows kept def) ≡ rows (part def.name p kept) def
+unfolding rows
+told_rows def keyed kept are p =
+    filter_made (row kept def) (passes def p) p (alive_keys kept def.name)
+    (each_member (λ k. passes def p (row kept def k) ≡ p k) (alive_keys kept def.name)
+    (λ k m. ap p (is_its_key def keyed kept are k (is_present def keyed kept are k m))))
+    ∙ sym (rows_part def p kept)
+
 module _ (host : Host) (params : List Value) (most : Option ℕ) (def : TableDef) (q : Query) (before : List Joined) (j : Joined)
     (after : List Joined) (front : List (List Row)) (kept : List Change) (back : List (List Row)) (terms : List Expr) (keys : List (List ℕ))
     (bytes : OrdersBytes host) (keyed : has_key def ≡ true) (are : AreKeptOf def kept) (is : q.joined ≡ before ++ (j ∷ after))
@@ -209,31 +233,13 @@ module _ (host : Host) (params : List Value) (most : Option ℕ) (def : TableDef
   abbrev is_told : Row → Bool
   is_told r = is_key_of keys (key_of def r)
 
-  row_width : (k : List ℕ) → length (row kept def k) ≡ length def.columns
-  unfolding row
-  row_width k = length-map def.columns (cell kept def.name k)
-
-  own_key : (k : List ℕ) → Among (alive_keys kept def.name) k → key_of def (row kept def k) ≡ k
-  own_key k among = is_its_key def keyed kept are k (is_present def keyed kept are k among)
-
-  of_key : (r : Row) → Among there r → (k : List ℕ) × Among (alive_keys kept def.name) k × (r ≡ row kept def k)
-  unfolding rows
-  of_key r m = Among-map (row kept def) (alive_keys kept def.name) r m
-
-  told_rows : filter is_told there ≡ rows (part def.name (is_key_of keys) kept) def
-  unfolding rows
-  told_rows =
-      filter_made (row kept def) is_told (is_key_of keys) (alive_keys kept def.name)
-      (each_member (λ k. is_told (row kept def k) ≡ is_key_of keys k) (alive_keys kept def.name) (λ k m. ap (is_key_of keys) (own_key k m)))
-      ∙ sym (rows_part def (is_key_of keys) kept)
-
   -- on a combination with a row of another key some of the terms is not true
   misses : (f : Row) → Made before front [] f → (r : Row) → Among there r → is_told r ≡ false → (more : Row)
       → any_missed host bytes params ((f ++ r) ++ more) most terms ≡ true
   misses f made r among out more =
-      let k = of_key r among in
+      let k = of_row def kept r among in
       let long = made_long before front f wide made in
-      let w : length r ≡ length def.columns = ap length k.2 ∙ row_width k.0 in
+      let w : length r ≡ length def.columns = ap length k.2 ∙ row_width def kept k.0 in
       elim (told_or_differs (widths before) def params terms f long r more w (partners before front) (no_row_in f, partners_in before front 0 [] f wide refl made) keys told) [
         | inl so ↦ absurd (let e : true ≡ false = sym so ∙ out in cc)
         | inr d ↦ differing host bytes params ((f ++ r) ++ more) most d.0 d.1 terms d.2
@@ -280,4 +286,4 @@ pub joins_by_keys : JoinsByKeys
 joins_by_keys host params most def q before j after front kept back terms keys bytes keyed are is all_safe wide may told =
     alike host params most def q before j after front kept back terms keys bytes keyed are is all_safe wide may told
     ∙ ap (λ (rs : List Row). answer (meaning most host params) (view.query q) (front ++ (rs ∷ back)))
-    (told_rows host params most def q before j after front kept back terms keys bytes keyed are is all_safe wide may told)
+    (told_rows def keyed kept are (is_key_of keys))

@@ -1,4 +1,4 @@
--- A row whose key is not the one that is sought has another value in a key column than the terms pin it to.
+-- A row whose key is not the one that is sought has another value in a key column than is told.
 use Rattle.std.proofs.Common.{◌≡◌, ◌⊎◌, inl, inr, ℕ, ◌+◌, ◌≤◌, ◌<◌, suc, Bool, true, false, ◌&&◌, ◌||◌, cond, List, [], ◌∷◌, ◌++◌, length, get_or, Option, Some, None, refl, sym, ap, ◌∙◌, add-one, zero-add, arith, length-append, subst, Ordering, Less, Equal, Greater}
 use Rattle.std.specs.Prelude.{find, nat_le}
 use Rattle.std.proofs.lemmas.List.Folds.{list_any-append}
@@ -18,11 +18,11 @@ use Rattle.cr_lattice.specs.Check.{stands_at, same_bytes}
 use Rattle.cr_lattice.proofs.Tested.{split, or_left, or_true}
 use Rattle.cr_delta.proofs.Members.{is_same}
 use Rattle.cr_delta.specs.Key.{key_part, key_places, key_values, key_of}
-use Rattle.cr_term.specs.declared.expr.Expr.{Expr}
-use Rattle.cr_bags.specs.Bags.{gather, joins, single}
+use Rattle.cr_bags.specs.Bags.{gather, single}
 use Rattle.cr_query.specs.Query.{Row}
 use Rattle.cr_scalar.specs.Numbers.{is_null}
-use Rattle.cr_sought.specs.Sought.{Beside, alone, pinned, can_pack, key_from, key_or_none, joined_key, keys_beside, sought_part, sought_values, sought_key}
+use Rattle.cr_sought.proofs.Gathered.{parted}
+use Rattle.cr_sought.specs.Sought.{can_pack, key_from, key_or_none, joined_key, keys_told, sought_part, sought_values}
 
 -- ---- the place of a column
 
@@ -80,11 +80,11 @@ same_or_not a b = by (value_cmp a b) refl where
   by Equal e = inl (value_exact a b e)
   by Greater e = inr (other Greater e (λ tied. absurd cc))
 
--- the terms pin a column to a value that the combination does not have there, or to NULL
-pub record Differs (b : Beside) (params : List Value) (terms : List Expr) (row : Row) : Type 0 where
+-- a column is told to have a value that the combination does not have there, or NULL
+pub record Differs (told : ℕ → Option Value) (row : Row) : Type 0 where
   pub at : ℕ
   pub wanted : Value
-  pub pins : pinned b params terms at ≡ Some wanted
+  pub tells : told at ≡ Some wanted
   pub differs : get_or row at Null ≡ wanted → wanted ≡ Null
 
 -- ---- the key
@@ -99,16 +99,9 @@ StandsFrom base row c = (at : ℕ) → at < length row → get_or c (base + at) 
 pub stands_alone : (row : Row) → StandsFrom 0 row row
 stands_alone row at within = ap (λ n. get_or row n Null) (zero-add at)
 
-module _ (b : Beside) (base : ℕ) (def : TableDef) (params : List Value) (terms : List Expr) where
+module _ (told : ℕ → Option Value) (base : ℕ) (def : TableDef) where
   abbrev part : ℕ → Option (List Value)
-  part = sought_part b base def params terms
-
-  -- what is gathered of one place and the others
-  joined : (o p : Option (List Value)) (vs : List Value) → joins o p ≡ Some vs
-      → (us : List Value) × (ws : List Value) × (o ≡ Some us) × (p ≡ Some ws) × (us ++ ws ≡ vs)
-  joined None p vs e = absurd cc
-  joined (Some us) None vs e = absurd cc
-  joined (Some us) (Some ws) vs e = (us, ws, refl, refl, some_is (us ++ ws) vs e)
+  part = sought_part told base def
 
   at_most_one : (place : ℕ) (us : List Value) → part place ≡ Some us → length us ≤ 1
   at_most_one place us e = by (position (stands_at place) def.columns) e where
@@ -116,15 +109,15 @@ module _ (b : Beside) (base : ℕ) (def : TableDef) (params : List Value) (terms
     one None h = absurd cc
     one (Some v) h = let l = ap length (some_is (single v) us h) in omega (arith, l)
 
-    by : (o : Option ℕ) → option_map_or (λ at. option_map single (pinned b params terms (base + at))) o (Some []) ≡ Some us → length us ≤ 1
+    by : (o : Option ℕ) → option_map_or (λ at. option_map single (told (base + at))) o (Some []) ≡ Some us → length us ≤ 1
     by None h = let l = ap length (some_is [] us h) in omega (arith, l)
-    by (Some at) h = one (pinned b params terms (base + at)) h
+    by (Some at) h = one (told (base + at)) h
 
   -- a key has no more values than there are places
   pub few : (places : List ℕ) (vs : List Value) → gather part places ≡ Some vs → length vs ≤ length places
   few [] vs e = let l = ap length (some_is [] vs e) in omega (arith, l)
   few (p ∷ ps) vs e =
-      let j = joined (part p) (gather part ps) vs e in
+      let j = parted (part p) (gather part ps) vs e in
       let one = at_most_one p j.0 j.2 in
       let rest = few ps j.1 j.3 in
       let l = ap length j.4 in
@@ -133,7 +126,7 @@ module _ (b : Beside) (base : ℕ) (def : TableDef) (params : List Value) (terms
 
   module _ (row c : Row) (wide : length row ≡ length def.columns) (stands : StandsFrom base row c) where
     abbrev Meets : List ℕ → List Value → Type 0
-    Meets places vs = (filter_map (key_part def row) places ≡ vs) ⊎ Differs b params terms c
+    Meets places vs = (filter_map (key_part def row) places ≡ vs) ⊎ Differs told c
 
     -- one place more
     more : (place : ℕ) (ps : List ℕ) (us ws : List Value) → part place ≡ Some us → Meets ps ws → Meets (place ∷ ps) (us ++ ws)
@@ -146,23 +139,23 @@ module _ (b : Beside) (base : ℕ) (def : TableDef) (params : List Value) (terms
       there : (at : ℕ) → position (stands_at place) def.columns ≡ Some at → get_or c (base + at) Null ≡ get_or row at Null
       there at h = let within = place_within (stands_at place) def.columns at h in stands at (omega (arith, wide, within))
 
-      one : (at : ℕ) → position (stands_at place) def.columns ≡ Some at → (o : Option Value) → pinned b params terms (base + at) ≡ o
+      one : (at : ℕ) → position (stands_at place) def.columns ≡ Some at → (o : Option Value) → told (base + at) ≡ o
           → option_map single o ≡ Some us → Meets (place ∷ ps) (us ++ ws)
-      one at h None pins g = absurd cc
-      one at h (Some v) pins g = elim (same_or_not (get_or row at Null) v) [
+      one at h None tells g = absurd cc
+      one at h (Some v) tells g = elim (same_or_not (get_or row at Null) v) [
         | inl same ↦ inl (is (Some at) h ∙ ap (λ x. x ∷ ws) same ∙ ap (λ l. l ++ ws) (some_is (single v) us g))
-        | inr differs ↦ inr (record { at = base + at; wanted = v; pins = pins; differs = λ e. absurd (differs (sym (there at h) ∙ e)) })
+        | inr differs ↦ inr (record { at = base + at; wanted = v; tells = tells; differs = λ e. absurd (differs (sym (there at h) ∙ e)) })
       ]
 
       by : (o : Option ℕ) → position (stands_at place) def.columns ≡ o
-          → option_map_or (λ at. option_map single (pinned b params terms (base + at))) o (Some []) ≡ Some us → Meets (place ∷ ps) (us ++ ws)
+          → option_map_or (λ at. option_map single (told (base + at))) o (Some []) ≡ Some us → Meets (place ∷ ps) (us ++ ws)
       by None h g = inl (is None h ∙ ap (λ l. l ++ ws) (some_is [] us g))
-      by (Some at) h g = one at h (pinned b params terms (base + at)) refl g
+      by (Some at) h g = one at h (told (base + at)) refl g
 
     meets : (places : List ℕ) (vs : List Value) → gather part places ≡ Some vs → Meets places vs
     meets [] vs e = inl (some_is [] vs e)
     meets (p ∷ ps) vs e =
-        let j = joined (part p) (gather part ps) vs e in
+        let j = parted (part p) (gather part ps) vs e in
         subst (Meets (p ∷ ps)) j.4 (more p ps j.0 j.1 j.2 (meets ps j.1 j.3))
 
     is_packed : (pk : List ℕ) (b : Bool) (vs : List Value) → cond b (Some (packed vs)) None ≡ Some pk → packed vs ≡ pk
@@ -170,8 +163,8 @@ module _ (b : Beside) (base : ℕ) (def : TableDef) (params : List Value) (terms
     is_packed pk false vs h = absurd cc
 
     -- a row of the table has the key that these values make, or another value than the terms want
-    pub values_or_differs : (vs : List Value) (pk : List ℕ) → sought_values b base def params terms ≡ Some vs → key_from vs ≡ Some pk
-        → (key_of def row ≡ pk) ⊎ Differs b params terms c
+    pub values_or_differs : (vs : List Value) (pk : List ℕ) → sought_values told base def ≡ Some vs → key_from vs ≡ Some pk
+        → (key_of def row ≡ pk) ⊎ Differs told c
     unfolding key_of key_values
     values_or_differs vs pk g h = elim (meets key_places vs g) [
       | inl same ↦ inl (ap packed same ∙ is_packed pk (can_pack vs && nat_le (length (packed vs)) size_limit) vs h)
@@ -180,69 +173,58 @@ module _ (b : Beside) (base : ℕ) (def : TableDef) (params : List Value) (terms
 
   -- where a wanted value is NULL
   module _ (c : Row) where
-    null_part : (place : ℕ) (us : List Value) → part place ≡ Some us → list_any is_null us ≡ true → Differs b params terms c
+    null_part : (place : ℕ) (us : List Value) → part place ≡ Some us → list_any is_null us ≡ true → Differs told c
     null_part place us e some = by (position (stands_at place) def.columns) e where
       null_is : (v : Value) → (is_null v || false) ≡ true → v ≡ Null
       null_is Null h = refl
       null_is _ h = absurd cc
 
-      one : (at : ℕ) (o : Option Value) → pinned b params terms (base + at) ≡ o → option_map single o ≡ Some us → Differs b params terms c
-      one at None pins h = absurd cc
-      one at (Some v) pins h =
+      one : (at : ℕ) (o : Option Value) → told (base + at) ≡ o → option_map single o ≡ Some us → Differs told c
+      one at None tells h = absurd cc
+      one at (Some v) tells h =
           let is = null_is v (ap (list_any is_null) (some_is (single v) us h) ∙ some) in
-          record { at = base + at; wanted = v; pins = pins; differs = λ same. is }
+          record { at = base + at; wanted = v; tells = tells; differs = λ same. is }
 
-      by : (o : Option ℕ) → option_map_or (λ at. option_map single (pinned b params terms (base + at))) o (Some []) ≡ Some us → Differs b params terms c
+      by : (o : Option ℕ) → option_map_or (λ at. option_map single (told (base + at))) o (Some []) ≡ Some us → Differs told c
       by None h = absurd (let k = ap (list_any is_null) (some_is [] us h) ∙ some in cc)
-      by (Some at) h = one at (pinned b params terms (base + at)) refl h
+      by (Some at) h = one at (told (base + at)) refl h
 
-    pub null_differs : (places : List ℕ) (vs : List Value) → gather part places ≡ Some vs → list_any is_null vs ≡ true → Differs b params terms c
+    pub null_differs : (places : List ℕ) (vs : List Value) → gather part places ≡ Some vs → list_any is_null vs ≡ true → Differs told c
     null_differs [] vs e some = absurd (let k = ap (list_any is_null) (some_is [] vs e) ∙ some in cc)
     null_differs (p ∷ ps) vs e some =
-        let j = joined (part p) (gather part ps) vs e in
+        let j = parted (part p) (gather part ps) vs e in
         elim (or_true (list_any is_null j.0) (list_any is_null j.1) (sym (list_any-append is_null j.0 j.1) ∙ ap (list_any is_null) j.4 ∙ some)) [
           | inl first ↦ null_part p j.0 j.2 first
           | inr rest ↦ null_differs ps j.1 j.3 rest
         ]
 
--- a row of the table has the key that is sought, or another value than the terms want
-pub key_or_differs : (def : TableDef) (params : List Value) (terms : List Expr) (row : Row) → length row ≡ length def.columns → (pk : List ℕ)
-    → sought_key def params terms ≡ Some pk → (key_of def row ≡ pk) ⊎ Differs alone params terms row
-unfolding sought_key
-key_or_differs def params terms row wide pk e = by (sought_values alone 0 def params terms) refl e where
-  by : (o : Option (List Value)) → sought_values alone 0 def params terms ≡ o → option_and_then key_from o ≡ Some pk
-      → (key_of def row ≡ pk) ⊎ Differs alone params terms row
-  by None g h = absurd cc
-  by (Some vs) g h = values_or_differs alone 0 def params terms row row wide (stands_alone row) vs pk g h
-
 -- ---- joined rows
 
-module _ (b : Beside) (base : ℕ) (def : TableDef) (params : List Value) (terms : List Expr) (row c : Row)
+module _ (told : ℕ → Option Value) (base : ℕ) (def : TableDef) (row c : Row)
     (wide : length row ≡ length def.columns) (stands : StandsFrom base row c) (keys : List (List ℕ)) where
   abbrev Found : Type 0
-  Found = (list_any (same_bytes (key_of def row)) keys ≡ true) ⊎ Differs b params terms c
+  Found = (list_any (same_bytes (key_of def row)) keys ≡ true) ⊎ Differs told c
 
   is_own : (pk : List ℕ) → single pk ≡ keys → key_of def row ≡ pk → list_any (same_bytes (key_of def row)) keys ≡ true
   is_own pk is own = ap (list_any (same_bytes (key_of def row))) (sym is) ∙ or_left _ _ (is_same (key_of def row) pk own)
 
-  packed_key : (vs : List Value) → sought_values b base def params terms ≡ Some vs → (o : Option (List ℕ)) → key_from vs ≡ o
+  packed_key : (vs : List Value) → sought_values told base def ≡ Some vs → (o : Option (List ℕ)) → key_from vs ≡ o
       → option_map key_or_none (option_map Some o) ≡ Some keys → Found
   packed_key vs g None k h = absurd cc
-  packed_key vs g (Some pk) k h = elim (values_or_differs b base def params terms row c wide stands vs pk g k) [
+  packed_key vs g (Some pk) k h = elim (values_or_differs told base def row c wide stands vs pk g k) [
     | inl own ↦ inl (is_own pk (some_is (single pk) keys h) own)
     | inr d ↦ inr d
   ]
 
-  values : (vs : List Value) → sought_values b base def params terms ≡ Some vs → (n : Bool) → list_any is_null vs ≡ n
+  values : (vs : List Value) → sought_values told base def ≡ Some vs → (n : Bool) → list_any is_null vs ≡ n
       → option_map key_or_none (cond n (Some None) (option_map Some (key_from vs))) ≡ Some keys → Found
-  values vs g true some h = inr (null_differs b base def params terms c key_places vs g some)
+  values vs g true some h = inr (null_differs told base def c key_places vs g some)
   values vs g false none h = packed_key vs g (key_from vs) refl h
 
-  from_values : (o : Option (List Value)) → sought_values b base def params terms ≡ o → option_map key_or_none (option_and_then joined_key o) ≡ Some keys → Found
+  from_values : (o : Option (List Value)) → sought_values told base def ≡ o → option_map key_or_none (option_and_then joined_key o) ≡ Some keys → Found
   from_values None g h = absurd cc
   from_values (Some vs) g h = values vs g (list_any is_null vs) refl h
 
-  -- A row of a table that can be joined with a row of another has one of the keys that are told beside that, or another value
-  -- than the terms want.
-  pub joined_or_differs : keys_beside base def params terms b ≡ Some keys → Found
-  joined_or_differs e = from_values (sought_values b base def params terms) refl e
+  -- a row of a table has one of the keys that are told, or another value than is told
+  pub told_or_differs : keys_told told base def ≡ Some keys → Found
+  told_or_differs e = from_values (sought_values told base def) refl e

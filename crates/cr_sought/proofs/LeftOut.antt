@@ -24,7 +24,7 @@ use Rattle.cr_meaning.specs.Meaning.{meaning}
 use Rattle.cr_meaning.proofs.Limits.{safe}
 use Rattle.cr_exec.specs.Equalities.{OrdersBytes}
 use Rattle.cr_sought.specs.Joins.{AreWide, is_safe, width, widths}
-use Rattle.cr_sought.proofs.Around.{all_append, gathered}
+use Rattle.cr_sought.proofs.Gathered.{all_append, gathered}
 use Rattle.cr_sought.proofs.Pins.{is_missed, missed_rejects}
 
 -- ---- members
@@ -54,7 +54,7 @@ nothing_first None = refl
 nothing_first (Some us) = refl
 
 -- members that give nothing may be left out
-gather_left : {A B : Type 0} (f : A → Option (List B)) (p : A → Bool) (xs : List A) → AllByRecursion (λ x. p x ≡ false → f x ≡ Some []) xs
+pub gather_left : {A B : Type 0} (f : A → Option (List B)) (p : A → Bool) (xs : List A) → AllByRecursion (λ x. p x ≡ false → f x ≡ Some []) xs
     → gather f xs ≡ gather f (filter p xs)
 gather_left f p [] all = refl
 gather_left f p (x ∷ xs) all =
@@ -276,6 +276,15 @@ module _ (host : Host) (bytes : OrdersBytes host) (params : List Value) (most : 
       (f : Row) → Made before front [] f → (r : Row) → Among there r → p r ≡ false → (more : Row)
       → list_any (is_missed host bytes params ((f ++ r) ++ more) most) terms ≡ true
 
+  -- on each such combination these terms are not all true, and do not fault
+  abbrev pub Rejects : List Ordered → Type 0
+  Rejects terms =
+      (f : Row) → Made before front [] f → (r : Row) → Among there r → p r ≡ false → (more : Row)
+      → holds m terms ((f ++ r) ++ more) ≡ Some false
+
+  missing_rejects : (terms : List Ordered) → Misses terms → Rejects terms
+  missing_rejects terms misses f made r among out more = missed_rejects host bytes params ((f ++ r) ++ more) most terms (misses f made r among out more)
+
   -- a query answers the same without the rows that do not pass
   abbrev pub LeavesOut : Type 0
   LeavesOut = answer m (view.query q) (front ++ (there ∷ back)) ≡ answer m (view.query q) (front ++ (left ∷ back))
@@ -297,8 +306,8 @@ module _ (host : Host) (bytes : OrdersBytes host) (params : List Value) (most : 
       → tail m all_terms (view.joining j ∷ behind_it) (there ∷ back) f ≡ tail m all_terms (view.joining j ∷ behind_it) (left ∷ back) f
 
   -- a table of an inner join
-  inner_step : j.is_left ≡ false → list_all is_safe after ≡ true → Misses all_terms → Steps
-  inner_step inner safe_after misses f made =
+  inner_step : j.is_left ≡ false → list_all is_safe after ≡ true → Rejects all_terms → Steps
+  inner_step inner safe_after rejected f made =
       tail_step m all_terms (view.joining j) behind_it there back f
       ∙ ap (option_and_then (gather (tail m all_terms behind_it back))) (with_all there)
       ∙ over_rows (tail m all_terms behind_it back) f nothing
@@ -310,7 +319,7 @@ module _ (host : Host) (bytes : OrdersBytes host) (params : List Value) (most : 
         nothing : (r : Row) → Among there r → p r ≡ false → tail m all_terms behind_it back (f ++ r) ≡ Some []
         nothing r among out =
             comes_to_nothing m all_terms (safe most host params) (as_quiet most host params) after back (f ++ r) safe_after
-            (λ more. missed_rejects host bytes params ((f ++ r) ++ more) most all_terms (misses f made r among out more))
+            (λ more. rejected f made r among out more)
 
   -- a table that a LEFT JOIN brings
   abbrev ons : List Ordered
@@ -349,8 +358,11 @@ module _ (host : Host) (bytes : OrdersBytes host) (params : List Value) (most : 
       ∙ sym (over left))
 
   -- a table of an inner join, where no ON of a LEFT JOIN behind it can fault
+  pub rejects_out : j.is_left ≡ false → list_all is_safe after ≡ true → Rejects all_terms → LeavesOut
+  rejects_out inner safe_after rejected = by_steps (inner_step inner safe_after rejected)
+
   pub inner_leaves_out : j.is_left ≡ false → list_all is_safe after ≡ true → Misses all_terms → LeavesOut
-  inner_leaves_out inner safe_after misses = by_steps (inner_step inner safe_after misses)
+  inner_leaves_out inner safe_after misses = rejects_out inner safe_after (missing_rejects all_terms misses)
 
   -- a table that a LEFT JOIN brings, by its ON
   pub left_leaves_out : j.is_left ≡ true → Misses (map view.plain j.on) → LeavesOut

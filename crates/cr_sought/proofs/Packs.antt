@@ -13,10 +13,9 @@ use Rattle.cr_lattice.specs.Check.{stands_at}
 use Rattle.cr_lattice.proofs.Tested.{and_true, not_true, or_false}
 use Rattle.cr_delta.specs.Key.{key_places}
 use Rattle.cr_delta.proofs.KeyCells.{place_at}
-use Rattle.cr_term.specs.declared.expr.Expr.{Expr}
 use Rattle.cr_scalar.specs.Numbers.{is_null}
 use Rattle.cr_bags.specs.Bags.{gather, joins, single}
-use Rattle.cr_sought.specs.Sought.{Beside, can_pack, key_from, pinned, sought_part}
+use Rattle.cr_sought.specs.Sought.{can_pack, key_from, sought_part}
 
 -- ---- packing
 
@@ -69,9 +68,9 @@ joins_one : {X : Type 0} (xs : List X) (x : X) (o : Option (List X))
 joins_one xs x None = refl
 joins_one xs x (Some ys) = ap (λ l. Some l) (append_assoc xs (single x) ys)
 
-module _ (b : Beside) (base : ℕ) (def : TableDef) (params : List Value) (terms : List Expr) (place : ℕ) (low : 1 ≤ place) (high : place < 9) (vs : List Value) where
+module _ (told : ℕ → Option Value) (base : ℕ) (def : TableDef) (place : ℕ) (low : 1 ≤ place) (high : place < 9) (vs : List Value) where
   abbrev part : ℕ → Option (List Value)
-  part = sought_part b base def params terms
+  part = sought_part told base def
 
   abbrev column : Option ℕ
   column = position (stands_at place) def.columns
@@ -86,14 +85,14 @@ module _ (b : Beside) (base : ℕ) (def : TableDef) (params : List Value) (terms
   here : (o : Option (List Value)) → part place ≡ o → before ≡ joins (Some vs) (joins o others)
   here o e = ap (λ ps. joins (Some vs) (gather part ps)) (left_at place low high) ∙ ap (λ p. joins (Some vs) (joins p others)) e
 
-  abbrev pinned_at : Option ℕ → Option (List Value)
-  pinned_at o = option_map_or (λ at. option_map single (pinned b params terms (base + at))) o (Some [])
+  abbrev told_at : Option ℕ → Option (List Value)
+  told_at o = option_map_or (λ at. option_map single (told (base + at))) o (Some [])
 
   pub no_column : column ≡ None → joins (Some vs) others ≡ before
-  no_column e = ap (joins (Some vs)) (sym (joins_first others)) ∙ sym (here (Some []) (ap pinned_at e))
+  no_column e = ap (joins (Some vs)) (sym (joins_first others)) ∙ sym (here (Some []) (ap told_at e))
 
-  pub no_value : (at : ℕ) → column ≡ Some at → pinned b params terms (base + at) ≡ None → None ≡ before
-  no_value at e none = sym (here None (ap pinned_at e ∙ ap (option_map single) none))
+  pub no_value : (at : ℕ) → column ≡ Some at → told (base + at) ≡ None → None ≡ before
+  no_value at e none = sym (here None (ap told_at e ∙ ap (option_map single) none))
 
-  pub one_value : (at : ℕ) (v : Value) → column ≡ Some at → pinned b params terms (base + at) ≡ Some v → joins (Some (vs ++ v ∷ [])) others ≡ before
-  one_value at v e some = joins_one vs v others ∙ sym (here (Some (single v)) (ap pinned_at e ∙ ap (option_map single) some))
+  pub one_value : (at : ℕ) (v : Value) → column ≡ Some at → told (base + at) ≡ Some v → joins (Some (vs ++ v ∷ [])) others ≡ before
+  one_value at v e some = joins_one vs v others ∙ sym (here (Some (single v)) (ap told_at e ∙ ap (option_map single) some))

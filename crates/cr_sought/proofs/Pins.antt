@@ -163,7 +163,7 @@ module _ (host : Host) (bytes : OrdersBytes host) (m : Meeting) (is : same_bytes
         (passes_is (meets host.order m v w) h)
 
 -- NULL is equal to nothing
-null_left : (order : List ℕ → List ℕ → List ℕ → Ordering) (m : Meeting) (v u : Value) → v ≡ Null → compared order c.Equal m v u ≡ Some true → ⊥
+pub null_left : (order : List ℕ → List ℕ → List ℕ → Ordering) (m : Meeting) (v u : Value) → v ≡ Null → compared order c.Equal m v u ≡ Some true → ⊥
 null_left order m v u e h =
     let k : compared order c.Equal m Null u ≡ Some true = ap (λ x. compared order c.Equal m x u) (sym e) ∙ h in absurd cc
 
@@ -173,7 +173,7 @@ null_right order m u v e h = by (is_null u) (ap (λ x. compared order c.Equal m 
   by true k = absurd cc
   by false k = absurd cc
 
-of_right : (a : Adjusted) (v u w : Value) → on_right a u ≡ Some w → adjusted_left a v ≡ adjusted_right a u → v ≡ w
+pub of_right : (a : Adjusted) (v u w : Value) → on_right a u ≡ Some w → adjusted_left a v ≡ adjusted_right a u → v ≡ w
 of_right Neither v u w e h = h ∙ some_is u w e
 of_right (Left a) v u w e h = absurd cc
 of_right (Right a) v u w e h = h ∙ some_is (applied a u) w e
@@ -326,8 +326,8 @@ module _ (host : Host) (bytes : OrdersBytes host) (params : List Value) (row : R
         ] refl h
 
     -- some term is not true where the terms pin a column to another value than the combination has there
-    pub differing : (b : Beside) → StandsIn row b → (terms : List Expr) → Differs b params terms row → any_missed terms ≡ true
-    differing b stands terms d = some_miss b stands terms d.at d.wanted d.pins d.differs
+    pub differing : (b : Beside) → StandsIn row b → (terms : List Expr) → Differs (pinned b params terms) row → any_missed terms ≡ true
+    differing b stands terms d = some_miss b stands terms d.at d.wanted d.tells d.differs
 
     term_misses_above : (e : Expr) (at : ℕ) (n v : ℤ) → bound params at e ≡ Some (Int n) → get_or row at Null ≡ Int v → v ≤ℤ n
         → (quiet e ≡ true) × (is_true m (view.plain e) row ≡ Some false)
@@ -358,7 +358,7 @@ module _ (host : Host) (bytes : OrdersBytes host) (params : List Value) (row : R
         rejected like (record { order_total = λ e. value_total; over_bag = λ e k cs ds s. refl }) (safe most host params) terms row h
 
     -- terms that pin a column to another value than the row has there are not all true on it, and do not fault
-    pub rejects : (front : List Ordered) (terms : List Expr) → Differs alone params terms row
+    pub rejects : (front : List Ordered) (terms : List Expr) → Differs (pinned alone params terms) row
         → holds m (front ++ map view.plain terms) row ≡ Some false
     rejects front terms d =
         missed_rejects (front ++ map view.plain terms)

@@ -1,15 +1,27 @@
--- A write whose terms tell the key of their row makes of what is kept of that key what it makes of all.
-use Rattle.std.proofs.Common.{◌≡◌, ◌⊎◌, inl, inr, ◌∙◌, ℕ, Bool, true, false, not, ◌||◌, cond, List, [], ◌∷◌, ◌++◌, map, Option, Some, None, Ok, Err, refl, sym, ap, subst}
-use Rattle.std.specs.Prelude.{Result}
-use Rattle.std.specs.List.{list_any, AllByRecursion}
+-- A write whose terms tell the keys of its rows makes of what is kept of these what it makes of all.
+use Rattle.std.proofs.Common.{◌≡◌, ◌⊎◌, inl, inr, ◌∙◌, ℕ, Bool, true, false, not, ◌&&◌, ◌||◌, nat_lt, cond, List, [], ◌∷◌, length, map, Option, Some, None, Ok, Err, unwrap_or, refl, sym, ap, subst, Equal}
+use Rattle.std.specs.Prelude.{Result, filter}
+use Rattle.std.specs.List.{flat_map, list_any, AllByRecursion}
 use Rattle.std.specs.Option.{option_map, option_and_then}
+use Rattle.std.specs.Ordering.{on}
+use Rattle.std.proofs.lemmas.Cmp.{on_total}
 use Rattle.cr_value.specs.declared.value.Value.{Value}
+use Rattle.cr_value.specs.Order.{bytes_cmp}
+use Rattle.cr_value.specs.OrderLaws.{bytes_total, bytes_exact}
+use Rattle.cr_value.specs.Packing.{size_limit}
+use Rattle.cr_value.proofs.Fields.{some_is}
 use Rattle.cr_lattice.specs.declared.change.Change.{Change}
 use Rattle.cr_lattice.specs.declared.table.TableDef.{TableDef}
+use Rattle.cr_lattice.specs.Check.{same_bytes}
+use Rattle.cr_lattice.specs.Sets.{set_of}
 use Rattle.cr_lattice.specs.Profile.{has_key}
-use Rattle.cr_lattice.specs.Rows.{rows}
+use Rattle.cr_lattice.specs.Rows.{is_alive, alive_keys, row, rows}
+use Rattle.cr_lattice.proofs.RowLemmas.{any_alive_key}
 use Rattle.cr_cells.specs.Tables.{has_defaults}
-use Rattle.cr_delta.specs.Delta.{passes_limit}
+use Rattle.cr_delta.specs.Key.{key_of}
+use Rattle.cr_delta.specs.Delta.{delta, is_wanted, passes_limit}
+use Rattle.cr_delta.proofs.Among.{Among, map_member, member_of_any}
+use Rattle.cr_delta.proofs.Members.{is_same, same_is}
 use Rattle.cr_term.specs.declared.query.Assignment.{Assignment}
 use Rattle.cr_term.specs.declared.query.Delete.{Delete}
 use Rattle.cr_term.specs.declared.query.Update.{Update}
@@ -18,26 +30,35 @@ use Rattle.cr_scalar.specs.declared.fault.EvalFault.{EvalFault}
 use Rattle.cr_scalar.specs.declared.fault.EvalFault.TheVariants as fault
 use Rattle.cr_scalar.specs.Meaning.{byte_limit}
 use Rattle.cr_bags.specs.Bags.{gather, each, single}
-use Rattle.cr_query.specs.Query.{Row, Meaning, holds}
-use Rattle.cr_query.specs.Writes.{put_all, assigned, updated, wanted_by_update}
+use Rattle.cr_query.specs.Query.{Row, Meaning, and_so, all_true, is_true, quiet_first, holds}
+use Rattle.cr_query.specs.Writes.{has_null_key, has_null, has_long_key, lacks_value, repeats, has_twice, by_key, put_all, assigned, updated, wanted_by_update}
+use Rattle.cr_query.proofs.Refining.{Gains, by_gather}
 use Rattle.cr_meaning.specs.View.{Ordered}
 use Rattle.cr_meaning.specs.View as view
-use Rattle.cr_meaning.specs.Meaning.{meaning}
+use Rattle.cr_meaning.specs.Meaning.{IsLimit, exact, meaning, sized}
+use Rattle.cr_meaning.proofs.Limits.{refines}
 use Rattle.cr_exec.specs.Answers.{Stage, IsBoth, Faults}
 use Rattle.cr_world.specs.declared.refusal.Refusal.{Refusal}
 use Rattle.cr_world.specs.declared.refusal.Refusal.TheVariants as refusal
 use Rattle.cr_touched.specs.Inserts.{Verdict, verdict}
+use Rattle.cr_touched.specs.Parts.{is_key_of, part}
 use Rattle.cr_touched.specs.Shown.{AreKeptOf}
+use Rattle.cr_touched.specs.Touched.{passes, IsShownOutside}
+use Rattle.cr_touched.proofs.Inserts.{kept_of_part}
+use Rattle.cr_touched.proofs.Sets.{all_set, any_set, filter_set}
+use Rattle.cr_touched.proofs.Shown.{short, whole as all_values, once, is_its_key, is_present}
+use Rattle.cr_touched.proofs.Touches.{delta_of_touched}
 use Rattle.cr_changed.specs.Changed.{Changes, Leads}
 use Rattle.cr_exec.specs.Equalities.{OrdersBytes}
-use Rattle.cr_sought.specs.Sought.{sought_key, is_of_key, is_to_key}
-use Rattle.cr_sought.specs.Laws.{of_key}
-use Rattle.cr_sought.specs.Writes.{DeletesByKey, UpdatesByKey}
-use Rattle.cr_sought.proofs.Answers.{other_rejects}
-use Rattle.cr_sought.proofs.Around.{all_so, gather_around, gathered}
+use Rattle.cr_sought.specs.Lists.{sought_keys}
+use Rattle.cr_sought.specs.Sought.{is_of_key, is_to_key}
+use Rattle.cr_sought.specs.Laws.{of_keys}
+use Rattle.cr_sought.specs.Writes.{DeletesByKeys, UpdatesByKeys}
+use Rattle.cr_sought.proofs.Joins.{of_row, told_rows}
+use Rattle.cr_sought.proofs.LeftOut.{each_member}
+use Rattle.cr_sought.proofs.Lists.{sought_rejects}
+use Rattle.cr_sought.proofs.Made.{Gives, IsAtMostOne, Makes, all_both, all_given, all_own, any_made, any_there, gather_given, made, none_both, once_made, others_made, passing}
 use Rattle.cr_sought.proofs.Puts.{key_stays}
-use Rattle.cr_sought.proofs.Rows.{IsOther, IsOwn, split_rows}
-use Rattle.cr_sought.proofs.Verdicts.{same_verdict}
 
 -- what stands against rows of this verdict first
 abbrev Against : Verdict → Refusal → Type 0
@@ -47,62 +68,165 @@ Against v r =
     ⊎ (((v.long ≡ false) × (v.lacking ≡ false) × (v.twice ≡ true) × (r ≡ refusal.PrimaryKey))
     ⊎ ((v.long ≡ false) × (v.lacking ≡ false) × (v.twice ≡ false) × (passes_limit v.changes ≡ true) × (r ≡ refusal.VersionLimit))))
 
--- what a write makes of each row: it keeps rows of other keys, and of rows of this key makes rows of this key
-record OneKey (host : Host) (params : List Value) (def : TableDef) (kept : List Change) (pk : List ℕ)
+-- What a write makes of each row of a table: rows of other keys than are sought it keeps, and of a row it makes nothing or one row of
+-- its key.
+record ByRow (host : Host) (params : List Value) (def : TableDef) (kept : List Change) (keys : List (List ℕ))
     (f : Meaning Ordered → Row → Option (List Row)) : Type 0 where
-  keeps : (most : Option ℕ) (r : Row) → IsOther def kept pk r → f (meaning most host params) r ≡ Some (single r)
-  stays : (m : Meaning Ordered) (r : Row) (us : List Row) → IsOwn def pk r → f m r ≡ Some us → AllByRecursion (IsOwn def pk) us
+  keeps : (most : Option ℕ) → IsLimit most → (r : Row) → Among (rows kept def) r → is_key_of keys (key_of def r) ≡ false
+      → f (meaning most host params) r ≡ Some (single r)
+  gains : (r : Row) → Gains (f (sized host params) r) (f (exact host params) r)
+  few : (r : Row) (us : List Row) → f (exact host params) r ≡ Some us → IsAtMostOne (key_of def) (key_of def r) us
 
 module _ (host : Host) (params : List Value) (def : TableDef) (keyed : has_key def ≡ true) (defaults : has_defaults def ≡ true)
-    (kept : List Change) (are : AreKeptOf def kept) (pk : List ℕ) (f : Meaning Ordered → Row → Option (List Row))
-    (one : OneKey host params def kept pk f) (site : List ℕ) where
+    (kept : List Change) (are : AreKeptOf def kept) (keys : List (List ℕ)) (f : Meaning Ordered → Row → Option (List Row))
+    (by_row : ByRow host params def kept keys f) (site : List ℕ) where
+  abbrev p : List ℕ → Bool
+  p = is_key_of keys
+
+  abbrev k : Row → List ℕ
+  k = key_of def
+
   abbrev some : List Change
-  some = of_key def pk kept
+  some = of_keys def keys kept
 
-  over : List Change → Stage (List Row)
-  over cs m = gather (f m) (rows cs def)
+  abbrev all : List Row
+  all = rows kept def
 
-  abbrev within : List Row → List Row
-  within us = (split_rows def keyed kept are pk).before ++ (us ++ (split_rows def keyed kept are pk).after)
+  abbrev mine : List Row
+  mine = filter (passes def p) all
 
-  whole : (most : Option ℕ)
-      → gather (f (meaning most host params)) (rows kept def) ≡ option_map within (gather (f (meaning most host params)) (rows some def))
-  whole most =
-      let s = split_rows def keyed kept are pk in
-      let g = f (meaning most host params) in
-      let kept_all = all_so (IsOther def kept pk) (λ r. g r ≡ Some (single r)) (one.keeps most) in
-      ap (gather g) s.whole
-      ∙ gather_around g s.before (rows some def) s.after (kept_all s.before s.others_before) (kept_all s.after s.others_after)
+  mine_are : mine ≡ rows some def
+  mine_are = told_rows def keyed kept are p
 
-  own : (us : List Row) → IsBoth host params (λ m. gather (f m) (rows some def)) us → AllByRecursion (IsOwn def pk) us
-  own us b =
-      let m = meaning None host params in
-      gathered (IsOwn def pk) (IsOwn def pk) (f m) (one.stays m) (rows some def) us (split_rows def keyed kept are pk).own b.exact
+  -- what is made of a row without a limit
+  abbrev g : Row → List Row
+  g r = unwrap_or (f (exact host params) r) []
 
-  both : (us : List Row) → IsBoth host params (λ m. gather (f m) (rows some def)) us
-      → IsBoth host params (λ m. gather (f m) (rows kept def)) (within us)
-  both us b = record { exact = whole None ∙ ap (option_map within) b.exact; sized = whole byte_limit ∙ ap (option_map within) b.sized }
+  abbrev whole : List Row
+  whole = made k p g all
 
-  faults : (e : EvalFault) → Faults host params (λ m. gather (f m) (rows some def)) e
-      → Faults host params (λ m. gather (f m) (rows kept def)) e
-  faults fault.Overflow h = whole None ∙ ap (option_map within) h
-  faults fault.NotANumber h = whole None ∙ ap (option_map within) h
-  faults fault.NotUtf8 h = whole None ∙ ap (option_map within) h
-  faults (fault.Host text) h = whole None ∙ ap (option_map within) h
-  faults fault.TooBig h = whole byte_limit ∙ ap (option_map within) h
+  makes : AllByRecursion (Makes k p g) all
+  makes = each_member (Makes k p g) all (λ r among. record { few = few_of r (f (exact host params) r) refl; stays = λ out. ap (λ o. unwrap_or o []) (by_row.keeps None (inl refl) r among out) }) where
+    few_of : (r : Row) (o : Option (List Row)) → f (exact host params) r ≡ o → IsAtMostOne k (k r) (unwrap_or o [])
+    few_of r None is = inl refl
+    few_of r (Some us) is = by_row.few r us is
+
+  abbrev Gives_under : Option ℕ → Row → Type 0
+  Gives_under most = Gives (f (meaning most host params)) g
+
+  same_exact : (r : Row) (us : List Row) → f (exact host params) r ≡ Some us → g r ≡ us
+  same_exact r us e = ap (λ o. unwrap_or o []) e
+
+  all_of : (most : Option ℕ) → IsLimit most → ((r : Row) (us : List Row) → f (meaning most host params) r ≡ Some us → g r ≡ us) → (us : List Row)
+      → gather (f (meaning most host params)) (rows some def) ≡ Some us
+      → (us ≡ flat_map g mine) × (gather (f (meaning most host params)) all ≡ Some whole)
+  all_of most limit same us e =
+      let h = f (meaning most host params) in
+      let here : gather h mine ≡ Some us = ap (gather h) mine_are ∙ e in
+      let own_given = all_given h g same mine us here in
+      let others = each_member (λ r. passes def p r ≡ false → Gives h g r) all
+      (λ r among out. by_row.keeps most limit r among out ∙ ap (λ l. Some l) (sym (ap (λ o. unwrap_or o []) (by_row.keeps None (inl refl) r among out)))) in
+      (some_is us (flat_map g mine) (sym here ∙ gather_given h g mine own_given), gather_given h g all (all_both h g (passes def p) all own_given others))
+
+  is_made : (us : List Row) → IsBoth host params (λ m. gather (f m) (rows some def)) us → us ≡ flat_map g mine
+  is_made us b = (all_of None (inl refl) same_exact us b.exact).0
+
+  both : (us : List Row) → IsBoth host params (λ m. gather (f m) (rows some def)) us → IsBoth host params (λ m. gather (f m) all) whole
+  both us b = record {
+    exact = (all_of None (inl refl) same_exact us b.exact).1;
+    sized = (all_of byte_limit (inr refl) (λ r us e. same_exact r us (by_row.gains r us e)) us b.sized).1;
+  }
+
+  fault_of : (most : Option ℕ) → gather (f (meaning most host params)) (rows some def) ≡ None → gather (f (meaning most host params)) all ≡ None
+  fault_of most e = none_both (f (meaning most host params)) g (passes def p) all (ap (gather (f (meaning most host params))) mine_are ∙ e)
+
+  faults : (e : EvalFault) → Faults host params (λ m. gather (f m) (rows some def)) e → Faults host params (λ m. gather (f m) all) e
+  faults fault.Overflow h = fault_of None h
+  faults fault.NotANumber h = fault_of None h
+  faults fault.NotUtf8 h = fault_of None h
+  faults (fault.Host text) h = fault_of None h
+  faults fault.TooBig h = fault_of byte_limit h
   faults fault.Memory h = tt
 
-  -- what is said of the rows of this key is said of all
-  alike : (us : List Row) → IsBoth host params (λ m. gather (f m) (rows some def)) us
-      → verdict def site some us ≡ verdict def site kept (within us)
-  alike us b = sym (same_verdict def keyed defaults kept are pk us (own us b) site)
+  -- ---- what is said of the rows that are made
 
-  leads : (changes : List Change) → Leads host params def site some (λ m. gather (f m) (rows some def)) changes
-      → Leads host params def site kept (λ m. gather (f m) (rows kept def)) changes
-  leads changes l =
+  abbrev few_rows : List Row
+  few_rows = flat_map g mine
+
+  long : has_long_key def few_rows ≡ has_long_key def whole
+  unfolding has_long_key
+  long = sym (any_made k p g (λ r. not (has_null_key def r) && nat_lt size_limit (length (key_of def r))) all makes (short def keyed kept are defaults))
+
+  lacking : lacks_value def few_rows ≡ lacks_value def whole
+  unfolding lacks_value
+  lacking = sym (any_made k p g (has_null def) all makes (all_values def keyed kept are defaults))
+
+  some_are : AreKeptOf def some
+  some_are = kept_of_part def p kept are
+
+  twice : has_twice def few_rows ≡ has_twice def whole
+  unfolding has_twice
+  twice =
+      once_made k p g mine (all_own k p g all makes) (ap (λ rs. repeats (map k rs)) mine_are ∙ once def keyed some some_are)
+      ∙ sym (once_made k p g all makes (once def keyed kept are))
+
+  tied : (t : List ℕ → Bool) (r q : Row) → on k bytes_cmp r q ≡ Equal → t (k r) ≡ t (k q)
+  tied t r q e = ap t (bytes_exact (k r) (k q) e)
+
+  abbrev IsThere : Row → Type 0
+  IsThere r = (is_alive kept def.name (k r) ≡ true) × (row kept def (k r) ≡ r)
+
+  there : (r : Row) → Among all r → IsThere r
+  there r among =
+      let o = of_row def kept r among in
+      let alive = is_present def keyed kept are o.0 o.1 in
+      let own : k r ≡ o.0 = ap k o.2 ∙ is_its_key def keyed kept are o.0 alive in
+      (ap (is_alive kept def.name) own ∙ alive, ap (row kept def) own ∙ sym o.2)
+
+  alive_row : (pk : List ℕ) → is_alive kept def.name pk ≡ true → Among all (row kept def pk)
+  unfolding rows
+  alive_row pk alive =
+      let m = member_of_any (same_bytes pk) (alive_keys kept def.name) (any_alive_key kept def.name pk ∙ alive) in
+      map_member (row kept def) (alive_keys kept def.name) pk (subst (λ l. Among (alive_keys kept def.name) l) (sym (same_is pk m.0 m.2)) m.1)
+
+  outside : IsShownOutside kept def (by_key def whole) p
+  unfolding by_key is_wanted
+  outside = record {
+    shown =
+        all_set (on k bytes_cmp) (λ r. p (k r) ≡ false → IsThere r) whole
+        (others_made k p g IsThere all makes (each_member IsThere all there));
+    all = λ pk out alive.
+        let own : k (row kept def pk) ≡ pk = is_its_key def keyed kept are pk alive in
+        any_set (on_total k bytes_total) (λ r. same_bytes (k r) pk) (tied (λ l. same_bytes l pk)) whole
+        ∙ any_there k p g (λ r. same_bytes (k r) pk) all makes (row kept def pk) (alive_row pk alive) (ap p own ∙ out) (is_same (k (row kept def pk)) pk own);
+  }
+
+  passing_set : filter (passes def p) (by_key def whole) ≡ by_key def few_rows
+  unfolding by_key
+  passing_set =
+      filter_set (on_total k bytes_total) (passes def p) (tied p) whole
+      ∙ ap (set_of (on k bytes_cmp)) (passing k p g all makes)
+
+  changes : delta def site some (by_key def few_rows) ≡ delta def site kept (by_key def whole)
+  changes =
+      let wanted = by_key def whole in
+      sym
+      (ap (λ cs. delta def site cs wanted) (sym are.unbeaten)
+      ∙ delta_of_touched def site kept wanted p (subst (λ cs. IsShownOutside cs def wanted p) (sym are.unbeaten) outside)
+      ∙ ap (λ cs. delta def site (part def.name p cs) (filter (passes def p) wanted)) are.unbeaten
+      ∙ ap (delta def site some) passing_set)
+
+  alike : (us : List Row) → IsBoth host params (λ m. gather (f m) (rows some def)) us → verdict def site some us ≡ verdict def site kept whole
+  alike us b = ap (verdict def site some) (is_made us b) ∙ (λ i. record { long = long i; lacking = lacking i; twice = twice i; changes = changes i })
+
+  -- ---- what the write makes
+
+  leads : (made_changes : List Change) → Leads host params def site some (λ m. gather (f m) (rows some def)) made_changes
+      → Leads host params def site kept (λ m. gather (f m) all) made_changes
+  leads made_changes l =
       let same = alike l.rows l.both in
       record {
-        rows = within l.rows;
+        rows = whole;
         both = both l.rows l.both;
         short = sym (ap (λ v. v.long) same) ∙ l.short;
         whole = sym (ap (λ v. v.lacking) same) ∙ l.whole;
@@ -113,11 +237,46 @@ module _ (host : Host) (params : List Value) (def : TableDef) (keyed : has_key d
 
   all_makes : {X : Type 0} (result : Result X Refusal) (changes_in : X → List Change)
       → Changes host params def site some (λ m. gather (f m) (rows some def)) result changes_in
-      → Changes host params def site kept (λ m. gather (f m) (rows kept def)) result changes_in
+      → Changes host params def site kept (λ m. gather (f m) all) result changes_in
   all_makes (Ok x) changes_in l = leads (changes_in x) l
   all_makes (Err r) changes_in (inl memory) = inl memory
   all_makes (Err r) changes_in (inr (inl e)) = inr (inl (e.0, e.1, faults e.0 e.2))
-  all_makes (Err r) changes_in (inr (inr s)) = inr (inr (within s.0, both s.0 s.1, subst (λ v. Against v r) (alike s.0 s.1) s.2))
+  all_makes (Err r) changes_in (inr (inr s)) = inr (inr (whole, both s.0 s.1, subst (λ v. Against v r) (alike s.0 s.1) s.2))
+
+-- ---- what has a value with a limit has it without
+
+gains_map : {A B : Type 0} (h : A → B) (o q : Option A) → Gains o q → Gains (option_map h o) (option_map h q)
+gains_map h None q gains b e = absurd cc
+gains_map h (Some a) q gains b e = ap (option_map h) (gains a refl) ∙ e
+
+gains_then : {A B : Type 0} (h h' : A → Option B) → ((a : A) → Gains (h a) (h' a)) → (o q : Option A) → Gains o q
+    → Gains (option_and_then h o) (option_and_then h' q)
+gains_then h h' each_gains None q gains b e = absurd cc
+gains_then h h' each_gains (Some a) q gains b e = ap (option_and_then h') (gains a refl) ∙ each_gains a b e
+
+gains_and : (a b c d : Option Bool) → Gains a b → Gains c d → Gains (and_so a c) (and_so b d)
+gains_and None b c d h h' x e = absurd cc
+gains_and (Some true) b c d h h' x e = ap (λ o. and_so o d) (h true refl) ∙ h' x e
+gains_and (Some false) b c d h h' x e = ap (λ o. and_so o d) (h false refl) ∙ e
+
+module _ (host : Host) (params : List Value) where
+  abbrev s : Meaning Ordered
+  s = sized host params
+
+  abbrev e : Meaning Ordered
+  e = exact host params
+
+  value_gains : (x : Ordered) (r : Row) → Gains (s.value x r) (e.value x r)
+  value_gains x r v h = (refines host params).value x r v h
+
+  all_gains : (es : List Ordered) (r : Row) → Gains (all_true s es r) (all_true e es r)
+  all_gains [] r = λ b h. h
+  all_gains (x ∷ xs) r =
+      gains_and (is_true s x r) (is_true e x r) (all_true s xs r) (all_true e xs r)
+      (gains_then s.truth e.truth (λ v b h. h) (s.value x r) (e.value x r) (value_gains x r)) (all_gains xs r)
+
+  holds_gains : (es : List Ordered) (r : Row) → Gains (holds s es r) (holds e es r)
+  holds_gains es r = all_gains (quiet_first s es) r
 
 -- ---- DELETE and UPDATE
 
@@ -127,19 +286,26 @@ left_by w m r = option_map (λ b. cond b (single r) []) (option_map not (holds m
 abbrev made_by : TableDef → Update → Meaning Ordered → Row → Option (List Row)
 made_by def w m r = option_map single (updated m def.columns (view.update w) r)
 
-module _ (host : Host) (bytes : OrdersBytes host) (params : List Value) (def : TableDef) (kept : List Change) (pk : List ℕ) where
-  deletes : (w : Delete) → sought_key def params w.filter ≡ Some pk → OneKey host params def kept pk (left_by w)
+module _ (host : Host) (bytes : OrdersBytes host) (params : List Value) (def : TableDef) (keyed : has_key def ≡ true) (kept : List Change)
+    (are : AreKeptOf def kept) (keys : List (List ℕ)) where
+  deletes : (w : Delete) → sought_keys def params w.filter ≡ Some keys → ByRow host params def kept keys (left_by w)
   deletes w sought = record {
-    keeps = λ most r o.
+    keeps = λ most limit r among out.
         ap (λ b. option_map (λ b. cond b (single r) []) (option_map not b))
-        (other_rejects host bytes params most def kept w.filter pk sought [] r o);
-    stays = λ m r us own e. stays (holds m (map view.plain w.filter) r) r us own e;
+        (sought_rejects host params most limit bytes def keyed kept are w.filter keys sought r among out);
+    gains = λ r.
+        gains_map (λ b. cond b (single r) []) (option_map not (holds (sized host params) terms r)) (option_map not (holds (exact host params) terms r))
+        (gains_map not (holds (sized host params) terms r) (holds (exact host params) terms r) (holds_gains host params terms r));
+    few = λ r us e. few (holds (exact host params) terms r) r us e;
   } where
-    stays : (o : Option Bool) (r : Row) (us : List Row) → IsOwn def pk r
-        → option_map (λ b. cond b (single r) []) (option_map not o) ≡ Some us → AllByRecursion (IsOwn def pk) us
-    stays None r us own e = absurd cc
-    stays (Some true) r us own e = let is : [] ≡ us = cc in subst (AllByRecursion (IsOwn def pk)) is tt
-    stays (Some false) r us own e = let is : single r ≡ us = cc in subst (AllByRecursion (IsOwn def pk)) is (own, tt)
+    terms : List Ordered
+    terms = map view.plain w.filter
+
+    few : (o : Option Bool) (r : Row) (us : List Row) → option_map (λ b. cond b (single r) []) (option_map not o) ≡ Some us
+        → IsAtMostOne (key_of def) (key_of def r) us
+    few None r us e = absurd cc
+    few (Some true) r us e = inl (sym (some_is [] us e))
+    few (Some false) r us e = inr (r, sym (some_is (single r) us e), refl)
 
   of_places : (ws : List Assignment) → list_any (is_of_key def) (map (λ a. a.place) (map view.assignment ws)) ≡ list_any (is_to_key def) ws
   of_places [] = refl
@@ -149,45 +315,67 @@ module _ (host : Host) (bytes : OrdersBytes host) (params : List Value) (def : T
   places w = map (λ a. a.place) (map view.assignment w.assignments)
 
   -- the row that is wanted, by whether the terms hold
-  abbrev made : Update → Meaning Ordered → Row → Option Bool → Option Row
-  made w m r o = option_and_then (λ b. cond b (assigned m def.columns (view.update w).assignments r) (Some r)) o
+  abbrev new_row : Update → Meaning Ordered → Row → Option Bool → Option Row
+  new_row w m r o = option_and_then (λ b. cond b (assigned m def.columns (view.update w).assignments r) (Some r)) o
 
-  updates : (w : Update) → list_any (is_to_key def) w.assignments ≡ false → sought_key def params w.filter ≡ Some pk
-      → OneKey host params def kept pk (made_by def w)
+  updates : (w : Update) → list_any (is_to_key def) w.assignments ≡ false → sought_keys def params w.filter ≡ Some keys
+      → ByRow host params def kept keys (made_by def w)
   updates w spared sought = record {
-    keeps = λ most r o.
-        ap (λ o. option_map single (made w (meaning most host params) r o))
-        (other_rejects host bytes params most def kept w.filter pk sought [] r o);
-    stays = λ m r us own e. by m r us own (holds m (map view.plain w.filter) r) e;
+    keeps = λ most limit r among out.
+        ap (λ o. option_map single (new_row w (meaning most host params) r o))
+        (sought_rejects host params most limit bytes def keyed kept are w.filter keys sought r among out);
+    gains = λ r.
+        gains_map single (new_row w (sized host params) r (holds (sized host params) terms r)) (new_row w (exact host params) r (holds (exact host params) terms r))
+        (gains_then (wanted (sized host params) r) (wanted (exact host params) r) (wanted_gains r) (holds (sized host params) terms r) (holds (exact host params) terms r)
+        (holds_gains host params terms r));
+    few = λ r us e. few r us (holds (exact host params) terms r) e;
   } where
-    one : (r : Row) (us : List Row) → IsOwn def pk r → single r ≡ us → AllByRecursion (IsOwn def pk) us
-    one r us own is = subst (AllByRecursion (IsOwn def pk)) is (own, tt)
+    terms : List Ordered
+    terms = map view.plain w.filter
 
-    put : (r : Row) (us : List Row) → IsOwn def pk r → (o : Option (List Value))
-        → option_map single (option_map (λ vs. put_all def.columns (places w) vs r) o) ≡ Some us → AllByRecursion (IsOwn def pk) us
-    put r us own None e = absurd cc
-    put r us own (Some vs) e =
-        one (put_all def.columns (places w) vs r) us (key_stays def (places w) vs r (of_places w.assignments ∙ spared) ∙ own) cc
+    values : Meaning Ordered → Row → Option (List Value)
+    values m r = each (λ a. m.value a.expr r) (view.update w).assignments
 
-    by : (m : Meaning Ordered) (r : Row) (us : List Row) → IsOwn def pk r → (o : Option Bool)
-        → option_map single (made w m r o) ≡ Some us → AllByRecursion (IsOwn def pk) us
-    by m r us own None e = absurd cc
-    by m r us own (Some true) e = put r us own (each (λ a. m.value a.expr r) (view.update w).assignments) e
-    by m r us own (Some false) e = one r us own cc
+    wanted : Meaning Ordered → Row → Bool → Option Row
+    wanted m r b = cond b (assigned m def.columns (view.update w).assignments r) (Some r)
 
-pub deletes_by_key : {X : Type 0} → DeletesByKey X
-deletes_by_key host params def site kept w pk result changes_in bytes keyed defaults are of sought c =
+    values_gain : (r : Row) → Gains (values (sized host params) r) (values (exact host params) r)
+    values_gain r =
+        by_gather (λ a. option_map single ((sized host params).value a.expr r)) (λ a. option_map single ((exact host params).value a.expr r))
+        (λ a. gains_map single ((sized host params).value a.expr r) ((exact host params).value a.expr r) (value_gains host params a.expr r)) (view.update w).assignments
+
+    wanted_gains : (r : Row) (b : Bool) → Gains (wanted (sized host params) r b) (wanted (exact host params) r b)
+    wanted_gains r true =
+        gains_map (λ vs. put_all def.columns (places w) vs r) (values (sized host params) r) (values (exact host params) r) (values_gain r)
+    wanted_gains r false = λ u h. h
+
+    own : (r u : Row) (us : List Row) → key_of def u ≡ key_of def r → single u ≡ us → IsAtMostOne (key_of def) (key_of def r) us
+    own r u us key is = inr (u, sym is, key)
+
+    put : (r : Row) (us : List Row) (o : Option (List Value)) → option_map single (option_map (λ vs. put_all def.columns (places w) vs r) o) ≡ Some us
+        → IsAtMostOne (key_of def) (key_of def r) us
+    put r us None e = absurd cc
+    put r us (Some vs) e =
+        own r (put_all def.columns (places w) vs r) us (key_stays def (places w) vs r (of_places w.assignments ∙ spared)) (some_is (single (put_all def.columns (places w) vs r)) us e)
+
+    few : (r : Row) (us : List Row) (o : Option Bool) → option_map single (new_row w (exact host params) r o) ≡ Some us → IsAtMostOne (key_of def) (key_of def r) us
+    few r us None e = absurd cc
+    few r us (Some true) e = put r us (values (exact host params) r) e
+    few r us (Some false) e = own r r us refl (some_is (single r) us e)
+
+pub deletes_by_keys : {X : Type 0} → DeletesByKeys X
+deletes_by_keys host params def site kept w keys result changes_in bytes keyed defaults are of sought c =
     let stage : List Change → TableDef → Stage (List Row) = λ cs d m. gather (left_by w m) (rows cs d) in
     subst (λ d. Changes host params def site kept (stage kept d) result changes_in) (sym of)
-    (all_makes host params def keyed defaults kept are pk (left_by w) (deletes host bytes params def kept pk w sought)
+    (all_makes host params def keyed defaults kept are keys (left_by w) (deletes host bytes params def keyed kept are keys w sought)
     site result changes_in
-    (subst (λ d. Changes host params def site (of_key def pk kept) (stage (of_key def pk kept) d) result changes_in) of c))
+    (subst (λ d. Changes host params def site (of_keys def keys kept) (stage (of_keys def keys kept) d) result changes_in) of c))
 
-pub updates_by_key : {X : Type 0} → UpdatesByKey X
-updates_by_key host params def site kept w pk result changes_in bytes keyed defaults are of spared sought c =
+pub updates_by_keys : {X : Type 0} → UpdatesByKeys X
+updates_by_keys host params def site kept w keys result changes_in bytes keyed defaults are of spared sought c =
     let stage : List Change → TableDef → Stage (List Row) = λ cs d m. wanted_by_update m d.columns (view.update w) (rows cs d) in
     subst (λ d. Changes host params def site kept (stage kept d) result changes_in) (sym of)
-    (all_makes host params def keyed defaults kept are pk (made_by def w)
-    (updates host bytes params def kept pk w (subst (λ d. list_any (is_to_key d) w.assignments ≡ false) of spared) sought)
+    (all_makes host params def keyed defaults kept are keys (made_by def w)
+    (updates host bytes params def keyed kept are keys w (subst (λ d. list_any (is_to_key d) w.assignments ≡ false) of spared) sought)
     site result changes_in
-    (subst (λ d. Changes host params def site (of_key def pk kept) (stage (of_key def pk kept) d) result changes_in) of c))
+    (subst (λ d. Changes host params def site (of_keys def keys kept) (stage (of_keys def keys kept) d) result changes_in) of c))

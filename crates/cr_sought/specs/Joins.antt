@@ -1,6 +1,6 @@
 -- A join of which a table is looked up by the keys that its terms tell beside the rows of tables further left. Source: this
 -- project's own.
-use Rattle.std.specs.Prelude.{◌≡◌, ◌⊎◌, ℕ, ◌+◌, nat_le, Bool, true, false, not, ◌&&◌, ◌||◌, cond, List, [], ◌∷◌, ◌++◌, length, map, Option, Some}
+use Rattle.std.specs.Prelude.{◌≡◌, ◌⊎◌, ℕ, ◌+◌, nat_le, Bool, true, false, not, ◌||◌, cond, List, [], ◌∷◌, ◌++◌, length, Option, Some}
 use Rattle.std.specs.List.{list_all, AllByRecursion}
 use Rattle.cr_value.specs.declared.value.Value.{Value}
 use Rattle.cr_lattice.specs.declared.change.Change.{Change}
@@ -15,11 +15,12 @@ use Rattle.cr_scalar.specs.Host.{Host}
 use Rattle.cr_bags.specs.Bags.{single}
 use Rattle.cr_query.specs.Query.{Row, answer, nulls}
 use Rattle.cr_meaning.specs.View as view
-use Rattle.cr_meaning.specs.Meaning.{meaning}
+use Rattle.cr_meaning.specs.Meaning.{IsLimit, meaning}
 use Rattle.cr_exec.specs.Equalities.{OrdersBytes}
 use Rattle.cr_touched.specs.Parts.{is_key_of, part}
 use Rattle.cr_touched.specs.Shown.{AreKeptOf}
 use Rattle.cr_sought.specs.declared.joined.Partner.{Partner}
+use Rattle.cr_sought.specs.Lists.{listed_keys}
 use Rattle.cr_sought.specs.Sought.{joined_keys}
 
 abbrev pub width : Joined → ℕ
@@ -70,6 +71,10 @@ partners js ts = no_row ∷ partners_from 0 js ts
 abbrev pub is_safe : Joined → Bool
 is_safe j = not j.is_left || list_all quiet j.on
 
+-- the ON of a join never faults, whatever brings the table
+abbrev pub has_quiet_on : Joined → Bool
+has_quiet_on j = list_all quiet j.on
+
 -- the terms by which rows of a table may be left out of a join: its ON, and WHERE unless a LEFT JOIN brings it
 abbrev pub MayLeaveOut : Query → Joined → List Expr → Type 0
 MayLeaveOut q j terms = (terms ≡ j.on) ⊎ ((j.is_left ≡ false) × (terms ≡ q.filter))
@@ -84,5 +89,16 @@ JoinsByKeys =
     → OrdersBytes host → has_key def ≡ true → AreKeptOf def kept
     → q.joined ≡ before ++ (j ∷ after) → list_all is_safe q.joined ≡ true → AreWide before front → MayLeaveOut q j terms
     → joined_keys (widths before) def params terms (partners before front) ≡ Some keys
+    → answer (meaning most host params) (view.query q) (front ++ (rows kept def ∷ back))
+    ≡ answer (meaning most host params) (view.query q) (front ++ (rows (part def.name (is_key_of keys) kept) def ∷ back))
+
+-- So it is over what is kept of the keys that a list in WHERE tells, of a table that no LEFT JOIN brings, where no ON can fault.
+abbrev pub JoinsByList : Type 0
+JoinsByList =
+    (host : Host) (params : List Value) (most : Option ℕ) (def : TableDef) (q : Query) (before : List Joined) (j : Joined)
+    (after : List Joined) (front : List (List Row)) (kept : List Change) (back : List (List Row)) (keys : List (List ℕ))
+    → IsLimit most → OrdersBytes host → has_key def ≡ true → AreKeptOf def kept
+    → q.joined ≡ before ++ (j ∷ after) → list_all has_quiet_on q.joined ≡ true → AreWide before front → j.is_left ≡ false
+    → listed_keys (widths before) def params q.filter ≡ Some keys
     → answer (meaning most host params) (view.query q) (front ++ (rows kept def ∷ back))
     ≡ answer (meaning most host params) (view.query q) (front ++ (rows (part def.name (is_key_of keys) kept) def ∷ back))

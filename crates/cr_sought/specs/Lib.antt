@@ -1,4 +1,5 @@
 pub mod Sought
+pub mod Lists
 pub mod Laws
 pub mod Writes
 pub mod Bounds

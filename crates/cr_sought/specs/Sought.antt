@@ -25,6 +25,8 @@ use Rattle.cr_scalar.specs.Numbers.{is_null}
 use Rattle.cr_bags.specs.Bags.{gather, single}
 use Rattle.cr_sought.specs.declared.beside.Beside.{Beside as Borrowed}
 use Rattle.cr_sought.specs.declared.joined.Partner.{Partner}
+use Rattle.cr_sought.specs.declared.telling.Given.{Given}
+use Rattle.cr_sought.specs.declared.telling.Telling.{Telling}
 
 -- ---- operands
 
@@ -110,15 +112,27 @@ pinned b params (e ∷ es) at = option_or (pin b params at e) (pinned b params e
 
 -- ---- the key
 
--- the value that the key column at a place of the key is pinned to, if a column stands there; the columns of the table begin
--- at this place of a combination
-abbrev pub sought_part : Beside → ℕ → TableDef → List Value → List Expr → ℕ → Option (List Value)
-sought_part b base def params terms place =
-    option_map_or (λ at. option_map single (pinned b params terms (base + at))) (position (stands_at place) def.columns) (Some [])
+-- what is told of the columns of a combination, where that at a place has this value
+abbrev pub given : ℕ → Value → (ℕ → Option Value) → ℕ → Option Value
+given place v told at = cond (at == place) (Some v) (told at)
 
--- the values that all key columns are pinned to, in the order of their places in the key
-abbrev pub sought_values : Beside → ℕ → TableDef → List Value → List Expr → Option (List Value)
-sought_values b base def params terms = gather (sought_part b base def params terms) key_places
+abbrev pub given_first : Option Given → (ℕ → Option Value) → ℕ → Option Value
+given_first None told at = told at
+given_first (Some g) told at = given g.at g.value.now told at
+
+-- the value that a column is told to have: given, or else pinned
+abbrev pub tells : Telling → ℕ → Option Value
+tells t = given_first t.given (pinned (standing t.beside) t.params.now t.terms.now)
+
+-- the value that the key column at a place of the key is told to have, if a column stands there; the columns of the table begin
+-- at this place of a combination
+abbrev pub sought_part : (ℕ → Option Value) → ℕ → TableDef → ℕ → Option (List Value)
+sought_part told base def place =
+    option_map_or (λ at. option_map single (told (base + at))) (position (stands_at place) def.columns) (Some [])
+
+-- the values that all key columns are told to have, in the order of their places in the key
+abbrev pub sought_values : (ℕ → Option Value) → ℕ → TableDef → Option (List Value)
+sought_values told base def = gather (sought_part told base def) key_places
 
 -- some values, none of them NULL
 abbrev pub can_pack : List Value → Bool
@@ -128,10 +142,6 @@ can_pack vs = nat_lt 0 (length vs) && not (list_any is_null vs)
 abbrev pub key_from : List Value → Option (List ℕ)
 key_from vs = cond (can_pack vs && nat_le (length (packed vs)) size_limit) (Some (packed vs)) None
 
--- The packed key of the only row of the table on which the terms can be true, where they pin each column of its key.
-unfoldable pub sought_key : TableDef → List Value → List Expr → Option (List ℕ)
-sought_key def params terms = option_and_then key_from (sought_values alone 0 def params terms)
-
 -- the key of the row that is joined where its key has these values: of none where one is NULL
 abbrev pub joined_key : List Value → Option (Option (List ℕ))
 joined_key vs = cond (list_any is_null vs) (Some None) (option_map Some (key_from vs))
@@ -140,9 +150,13 @@ abbrev pub key_or_none : Option (List ℕ) → List (List ℕ)
 key_or_none None = []
 key_or_none (Some pk) = single pk
 
+-- the key of the rows of a table whose columns are told, or that there is none
+abbrev pub keys_told : (ℕ → Option Value) → ℕ → TableDef → Option (List (List ℕ))
+keys_told told base def = option_map key_or_none (option_and_then joined_key (sought_values told base def))
+
 -- The keys of the rows of a table that can be joined with a row of another, where the terms tell them.
 abbrev pub keys_beside : ℕ → TableDef → List Value → List Expr → Beside → Option (List (List ℕ))
-keys_beside base def params terms b = option_map key_or_none (option_and_then joined_key (sought_values b base def params terms))
+keys_beside base def params terms b = keys_told (pinned b params terms) base def
 
 -- with each row of another
 abbrev pub keys_by : ℕ → TableDef → List Value → List Expr → Partner → Option (List (List ℕ))

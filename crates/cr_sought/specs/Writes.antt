@@ -1,4 +1,4 @@
--- An UPDATE or a DELETE whose terms tell the key of their row looks at what is kept of that key, and no more. Source: this
+-- An UPDATE or a DELETE whose terms tell the keys of its rows looks at what is kept of these, and no more. Source: this
 -- project's own.
 use Rattle.std.specs.Prelude.{◌≡◌, ℕ, true, false, List, Some, Result}
 use Rattle.cr_value.specs.declared.value.Value.{Value}
@@ -18,8 +18,9 @@ use Rattle.cr_world.specs.declared.refusal.Refusal.{Refusal}
 use Rattle.cr_touched.specs.Shown.{AreKeptOf}
 use Rattle.cr_changed.specs.Changed.{Changes}
 use Rattle.cr_exec.specs.Equalities.{OrdersBytes}
-use Rattle.cr_sought.specs.Sought.{sought_key, assigns_key}
-use Rattle.cr_sought.specs.Laws.{of_key}
+use Rattle.cr_sought.specs.Lists.{sought_keys}
+use Rattle.cr_sought.specs.Sought.{assigns_key}
+use Rattle.cr_sought.specs.Laws.{of_keys}
 
 -- the rows that a write wants of its table where this is kept
 abbrev pub update_over : List Change → Update → Stage (List Row)
@@ -28,22 +29,22 @@ update_over kept w m = wanted_by_update m w.relation.definition.columns (view.up
 abbrev pub delete_over : List Change → Delete → Stage (List Row)
 delete_over kept w m = wanted_by_delete m (view.delete w) (rows kept w.relation.definition)
 
--- What a DELETE makes over what is kept of the key that its terms tell, changes or a refusal, it makes over all.
-abbrev pub DeletesByKey : Type 0 → Type 0
-DeletesByKey X =
-    (host : Host) (params : List Value) (def : TableDef) (site : List ℕ) (kept : List Change) (w : Delete) (pk : List ℕ)
+-- What a DELETE makes over what is kept of the keys that its terms tell, changes or a refusal, it makes over all.
+abbrev pub DeletesByKeys : Type 0 → Type 0
+DeletesByKeys X =
+    (host : Host) (params : List Value) (def : TableDef) (site : List ℕ) (kept : List Change) (w : Delete) (keys : List (List ℕ))
     (result : Result X Refusal) (changes_in : X → List Change)
     → OrdersBytes host → has_key def ≡ true → has_defaults def ≡ true → AreKeptOf def kept
-    → w.relation.definition ≡ def → sought_key def params w.filter ≡ Some pk
-    → Changes host params def site (of_key def pk kept) (delete_over (of_key def pk kept) w) result changes_in
+    → w.relation.definition ≡ def → sought_keys def params w.filter ≡ Some keys
+    → Changes host params def site (of_keys def keys kept) (delete_over (of_keys def keys kept) w) result changes_in
     → Changes host params def site kept (delete_over kept w) result changes_in
 
 -- So it is with an UPDATE that leaves the key columns as they are.
-abbrev pub UpdatesByKey : Type 0 → Type 0
-UpdatesByKey X =
-    (host : Host) (params : List Value) (def : TableDef) (site : List ℕ) (kept : List Change) (w : Update) (pk : List ℕ)
+abbrev pub UpdatesByKeys : Type 0 → Type 0
+UpdatesByKeys X =
+    (host : Host) (params : List Value) (def : TableDef) (site : List ℕ) (kept : List Change) (w : Update) (keys : List (List ℕ))
     (result : Result X Refusal) (changes_in : X → List Change)
     → OrdersBytes host → has_key def ≡ true → has_defaults def ≡ true → AreKeptOf def kept
-    → w.relation.definition ≡ def → assigns_key w ≡ false → sought_key def params w.filter ≡ Some pk
-    → Changes host params def site (of_key def pk kept) (update_over (of_key def pk kept) w) result changes_in
+    → w.relation.definition ≡ def → assigns_key w ≡ false → sought_keys def params w.filter ≡ Some keys
+    → Changes host params def site (of_keys def keys kept) (update_over (of_keys def keys kept) w) result changes_in
     → Changes host params def site kept (update_over kept w) result changes_in

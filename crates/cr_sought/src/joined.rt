@@ -1,16 +1,17 @@
 //! The keys of the rows of a table that can be joined with rows of others.
 
-ghost use Rattle.std.specs.Prelude.{◌≡◌, ◌≤◌, ◌++◌, IfOk, length};
+ghost use Rattle.std.specs.Prelude.{◌≡◌, ◌++◌, IfOk};
 ghost use Rattle.std.specs.List.{list_all, list_any};
 ghost use Rattle.std.specs.Option.{option_map};
 ghost use Rattle.cr_bags.specs.Bags.{single};
 ghost use Rattle.cr_term.specs.Terms.{quiet};
 ghost use Rattle.cr_query.specs.Query.{nulls};
-ghost use Rattle.cr_sought.specs.Joins.{is_safe, no_row, partner, partner_rows};
-ghost use Rattle.cr_sought.specs.Sought.{joined_key, joined_keys, keys_beside, keys_by, key_or_none, standing};
+ghost use Rattle.cr_sought.specs.Joins.{has_quiet_on, is_safe, no_row, partner, partner_rows};
+ghost use Rattle.cr_sought.specs.Sought.{joined_keys, keys_beside, keys_by, key_or_none, standing};
 
 use crate::beside::Beside;
-use crate::key::{has_null, key_from, sought_values};
+use crate::key::{key_told, push_key};
+use crate::telling::Telling;
 use cr_expr::quiet::is_quiet;
 use cr_lattice::table::{Items, Row, TableDef};
 use cr_term::expr::Expr;
@@ -41,55 +42,28 @@ pub struct Lookup<'a> {
     pub params: &'a [Value],
 }
 
-// The key of the row that is joined where its key has these values: of none where one is NULL; `None` where they make no key.
-fn joined_key(alloc: Global, values: &[Value]) -> Result<Option<Option<Bytes>>, AllocError>
-    requires { length values.now ≤ 8 }
-    ensures { IfOk result (λ o. o ≡ joined_key values.now) }
-{
-    if has_null(values) {
-        return Ok(Some(None));
-    }
-    match key_from(alloc, values)? {
-        Some(key) => Ok(Some(Some(key))),
-        None => Ok(None),
-    }
-}
-
 // The keys of the rows that can be joined with a row of another table; `None` where the terms do not tell them.
-fn key_beside(
+fn key_beside<'a>(
     alloc: Global,
-    lookup: &Lookup<'_>,
-    beside: &Beside<'_>,
+    lookup: &Lookup<'a>,
+    beside: &Beside<'a>,
 ) -> Result<Option<Option<Bytes>>, AllocError>
     ensures { IfOk result (λ o. option_map key_or_none o ≡ keys_beside lookup.now.base lookup.now.definition.now lookup.now.params.now lookup.now.terms.now (standing beside.now)) }
 {
-    match sought_values(
-        alloc,
-        beside,
-        lookup.base,
-        lookup.definition,
-        lookup.params,
-        lookup.terms,
-    )? {
-        Some(values) => joined_key(alloc, &values),
-        None => Ok(None),
-    }
-}
-
-fn push_key(keys: &mut Vec<Bytes>, key: Option<Bytes>) -> Result<(), AllocError>
-    ensures { IfOk result (λ u. keys.new.items ≡ keys.old.items ++ key_or_none key) }
-{
-    if let Some(key) = key {
-        keys.push(key)?;
-    }
-    Ok(())
+    let telling = Telling {
+        beside: *beside,
+        params: lookup.params,
+        terms: lookup.terms,
+        given: None,
+    };
+    key_told(alloc, &telling, lookup.base, lookup.definition)
 }
 
 // The same with each row of another table.
-fn keys_by(
+fn keys_by<'a>(
     alloc: Global,
-    lookup: &Lookup<'_>,
-    partner: &Partner,
+    lookup: &Lookup<'a>,
+    partner: &'a Partner,
 ) -> Result<Option<Vec<Bytes>>, AllocError>
     ensures { IfOk result (λ o. option_map (λ v. v.items) o ≡ keys_by lookup.now.base lookup.now.definition.now lookup.now.params.now lookup.now.terms.now partner.now) }
 {
@@ -113,10 +87,10 @@ fn keys_by(
 /// compared byte by byte and with the column's value as it is. A NULL joins no row.
 ///
 /// Fails for want of memory alone.
-pub fn joined_keys(
+pub fn joined_keys<'a>(
     alloc: Global,
-    lookup: &Lookup<'_>,
-    partners: &[Partner],
+    lookup: &Lookup<'a>,
+    partners: &'a [Partner],
 ) -> Result<Option<Vec<Bytes>>, AllocError>
     ensures { IfOk result (λ o. option_map (λ v. v.items) o ≡ joined_keys lookup.now.base lookup.now.definition.now lookup.now.params.now lookup.now.terms.now partners.now) }
 {
@@ -134,11 +108,18 @@ fn are_quiet(terms: &[Expr]) -> bool
     terms.iter().all(|term| is_quiet(term))
 }
 
+/// Whether no term of an ON can have a fault.
+pub fn has_quiet_on(joined: &Joined) -> bool
+    ensures { result ≡ has_quiet_on joined.now }
+{
+    are_quiet(joined.on.as_slice())
+}
+
 /// Whether a table that a LEFT JOIN brings is brought by an ON that never faults; any other is.
 pub fn is_safe(joined: &Joined) -> bool
     ensures { result ≡ is_safe joined.now }
 {
-    !joined.is_left || are_quiet(joined.on.as_slice())
+    !joined.is_left || has_quiet_on(joined)
 }
 
 // As many NULLs as a table has columns.

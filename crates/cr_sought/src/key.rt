@@ -1,17 +1,15 @@
 //! The key that the terms of a WHERE ask for.
 
-ghost use Rattle.std.specs.Prelude.{◌≡◌, ◌≤◌, ◌+◌, IfOk, length, position};
+ghost use Rattle.std.specs.Prelude.{◌≡◌, ◌≤◌, ◌+◌, ◌++◌, IfOk, length, position};
 ghost use Rattle.std.specs.List.{list_any};
 ghost use Rattle.std.specs.Option.{option_map};
 ghost use Rattle.cr_lattice.specs.Check.{stands_at};
 ghost use Rattle.cr_scalar.specs.Numbers.{is_null};
-ghost use Rattle.cr_sought.specs.Sought.{assigns_key, can_pack, is_to_key, key_from, sought_key, sought_values, standing};
+ghost use Rattle.cr_sought.specs.Sought.{assigns_key, can_pack, is_of_key, is_to_key, joined_key, key_from, key_or_none, keys_told, sought_values, tells};
 
-use crate::beside::Beside;
-use crate::pin::pinned;
+use crate::telling::{Telling, told};
 use cr_lattice::table::{ColumnDef, TableDef};
 use cr_scalar::compare::is_null;
-use cr_term::expr::Expr;
 use cr_term::query::{Assignment, Update};
 use cr_value::packing::{PackError, pack};
 use cr_value::text::Bytes;
@@ -35,23 +33,21 @@ fn place_from(base: usize, at: usize) -> Result<usize, AllocError>
     }
 }
 
-// The values that the terms pin all key columns to beside a row, in the order of the key; the table's columns begin at a place
-// of a combination.
+// The values that all key columns are told to have, in the order of the key; the table's columns begin at a place of a
+// combination.
 pub(crate) fn sought_values(
     alloc: Global,
-    beside: &Beside<'_>,
+    telling: &Telling<'_, '_>,
     base: usize,
     definition: &TableDef,
-    params: &[Value],
-    terms: &[Expr],
 ) -> Result<Option<Vec<Value>>, AllocError>
-    ensures { IfOk result (λ o. option_map (λ v. v.items) o ≡ sought_values (standing beside.now) base definition.now params.now terms.now) }
+    ensures { IfOk result (λ o. option_map (λ v. v.items) o ≡ sought_values (tells telling.now) base definition.now) }
 {
     let mut values = Vec::new(alloc);
     for place in 1..9 {
         if let Some(at) = key_column(definition.columns.as_slice(), place) {
             let column = place_from(base, at)?;
-            match pinned(alloc, beside, params, terms, column)? {
+            match told(alloc, telling, column)? {
                 Some(value) => values.push(value)?,
                 None => return Ok(None),
             }
@@ -88,23 +84,53 @@ pub(crate) fn key_from(alloc: Global, values: &[Value]) -> Result<Option<Bytes>,
     }
 }
 
-/// The packed key of the only row of a table on which the terms can be true; `None` where they do not tell it. They tell
-/// it where for each column of the key one of them is `column = constant` or `constant = column`, compared byte by byte and
-/// with the column's value as it is, and the constants make a key: none is NULL, and packed they have 1,000,000 bytes at most.
-///
-/// `params` are the parameters' values, from number 1 on. Fails for want of memory alone.
-pub fn sought_key(
-    alloc: Global,
-    definition: &TableDef,
-    terms: &[Expr],
-    params: &[Value],
-) -> Result<Option<Bytes>, AllocError>
-    ensures { IfOk result (λ o. o ≡ sought_key definition.now params.now terms.now) }
+// The key of the row that can be wanted where its key has these values: of none where one is NULL; `None` where they make no key.
+fn joined_key(alloc: Global, values: &[Value]) -> Result<Option<Option<Bytes>>, AllocError>
+    requires { length values.now ≤ 8 }
+    ensures { IfOk result (λ o. o ≡ joined_key values.now) }
 {
-    let alone = Beside { start: 0, row: &[] };
-    match sought_values(alloc, &alone, 0, definition, params, terms)? {
-        Some(values) => key_from(alloc, &values),
+    if has_null(values) {
+        return Ok(Some(None));
+    }
+    match key_from(alloc, values)? {
+        Some(key) => Ok(Some(Some(key))),
         None => Ok(None),
+    }
+}
+
+/// The key of the rows whose key columns have the values that they are told to have: of none where one is NULL; `None` where not all
+/// are told, or they make no key. The table's columns begin at a place of a combination. Fails for want of memory alone.
+pub(crate) fn key_told(
+    alloc: Global,
+    telling: &Telling<'_, '_>,
+    base: usize,
+    definition: &TableDef,
+) -> Result<Option<Option<Bytes>>, AllocError>
+    ensures { IfOk result (λ o. option_map key_or_none o ≡ keys_told (tells telling.now) base definition.now) }
+{
+    match sought_values(alloc, telling, base, definition)? {
+        Some(values) => joined_key(alloc, &values),
+        None => Ok(None),
+    }
+}
+
+/// Adds a key, if there is one.
+pub(crate) fn push_key(keys: &mut Vec<Bytes>, key: Option<Bytes>) -> Result<(), AllocError>
+    ensures { IfOk result (λ u. keys.new.items ≡ keys.old.items ++ key_or_none key) }
+{
+    if let Some(key) = key {
+        keys.push(key)?;
+    }
+    Ok(())
+}
+
+/// Whether the column at a place is a key column.
+pub(crate) fn is_of_key(definition: &TableDef, at: usize) -> bool
+    ensures { result ≡ is_of_key definition.now at }
+{
+    match definition.columns.as_slice().get(at) {
+        Some(column) => column.key.is_some(),
+        None => false,
     }
 }
 
@@ -112,10 +138,7 @@ pub fn sought_key(
 fn is_to_key(definition: &TableDef, assignment: &Assignment) -> bool
     ensures { result ≡ is_to_key definition.now assignment.now }
 {
-    match definition.columns.as_slice().get(assignment.column) {
-        Some(column) => column.key.is_some(),
-        None => false,
-    }
+    is_of_key(definition, assignment.column)
 }
 
 /// Whether an UPDATE gives a value to a key column of its table.

@@ -1,13 +1,13 @@
-//! Laws of statements that look at one key. The contracts are the theorems; nothing runs.
+//! Laws of statements that look at some keys. The contracts are the theorems; nothing runs.
 
 ghost use Rattle.cr_sought.specs.Bounds.{AnswersAbove};
-ghost use Rattle.cr_sought.specs.Joins.{JoinsByKeys};
-ghost use Rattle.cr_sought.specs.Laws.{AnswersByKey, KeysAreKept};
-ghost use Rattle.cr_sought.specs.Writes.{DeletesByKey, UpdatesByKey};
+ghost use Rattle.cr_sought.specs.Joins.{JoinsByKeys, JoinsByList};
+ghost use Rattle.cr_sought.specs.Laws.{AnswersByKeys, KeysAreKept};
+ghost use Rattle.cr_sought.specs.Writes.{DeletesByKeys, UpdatesByKeys};
 
-/// A SELECT of one table answers the same over what is kept of the key that its terms tell as over all.
-pub fn answers_by_key()
-    ensures { AnswersByKey }
+/// A SELECT of one table answers the same over what is kept of the keys that its terms tell as over all.
+pub fn answers_by_keys()
+    ensures { AnswersByKeys }
 {}
 
 /// A SELECT of one table answers the same over the rows that are above the bound that its terms tell as over all.
@@ -21,17 +21,22 @@ pub fn joins_by_keys()
     ensures { JoinsByKeys }
 {}
 
-/// What is kept of one key is kept like the whole.
+/// A SELECT answers the same over what is kept of the keys that a list tells as over all that is kept of a table.
+pub fn joins_by_list()
+    ensures { JoinsByList }
+{}
+
+/// What is kept of some keys is kept like the whole.
 pub fn keys_are_kept()
     ensures { KeysAreKept }
 {}
 
-/// What a DELETE makes over what is kept of the key that its terms tell, it makes over all.
-pub fn deletes_by_key<X>()
-    ensures { DeletesByKey X }
+/// What a DELETE makes over what is kept of the keys that its terms tell, it makes over all.
+pub fn deletes_by_keys<X>()
+    ensures { DeletesByKeys X }
 {}
 
-/// What an UPDATE of no key column makes over what is kept of the key that its terms tell, it makes over all.
-pub fn updates_by_key<X>()
-    ensures { UpdatesByKey X }
+/// What an UPDATE of no key column makes over what is kept of the keys that its terms tell, it makes over all.
+pub fn updates_by_keys<X>()
+    ensures { UpdatesByKeys X }
 {}

@@ -1,4 +1,4 @@
-//! Statements that name the key of their row look at what is kept of that key, and no more; those that want a column above an
+//! Statements that name the keys of their rows look at what is kept of these, and no more; those that want a column above an
 //! integer need no row that isn't.
 #![tactic(auto)]
 
@@ -7,4 +7,6 @@ pub mod bound;
 pub mod joined;
 pub mod key;
 pub mod laws;
+pub mod listed;
 pub mod pin;
+mod telling;

@@ -26,19 +26,28 @@ const TABLES: [&str; 6] = [
     "INSERT INTO u VALUES(1, 2), (2, 3)",
 ];
 
-const STATEMENTS: [&str; 14] = [
+const STATEMENTS: [&str; 23] = [
     "SELECT name FROM t WHERE id = 2",
     "SELECT name FROM t WHERE 2 = id AND name = 'x'",
     "SELECT name FROM t WHERE id > 2",
+    "SELECT name FROM t WHERE id = NULL",
+    "SELECT name FROM t WHERE id IN (3, 1, 9)",
+    "SELECT name FROM t WHERE id IN (2, NULL) AND length(name) = 1",
+    "SELECT name FROM t WHERE length(name) = 1 AND id IN (2, NULL)",
+    "SELECT name FROM t WHERE id NOT IN (1, 2)",
     "SELECT t.name FROM u JOIN t ON t.id = u.t WHERE u.id = 1",
+    "SELECT t.name FROM u JOIN t ON t.id = u.t WHERE u.id IN (1, 7)",
     "SELECT t.name FROM u JOIN t ON t.id = u.t",
     "SELECT count(*) FROM crsql_changes WHERE db_version > 1",
     "UPDATE t SET name = 'd' WHERE id = 3",
     "UPDATE t SET name = 'd' WHERE id = 3",
+    "UPDATE t SET name = 'e' WHERE id IN (1, 2, 9)",
     "DELETE FROM t WHERE id = 9",
+    "DELETE FROM t WHERE id IN (8, 9)",
     "BEGIN",
     "INSERT INTO t VALUES(4, 'e')",
     "SELECT name FROM t WHERE id = 4",
+    "SELECT name FROM t WHERE id IN (3, 4)",
     "DELETE FROM t WHERE id = 4",
     "ROLLBACK",
 ];

@@ -1,4 +1,4 @@
-use Rattle.std.proofs.Common.{◌+◌, ◌<◌, ◌++◌, List, Option, Some, drop, length, sym, ap, subst, ◌∙◌, ℕ}
+use Rattle.std.proofs.Common.{◌+◌, List, Option, Some, drop, sym, ap, ◌∙◌, ℕ}
 use Rattle.std.specs.Option.{option_map}
 use Rattle.cr_bags.specs.Bags.{gather, joins}
 use Rattle.cr_query.specs.Query.{Row}

@@ -1,5 +1,0 @@
-use Rattle.cr_sought.proofs.Answers.{answers_by_key}
-use Rattle.cr_sought.proofs.laws.answers_by_key.Goals as goal
-
-pub returns : goal.returns
-returns c = answers_by_key

@@ -1,5 +1,0 @@
-use Rattle.cr_sought.proofs.Writes.{deletes_by_key}
-use Rattle.cr_sought.proofs.laws.deletes_by_key.Goals as goal
-
-pub returns : goal.returns
-returns g c = deletes_by_key
