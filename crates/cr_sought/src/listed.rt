@@ -25,7 +25,7 @@ const MOST_ITEMS: usize = 1000;
 /// The most bytes of a value.
 const SIZE_LIMIT: usize = 1_000_000;
 
-/// A column, by its place in the row, and the only values that it has where a term is true.
+/// A column, by its place in a combination, and the only values that it has where a term is true.
 #[derive(Drop)]
 struct Listed {
     at: usize,
@@ -147,8 +147,8 @@ fn keys_in(
 }
 
 /// The packed keys of the only rows of a table on which terms can be true, where a list tells them; `None` where none does. The
-/// first of the terms that can have a fault is `column IN (constants)` of a column of the key, with 1,000 literals or parameters
-/// at most, compared byte by byte and with the column's value as it is, and for each other column of the key one is
+/// first of the terms that isn't quiet (`is_quiet`) is `column IN (constants)` of a column of the key, with 1,000 literals or
+/// parameters at most, compared byte by byte and with the column's value as it is, and for each other column of the key one is
 /// `column = constant`, or turned round, compared in the same way. Of an item that is NULL there is no key.
 ///
 /// Fails for want of memory alone.
