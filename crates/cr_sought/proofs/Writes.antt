@@ -111,9 +111,6 @@ module _ (host : Host) (params : List Value) (def : TableDef) (keyed : has_key d
     few_of r None is = inl refl
     few_of r (Some us) is = by_row.few r us is
 
-  abbrev Gives_under : Option ℕ → Row → Type 0
-  Gives_under most = Gives (f (meaning most host params)) g
-
   same_exact : (r : Row) (us : List Row) → f (exact host params) r ≡ Some us → g r ≡ us
   same_exact r us e = ap (λ o. unwrap_or o []) e
 
