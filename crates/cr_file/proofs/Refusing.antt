@@ -8,10 +8,10 @@ use Rattle.cr_cells.specs.declared.store.StoreFault.TheVariants as fault
 use Rattle.cr_cells.specs.Calls.{IsRefusal}
 use Rattle.cr_cells.specs.Holding.{Holding}
 use Rattle.cr_store.specs.Making.{has_store}
-use Rattle.cr_store.specs.Opening.{IsHeld}
+use Rattle.cr_store.specs.Opening.{IsHeld, IsOpenError}
 use Rattle.cr_file.specs.declared.FileFault.{FileFault}
-use Rattle.cr_file.specs.declared.FileFault.TheVariants.{NoSite}
-use Rattle.cr_file.specs.Opening.{FailsToMake, FailsToOpen, IsOfDatabase, IsStoreOf}
+use Rattle.cr_file.specs.declared.FileFault.TheVariants.{NoSite, Unopened, Cells}
+use Rattle.cr_file.specs.Opening.{FailsInFile, FailsToMake, FailsToOpen, IsOfDatabase, IsStoreOf}
 
 apart : (P : Type 0) → ((P → ⊥) → ⊥) → (P → ⊥) → ⊥
 apart P f g = f g
@@ -39,13 +39,27 @@ of_database is_clean holding site db (Ok m) true e opens makes = λ clean. (db, 
 of_database is_clean holding site db (Ok m) false e opens makes = λ clean. (db, rw e (makes refl clean))
 of_database is_clean holding site db (Err f) b e opens makes = tt
 
-without_site : (site : Option (List ℕ)) (e : FileFault) → FailsToMake site e → e ≡ NoSite → site ≡ None
-without_site None e fails same = refl
-without_site (Some s) e fails same = absurd (subst (FailsToMake (Some s)) same fails)
+by_opening : (e : CellsError) → IsRefusal e → IsOpenError e
+by_opening error.Memory told = tt
+by_opening (error.Store fault.Taken) told = (let z : ⊥ = cc in absurd z)
+by_opening (error.Store fault.Damaged) told = tt
+by_opening (error.Store fault.Refused) told = tt
+by_opening error.VersionLimit told = told
 
--- that there is no site is told where there is none
-pub tells_no_site : {A : Type 0} (P Q : A → Type 0) (site : Option (List ℕ)) (result : Result A FileFault) (b : Bool) → (b ≡ true → MatchResult result P FailsToOpen) → (b ≡ false → MatchResult result Q (FailsToMake site))
-    → IfErr result (λ e. e ≡ NoSite → site ≡ None)
-tells_no_site P Q site (Ok m) b opens makes = tt
-tells_no_site P Q site (Err e) true opens makes = λ same. absurd (subst FailsToOpen same (opens refl))
-tells_no_site P Q site (Err e) false opens makes = λ same. without_site site e (makes refl) same
+opening_fails : (site : Option (List ℕ)) (e : FileFault) → FailsToOpen e → FailsInFile site e
+opening_fails site NoSite fails = absurd fails
+opening_fails site Unopened fails = absurd fails
+opening_fails site (Cells e) fails = fails
+
+making_fails : (site : Option (List ℕ)) (e : FileFault) → FailsToMake site e → FailsInFile site e
+making_fails None e same = subst (FailsInFile None) (sym same) refl
+making_fails (Some s) NoSite fails = absurd fails
+making_fails (Some s) Unopened fails = absurd fails
+making_fails (Some s) (Cells e) fails = by_opening e fails
+
+-- what is told of a file is told of the database that it is, whether that has tables of a store or not
+pub tells_why : {A : Type 0} (P Q : A → Type 0) (site : Option (List ℕ)) (result : Result A FileFault) (b : Bool) → (b ≡ true → MatchResult result P FailsToOpen) → (b ≡ false → MatchResult result Q (FailsToMake site))
+    → IfErr result (FailsInFile site)
+tells_why P Q site (Ok m) b opens makes = tt
+tells_why P Q site (Err e) true opens makes = opening_fails site e (opens refl)
+tells_why P Q site (Err e) false opens makes = making_fails site e (makes refl)

@@ -21,6 +21,12 @@ FailsToMake (Some site) NoSite = ⊥
 FailsToMake (Some site) Unopened = ⊥
 FailsToMake (Some site) (Cells e) = IsRefusal e
 
+-- why a file gives no store: there is no site for a new one, it is no database, or what making and opening tell
+abbrev pub FailsInFile : Option (List ℕ) → FileFault → Type 0
+FailsInFile site NoSite = site ≡ None
+FailsInFile site Unopened = Unit {0}
+FailsInFile site (Cells e) = IsOpenError e
+
 -- a new store of the site
 abbrev pub IsStoreOf : Option (List ℕ) → Holding → Type 0
 IsStoreOf None h = ⊥

@@ -7,13 +7,14 @@ ghost use Rattle.sqlite.specs.Held.{state};
 ghost use Rattle.sqlite.specs.Files.{over_files};
 ghost use Rattle.cr_rows.specs.Schema.{no_schema};
 ghost use Rattle.cr_cells.specs.declared.store.CellsError.TheVariants as refusal;
-ghost use Rattle.cr_cells.specs.declared.store.StoreFault.TheVariants.{Taken, Refused};
+ghost use Rattle.cr_cells.specs.declared.store.StoreFault.TheVariants.{Taken, Damaged, Refused};
 ghost use Rattle.cr_cells.specs.Calls.{IsRefusal};
 ghost use Rattle.cr_cells.specs.Holding.{empty_holding};
 ghost use Rattle.cr_store.specs.Making.{has_store};
 ghost use Rattle.cr_store.specs.Opening.{IsHeld, IsOpenError};
+ghost use Rattle.cr_store.specs.Schema.{schema_of};
 ghost use Rattle.cr_file.specs.declared.FileFault.TheVariants.{NoSite};
-ghost use Rattle.cr_file.specs.Opening.{FailsToMake, FailsToOpen, IsOfDatabase, IsStoreOf};
+ghost use Rattle.cr_file.specs.Opening.{FailsInFile, FailsToMake, FailsToOpen, IsOfDatabase, IsStoreOf};
 
 use cr_cells::store::{Cells, CellsError};
 use cr_lattice::change::{Change, Site};
@@ -37,10 +38,10 @@ pub enum FileFault {
     /// There is no store, and no site to make one with.
     #[error("the file holds no store, and no site was given to make one with")]
     NoSite,
-    /// The file can't be opened as a database.
+    /// The file can't be opened as a database: it is none, it is in use, or memory ran out.
     #[error("the file can not be opened as a database")]
     Unopened,
-    /// The store refuses, or memory ran out.
+    /// The store refuses, or memory ran out over its database.
     #[error(transparent)]
     Cells(CellsError),
 }
@@ -121,6 +122,14 @@ impl Cells for FileCells {
     }
 }
 
+// Whether a path leads to no file, or to one without a byte.
+fn is_blank(rt: &HostRuntime, path: &str) -> bool {
+    match fs::metadata(rt, path) {
+        Ok(found) => found.len() == 0,
+        Err(_) => true,
+    }
+}
+
 impl FileCells {
     /// A store of a site that holds nothing, in a database that has nothing.
     ///
@@ -155,6 +164,8 @@ impl FileCells {
         ensures held { IfOk result (λ m. ⟦<FileCells as Cells>⟧.is_clean m → IsHeld (state over_files conn).now (⟦<FileCells as Cells>⟧.holding m)) }
         ensures clean { IfOk result (λ m. ⟦<FileCells as Cells>⟧.is_honest m → ⟦<FileCells as Cells>⟧.is_clean m) }
         ensures busy { (state over_files conn).in_transaction ≡ true → result ≡ Err (refusal.Store Refused) }
+        ensures foreign { (state over_files conn).in_transaction ≡ false → ((format : _) → (state over_files conn).now.schema ≢ schema_of format)
+            → result ≡ Err (refusal.Store Damaged) }
         ensures why { IfErr result IsOpenError }
     {
         match Store::open(alloc, conn) {
@@ -195,14 +206,15 @@ impl FileCells {
     /// there becomes a new database.
     ///
     /// # Errors
-    /// `NoSite` where a store is to be made and there is no site; then no file is made. `Unopened` where the file can't be opened
-    /// as a database. `Cells` with what `open` and `create` tell, as where its store is damaged or it holds something else.
+    /// `NoSite` where a store is to be made and there is no site; then no file is made, and one without a byte stays so.
+    /// `Unopened` where the file can't be opened as a database, for want of memory, too. `Cells` with what `open` and `create` tell,
+    /// as where its store is damaged or it holds something else. To be opened, a database is left in WAL mode.
     pub fn in_file(rt: &HostRuntime, path: &str, site: Option<Site>) -> Result<FileCells, FileFault>
         ensures holds { IfOk result (λ m. ⟦<FileCells as Cells>⟧.is_clean m → (db : Database) × IsOfDatabase site db (⟦<FileCells as Cells>⟧.holding m)) }
-        ensures no_site { IfErr result (λ e. e ≡ NoSite → site ≡ None) }
+        ensures why { IfErr result (FailsInFile site) }
         ensures clean { IfOk result (λ m. ⟦<FileCells as Cells>⟧.is_honest m → ⟦<FileCells as Cells>⟧.is_clean m) }
     {
-        if site.is_none() && fs::metadata(rt, path).is_err() {
+        if site.is_none() && is_blank(rt, path) {
             return Err(FileFault::NoSite);
         }
         match Connection::open(rt, path) {

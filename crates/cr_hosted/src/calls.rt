@@ -1,8 +1,9 @@
 //! The calls of a session that are no SQL: tables are defined, changes taken, given and pulled, rows shown. The modules stand as
 //! they stood.
 
-ghost use Rattle.std.specs.Prelude.{◌≡◌, ◌⊎◌};
+ghost use Rattle.std.specs.Prelude.{◌≡◌, ◌⊎◌, false};
 ghost use Rattle.cr_world.specs.declared.refusal.Refusal.TheVariants.{Memory};
+ghost use Rattle.cr_world.specs.Refusals.{has_name};
 ghost use Rattle.cr_hosted.specs.Hosted.{taken_name};
 
 use crate::session::HostedSession;
@@ -24,7 +25,8 @@ use std::alloc::Global;
 
 // What is told of a definition whose name a module has: what it breaks by itself, or else that the name is taken.
 fn of_taken_name(alloc: Global, def: &TableDef) -> Refusal
-    ensures { (result ≡ Memory) ⊎ (result ≡ taken_name def.now) }
+    ensures told { (result ≡ Memory) ⊎ (result ≡ taken_name def.now) }
+    ensures nameless { has_name (taken_name def.now) ≡ false → result ≡ taken_name def.now }
 {
     match profile(def) {
         Ok(()) => of_definition(alloc, def, DefineError::TableExists),

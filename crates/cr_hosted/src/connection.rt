@@ -31,7 +31,7 @@ pub struct Connection<C: Cells, F: Functions + Drop, G: Guarding + Drop, M: Drop
 }
 
 impl<C: Cells, F: Functions + Drop, G: Guarding + Drop, M: Module> Connection<C, F, G, M> {
-    ghost use Rattle.std.specs.Prelude.{◌≡◌, ◌≤ℤ◌, ℕ, Bool, List, [], None, Some, pos, true, is_some, OnErr};
+    ghost use Rattle.std.specs.Prelude.{◌≡◌, ◌<◌, ◌≤ℤ◌, ℕ, Bool, List, [], None, Some, Err, length, pos, true, is_some, OnErr};
     ghost use Rattle.std.specs.Str.{str_to_ascii_lowercase};
     ghost use Rattle.cr_cells.specs.Calls.{Reads, UnlessWant, is_want};
     ghost use Rattle.cr_cells.specs.Marks.{seen_of};
@@ -50,6 +50,8 @@ impl<C: Cells, F: Functions + Drop, G: Guarding + Drop, M: Module> Connection<C,
     ghost use Rattle.cr_world.specs.Statement.{Host};
     ghost use Rattle.cr_world.specs.Takings.{changes_above, pull_cause, pull_since_cause, seen_at, take_cause};
     ghost use Rattle.cr_hosted.specs.Hosted.{IsRegistered};
+    ghost use Rattle.cr_world.specs.declared.refusal.Refusal.TheVariants as refusal;
+    ghost use Rattle.cr_world.specs.declared.refusal.Limit.TheVariants as limit;
 
     /// The session with these functions and this guard, and no module yet.
     pub fn new(alloc: Global, session: Session<C>, functions: F, guard: G) -> Connection<C, F, G, M>
@@ -137,6 +139,7 @@ impl<C: Cells, F: Functions + Drop, G: Guarding + Drop, M: Module> Connection<C,
         ensures heard { (has : List ℕ → Bool) → ⟦<F as Speaking>⟧.are_names self.old.functions has → ⟦<HostedSession<C, M> as Executor>⟧.is_clean self.new.hosted
             → HearsAll (⟦<F as Speaking>⟧.language self.old.functions has) (⟦<G as Watching>⟧.host self.old.guard) ⟦<G as Watching>⟧.hears self.old.guard (⟦<HostedSession<C, M> as Executor>⟧.stands self.old.hosted) ((⟦<F as Speaking>⟧.language self.old.functions has).pieces source.now) result.replies result.refusal self.new.guard }
         ensures functions { self.new.functions ≡ self.old.functions }
+        ensures long { 1000000 < length source.now → result.refusal ≡ Some (refusal.Limit limit.Script) }
     {
         self.hosted
             .run(alloc, &self.functions, &mut self.guard, source)
@@ -161,6 +164,7 @@ impl<C: Cells, F: Functions + Drop, G: Guarding + Drop, M: Module> Connection<C,
         ensures heard { (has : List ℕ → Bool) → ⟦<F as Speaking>⟧.are_names self.old.functions has
             → ⟦<HostedSession<C, M> as Executor>⟧.is_clean self.new.hosted → Hears (⟦<G as Watching>⟧.hears self.old.guard self.new.guard) (heard_of_piece ((⟦<F as Speaking>⟧.language self.old.functions has).single source.now) (⟦<HostedSession<C, M> as Executor>⟧.stands self.old.hosted) (⟦<HostedSession<C, M> as Executor>⟧.stands self.new.hosted)) result }
         ensures functions { self.new.functions ≡ self.old.functions }
+        ensures long { 1000000 < length source.now → result ≡ Err (refusal.Limit limit.Script) }
     {
         self.hosted
             .execute(alloc, &self.functions, &mut self.guard, source, params)

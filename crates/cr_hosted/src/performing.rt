@@ -97,6 +97,7 @@ impl<C: Cells, M: Module> HostedSession<C, M> {
         requires columns { ForSome (module_in (⟦<Modules<M> as StandAll>⟧.states self.old.modules) insert.now.relation.definition.name) (λ m. m.columns ≡ insert.now.relation.definition.columns) }
         ensures performs { (host : Host) → PerformedWith (⟦<F as Hosted>⟧.means functions.now) params.now host (⟦<HostedSession<C, M> as Executor>⟧.is_honest) (⟦<HostedSession<C, M> as Executor>⟧.is_clean) (⟦<HostedSession<C, M> as Executor>⟧.stands) self.old (r.Insert insert.now) result self.new }
         ensures session { self.new.session ≡ self.old.session }
+        ensures inside { is_some self.old.session.1 ≡ true → result ≡ Err refusal.TransactionState }
     {
         if self.session.in_transaction() {
             return Err(Refusal::TransactionState);

@@ -32,7 +32,7 @@ pub struct HostedSession<C: Cells, M: Drop> {
 }
 
 impl<C: Cells, M: Module> HostedSession<C, M> {
-    ghost use Rattle.std.specs.Prelude.{ℕ, Bool, List, [], IfOk, OnErr, is_some, map};
+    ghost use Rattle.std.specs.Prelude.{◌<◌, ℕ, Bool, List, [], Some, Err, IfOk, OnErr, is_some, length, map};
     ghost use Rattle.std.specs.Str.{str_to_ascii_lowercase};
     ghost use Rattle.cr_cells.specs.Calls.{is_want, UnlessWant};
     ghost use Rattle.cr_cells.specs.Holding.{IsSound};
@@ -43,6 +43,8 @@ impl<C: Cells, M: Module> HostedSession<C, M> {
     ghost use Rattle.cr_script.specs.Scripts.{Carries, CarriesAll, Executed};
     ghost use Rattle.cr_session.specs.Sessions.{Names};
     ghost use Rattle.cr_hosted.specs.Hosted.{IsRegistered, alone};
+    ghost use Rattle.cr_world.specs.declared.refusal.Refusal.TheVariants as refusal;
+    ghost use Rattle.cr_world.specs.declared.refusal.Limit.TheVariants as limit;
 
     /// The session, with no module yet.
     pub fn new(alloc: Global, session: Session<C>) -> HostedSession<C, M>
@@ -145,8 +147,8 @@ impl<C: Cells, M: Module> HostedSession<C, M> {
     /// Runs a script: carries out its statements in order, up to the first that is refused. What was done before it stands.
     ///
     /// # Errors
-    /// The script's `refusal`: `Limit` where it is longer than 1,000,000 bytes; `Syntax`, `OutOfProfile` or `Limit` where a
-    /// statement can't be read; else why a statement is refused.
+    /// The script's `refusal`: `Limit` where it is longer than 1,000,000 bytes, and then no want of memory is told; `Syntax`,
+    /// `OutOfProfile` or `Limit` where a statement can't be read; else why a statement is refused.
     pub fn run<F: Functions, G: Guarding>(
         &mut self,
         alloc: Global,
@@ -161,6 +163,7 @@ impl<C: Cells, M: Module> HostedSession<C, M> {
         ensures guard { ⟦<G as Watching>⟧.stays guard.old guard.new }
         ensures heard { (has : List ℕ → Bool) → ⟦<F as Speaking>⟧.are_names functions.now has → (⟦<HostedSession<C, M> as Executor>⟧.is_clean) self.new
             → HearsAll (⟦<F as Speaking>⟧.language functions.now has) (⟦<G as Watching>⟧.host guard.old) (⟦<G as Watching>⟧.hears) guard.old ((⟦<HostedSession<C, M> as Executor>⟧.stands) self.old) ((⟦<F as Speaking>⟧.language functions.now has).pieces source.now) result.replies result.refusal guard.new }
+        ensures long { 1000000 < length source.now → result.refusal ≡ Some (refusal.Limit limit.Script) }
     {
         run_script(alloc, self, functions, guard, source)
     }
@@ -169,8 +172,8 @@ impl<C: Cells, M: Module> HostedSession<C, M> {
     /// most is done at once.
     ///
     /// # Errors
-    /// `Limit` where the text is longer than 1,000,000 bytes; `Syntax`, `OutOfProfile` or `Limit` where it can't be read, with
-    /// `Syntax` for what stands behind its `;`; else why the statement is refused, `Parameters` where it has more parameters
+    /// `Limit` where the text is longer than 1,000,000 bytes, and then no want of memory is told; `Syntax`, `OutOfProfile` or
+    /// `Limit` where it can't be read, with `Syntax` for what stands behind its `;`; else why the statement is refused, `Parameters` where it has more parameters
     /// than there are values, or fewer. Nothing is changed then, but that a refused COMMIT ends its transaction, unless for
     /// want of memory.
     pub fn execute<F: Functions, G: Guarding>(
@@ -188,6 +191,7 @@ impl<C: Cells, M: Module> HostedSession<C, M> {
         ensures guard { ⟦<G as Watching>⟧.stays guard.old guard.new }
         ensures heard { (has : List ℕ → Bool) → ⟦<F as Speaking>⟧.are_names functions.now has
             → (⟦<HostedSession<C, M> as Executor>⟧.is_clean) self.new → Hears (⟦<G as Watching>⟧.hears guard.old guard.new) (heard_of_piece ((⟦<F as Speaking>⟧.language functions.now has).single source.now) (⟦<HostedSession<C, M> as Executor>⟧.stands self.old) (⟦<HostedSession<C, M> as Executor>⟧.stands self.new)) result }
+        ensures long { 1000000 < length source.now → result ≡ Err (refusal.Limit limit.Script) }
     {
         execute(alloc, self, functions, guard, source, params)
     }

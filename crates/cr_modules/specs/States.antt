@@ -24,7 +24,7 @@ use Rattle.cr_term.specs.declared.query.Query.{Query}
 use Rattle.cr_world.specs.declared.refusal.Refusal.{Refusal}
 use Rattle.cr_world.specs.declared.refusal.Refusal.TheVariants as refusal
 use Rattle.cr_world.specs.declared.refusal.EvalFault.TheVariants as eval
-use Rattle.cr_world.specs.Causes.{Cause, Free, IsWant, Tells, or_else, where_true}
+use Rattle.cr_world.specs.Causes.{Cause, Free, Tells, or_else, where_true}
 use Rattle.cr_world.specs.State.{ModuleState, is_module, module_definition}
 use Rattle.cr_world.specs.Statement.{ModulesLeave}
 
@@ -99,12 +99,13 @@ abbrev pub offered : Bool → List Value → Query → List ℕ → List Offer
 offered may_offer params q name = cond may_offer (offers_to params q name) []
 
 -- What a module is called and its columns; and, if it was read, what it gave of its rows where these constraints and this order
--- were offered, each with a value for each column, as all its rows have.
+-- were offered, each with a value for each column, as all its rows have; if it was not, no rows.
 pub record IsListed (is_read : Bool) (best : Best) (offers : List Offer) (orders : List Order) (m : ModuleState) (l : Listing) : Type 0 where
   pub definition : l.definition ≡ module_definition m
   pub given : is_read ≡ true → IsReadBy best m.rows offers orders l.rows
   pub wide : is_read ≡ true → AreWide m.columns l.rows
   pub all_wide : is_read ≡ true → AreWide m.columns m.rows
+  pub unread : is_read ≡ false → l.rows ≡ []
 
 -- each module, read by what the query offers it if the query has its name
 abbrev pub AreListed : Bool → List Value → Query → List Best → List ModuleState → List Listing → Type 0
@@ -126,7 +127,7 @@ is_taken ts ms name = is_some (find (is_named name) ts) || is_some (module_in ms
 abbrev pub register_cause : List Table → List ModuleState → List ℕ → Cause
 register_cause ts ms name = or_else (where_true (is_reserved name) (refusal.BadName name)) (where_true (is_taken ts ms name) (refusal.TableExists name))
 
--- the module stands behind the others, or the first cause that holds is told, or want, and all stand as they were
+-- the module stands behind the others, or the first cause that holds is told, or want of memory, and all stand as they were
 abbrev pub Registers : List Table → List ModuleState → ModuleState → Result (Unit {0}) Refusal → List ModuleState → Type 0
 Registers ts old m (Ok u) new = (register_cause ts old m.name ≡ Free) × (new ≡ old ++ m ∷ [])
-Registers ts old m (Err r) new = (IsWant r ⊎ Tells (register_cause ts old m.name) r) × (new ≡ old)
+Registers ts old m (Err r) new = ((r ≡ refusal.Memory) ⊎ Tells (register_cause ts old m.name) r) × (new ≡ old)

@@ -7,7 +7,8 @@ ghost use Rattle.cr_lattice.specs.Check.{same_bytes};
 ghost use Rattle.cr_lattice.specs.Profile.{is_reserved};
 ghost use Rattle.cr_module.specs.Lawful.{AreWide};
 ghost use Rattle.cr_world.specs.State.{ModuleState};
-ghost use Rattle.cr_world.specs.Causes.{Cause, Free, IsWant, Tells};
+ghost use Rattle.cr_world.specs.Causes.{Cause, Free, Tells};
+ghost use Rattle.cr_world.specs.declared.refusal.Refusal.TheVariants.{Memory};
 ghost use Rattle.cr_modules.specs.States.{AreListed, IsPlace, Registers, Updates, are_distinct, definition_listed, made, module_in, module_width, register_cause};
 
 use crate::registered::{Registered, Stands};
@@ -148,7 +149,7 @@ impl<M: Module> Modules<M> {
     // Tests that a module may have a name.
     fn check_name(&self, alloc: Global, tables: &[Table], name: &Text) -> Result<(), Refusal>
         ensures free { OnOk result (register_cause tables.now (⟦<Modules<M> as StandAll>⟧.states self.now) name.now ≡ Free) }
-        ensures told { IfErr result (λ r. IsWant r ⊎ Tells (register_cause tables.now (⟦<Modules<M> as StandAll>⟧.states self.now) name.now) r) }
+        ensures told { IfErr result (λ r. (r ≡ Memory) ⊎ Tells (register_cause tables.now (⟦<Modules<M> as StandAll>⟧.states self.now) name.now) r) }
     {
         if is_reserved(name.as_str().as_bytes()) {
             return Err(Refusal::BadName(name.copy(alloc)?));

@@ -2,6 +2,7 @@
 
 ghost use Rattle.std.specs.Prelude.{◌≡◌, ◌⊎◌, [], length, map, IfOk};
 ghost use Rattle.cr_module.specs.Lawful.{AreWide};
+ghost use Rattle.cr_module.specs.declared.module.UpdateError.TheVariants as update;
 ghost use Rattle.cr_world.specs.State.{ModuleState, is_module};
 ghost use Rattle.cr_world.specs.declared.refusal.Refusal.TheVariants as refusal;
 ghost use Rattle.cr_plan.specs.Offers.{IsReadBy};
@@ -43,9 +44,9 @@ impl<M: Module> Stands for Registered<M> {
     ghost state = { λ r. made r.name (M.columns_of r.host) (M.rows_of r.host) (M.updated r.host) };
 }
 
-// The refusal that tells why the module of a name takes no rows.
+// The refusal that tells why the module of a name takes no rows, where there is memory for the name.
 fn refused(alloc: Global, name: &Text, error: UpdateError) -> Refusal
-    ensures { (result ≡ refusal.Memory) ⊎ (result ≡ of_update name.now error) }
+    ensures { (result ≡ of_update name.now error) ⊎ ((error ≡ update.ReadOnly) × (result ≡ refusal.Memory)) }
 {
     match error {
         UpdateError::ReadOnly => match name.copy(alloc) {

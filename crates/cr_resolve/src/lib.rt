@@ -1,5 +1,4 @@
-//! What the names of a statement stand for, what stands against it, and what the authorizer is asked about it and makes of
-//! it: definitions, the refusals, and what names, tables and
+//! What the names of a statement stand for, and what stands against it: definitions, the refusals, and what names, tables and
 //! operators are resolved to.
 #![tactic(auto)]
 

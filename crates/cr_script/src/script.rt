@@ -1,10 +1,13 @@
 //! Scripts: their statements in order, up to the first that is refused.
 
-ghost use Rattle.std.specs.Prelude.{◌≡◌, ◌⊎◌, ◌<◌, ◌≤◌, ◌+◌, ℕ, Bool, List, [], IfOk, IfSome, drop, length};
+ghost use Rattle.std.specs.Prelude.{◌≡◌, ◌⊎◌, ◌<◌, ◌≤◌, ◌+◌, ℕ, Bool, false, List, [], Some, IfOk, IfSome, drop, length};
 ghost use Rattle.std.specs.Vec.{vec_capacity, vec_len};
 ghost use Rattle.cr_statement.specs.Sql.{says};
 ghost use Rattle.cr_statement.specs.Sql as read;
 ghost use Rattle.cr_world.specs.declared.refusal.Refusal.TheVariants.{Memory};
+ghost use Rattle.cr_world.specs.declared.refusal.Refusal.TheVariants as refusal;
+ghost use Rattle.cr_world.specs.declared.refusal.Limit.TheVariants as limit;
+ghost use Rattle.cr_world.specs.Refusals.{has_name};
 ghost use Rattle.cr_language.specs.Sql.{of_kind, of_unread};
 ghost use Rattle.cr_script.specs.Hearing.{HearsAll, HearsTurn};
 ghost use Rattle.cr_script.specs.Scripts.{CarriesAll, Turns, next, pieces_left};
@@ -43,7 +46,8 @@ fn outside(alloc: Global, word: &str) -> Result<Refusal, AllocError>
 
 /// How a text that is read no further is told; as want of memory where there is none for the word.
 pub(crate) fn of_unread(alloc: Global, error: SqlError) -> Refusal
-    ensures { (result ≡ of_unread (says error)) ⊎ (result ≡ Memory) }
+    ensures told { (result ≡ of_unread (says error)) ⊎ (result ≡ Memory) }
+    ensures exact { has_name (of_unread (says error)) ≡ false → result ≡ of_unread (says error) }
 {
     match error {
         SqlError::Memory => Refusal::Memory,
@@ -135,8 +139,8 @@ fn turns<E: Executor, F: Functions, G: Guarding>(
 ///
 /// # Errors
 /// The script's `refusal`, which is none where all its statements are accepted: `Limit` where it is longer than 1,000,000
-/// bytes; `Syntax`, `OutOfProfile` or `Limit` where a statement can't be read; else why a statement is refused. `Memory`, also
-/// of a script that has no statement.
+/// bytes, and then no want of memory is told; `Syntax`, `OutOfProfile` or `Limit` where a statement can't be read; else why a
+/// statement is refused. `Memory`, also of a script that has no statement.
 pub fn run_script<E: Executor, F: Functions, G: Guarding>(
     alloc: Global,
     executor: &mut E,
@@ -151,6 +155,7 @@ pub fn run_script<E: Executor, F: Functions, G: Guarding>(
     ensures guard { ⟦<G as Watching>⟧.stays guard.old guard.new }
     ensures heard { (has : List ℕ → Bool) → ⟦<F as Speaking>⟧.are_names functions.now has → E.is_clean executor.new
         → HearsAll (⟦<F as Speaking>⟧.language functions.now has) (⟦<G as Watching>⟧.host guard.old) (⟦<G as Watching>⟧.hears) guard.old (E.stands executor.old) ((⟦<F as Speaking>⟧.language functions.now has).pieces source.now) result.replies result.refusal guard.new }
+    ensures long { 1000000 < length source.now → result.refusal ≡ Some (refusal.Limit limit.Script) }
 {
     let mut replies = Vec::new(alloc);
     let refusal = match tokens(alloc, source) {

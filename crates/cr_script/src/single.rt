@@ -1,8 +1,10 @@
 //! Texts that are one statement, with values for its parameters.
 
-ghost use Rattle.std.specs.Prelude.{◌≡◌, ℕ, Bool, List};
+ghost use Rattle.std.specs.Prelude.{◌≡◌, ◌<◌, ℕ, Bool, List, Err, length};
 ghost use Rattle.cr_script.specs.Hearing.{Hears, heard_of_piece};
 ghost use Rattle.cr_script.specs.Scripts.{Executed, is_empty, second_place, single_left};
+ghost use Rattle.cr_world.specs.declared.refusal.Refusal.TheVariants as refusal;
+ghost use Rattle.cr_world.specs.declared.refusal.Limit.TheVariants as limit;
 
 use crate::executor::Executor;
 use crate::script::{behind, of_unread};
@@ -76,8 +78,8 @@ fn single<E: Executor, F: Functions, G: Guarding>(
 /// most is done at once.
 ///
 /// # Errors
-/// `Limit` where the text is longer than 1,000,000 bytes; `Syntax`, `OutOfProfile` or `Limit` where it can't be read, with
-/// `Syntax` for what stands behind its `;`; else why the statement is refused, `Parameters` where it has more parameters
+/// `Limit` where the text is longer than 1,000,000 bytes, and then no want of memory is told; `Syntax`, `OutOfProfile` or
+/// `Limit` where it can't be read, with `Syntax` for what stands behind its `;`; else why the statement is refused, `Parameters` where it has more parameters
 /// than there are values, or fewer. Nothing is changed then, but that a refused COMMIT ends its transaction, unless for
 /// want of memory.
 pub fn execute<E: Executor, F: Functions, G: Guarding>(
@@ -95,6 +97,7 @@ pub fn execute<E: Executor, F: Functions, G: Guarding>(
     ensures guard { ⟦<G as Watching>⟧.stays guard.old guard.new }
     ensures heard { (has : List ℕ → Bool) → ⟦<F as Speaking>⟧.are_names functions.now has
         → E.is_clean executor.new → Hears (⟦<G as Watching>⟧.hears guard.old guard.new) (heard_of_piece ((⟦<F as Speaking>⟧.language functions.now has).single source.now) (E.stands executor.old) (E.stands executor.new)) result }
+    ensures long { 1000000 < length source.now → result ≡ Err (refusal.Limit limit.Script) }
 {
     match tokens(alloc, source) {
         Ok(tokens) => single(alloc, executor, functions, guard, source, &tokens, params),

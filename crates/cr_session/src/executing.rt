@@ -17,11 +17,13 @@ use cr_world::refusal::Refusal;
 use std::alloc::Global;
 
 impl<C: Cells> Session<C> {
-    ghost use Rattle.std.specs.Prelude.{ℕ, Bool, List};
+    ghost use Rattle.std.specs.Prelude.{◌≡◌, ◌<◌, ℕ, Bool, List, Some, Err, length};
     ghost use Rattle.cr_fit.specs.Folded.{DefinesFolded};
     ghost use Rattle.cr_script.specs.Hearing.{Hears, HearsAll, heard_of_piece, heard_of_statement};
     ghost use Rattle.cr_script.specs.Scripts.{Carries, CarriesAll, Executed};
     ghost use Rattle.cr_session.specs.Sessions.{clean, honest, standing};
+    ghost use Rattle.cr_world.specs.declared.refusal.Refusal.TheVariants as refusal;
+    ghost use Rattle.cr_world.specs.declared.refusal.Limit.TheVariants as limit;
 
     // Carries out a statement, with values for its parameters.
     fn carry_out<F: Functions, G: Guarding>(
@@ -57,8 +59,8 @@ impl<C: Cells> Session<C> {
     /// Runs a script: carries out its statements in order, up to the first that is refused. What was done before it stands.
     ///
     /// # Errors
-    /// The script's `refusal`: `Limit` where it is longer than 1,000,000 bytes; `Syntax`, `OutOfProfile` or `Limit` where a
-    /// statement can't be read; else why a statement is refused.
+    /// The script's `refusal`: `Limit` where it is longer than 1,000,000 bytes, and then no want of memory is told; `Syntax`,
+    /// `OutOfProfile` or `Limit` where a statement can't be read; else why a statement is refused.
     pub fn run<F: Functions, G: Guarding>(
         &mut self,
         alloc: Global,
@@ -73,6 +75,7 @@ impl<C: Cells> Session<C> {
         ensures guard { ⟦<G as Watching>⟧.stays guard.old guard.new }
         ensures heard { (has : List ℕ → Bool) → ⟦<F as Speaking>⟧.are_names functions.now has → C.is_clean self.new.0
             → HearsAll (⟦<F as Speaking>⟧.language functions.now has) (⟦<G as Watching>⟧.host guard.old) (⟦<G as Watching>⟧.hears) guard.old (standing C.holding self.old) ((⟦<F as Speaking>⟧.language functions.now has).pieces source.now) result.replies result.refusal guard.new }
+        ensures long { 1000000 < length source.now → result.refusal ≡ Some (refusal.Limit limit.Script) }
     {
         run_script(alloc, self, functions, guard, source)
     }
@@ -81,8 +84,8 @@ impl<C: Cells> Session<C> {
     /// most is done at once.
     ///
     /// # Errors
-    /// `Limit` where the text is longer than 1,000,000 bytes; `Syntax`, `OutOfProfile` or `Limit` where it can't be read, with
-    /// `Syntax` for what stands behind its `;`; else why the statement is refused, `Parameters` where it has more parameters
+    /// `Limit` where the text is longer than 1,000,000 bytes, and then no want of memory is told; `Syntax`, `OutOfProfile` or
+    /// `Limit` where it can't be read, with `Syntax` for what stands behind its `;`; else why the statement is refused, `Parameters` where it has more parameters
     /// than there are values, or fewer. Nothing is changed then, but that a refused COMMIT ends its transaction, unless for
     /// want of memory.
     pub fn execute<F: Functions, G: Guarding>(
@@ -100,6 +103,7 @@ impl<C: Cells> Session<C> {
         ensures guard { ⟦<G as Watching>⟧.stays guard.old guard.new }
         ensures heard { (has : List ℕ → Bool) → ⟦<F as Speaking>⟧.are_names functions.now has
             → C.is_clean self.new.0 → Hears (⟦<G as Watching>⟧.hears guard.old guard.new) (heard_of_piece ((⟦<F as Speaking>⟧.language functions.now has).single source.now) (standing C.holding self.old) (standing C.holding self.new)) result }
+        ensures long { 1000000 < length source.now → result ≡ Err (refusal.Limit limit.Script) }
     {
         execute(alloc, self, functions, guard, source, params)
     }

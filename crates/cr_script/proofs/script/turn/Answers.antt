@@ -7,7 +7,7 @@ pub returns-in-Ok-None-clause-turns : goal.returns-in-Ok-None-clause-turns
 returns-in-Ok-None-clause-turns g c = λ has names. (found _ _ c.next_statement-next.result None c.next_statement-next.ensures.value (search rules), refl)
 
 pub returns-clause-turns : goal.returns-clause-turns
-returns-clause-turns g c = λ has names. stops_unread _ _ g.E.Executor.is_honest g.E.Executor.is_clean g.E.Executor.stands _ _ _ c.next_statement-next.result _ _ c.next_statement-next.ensures.value c.next_statement-next.ensures.end (search rules) c.of_unread.ensures
+returns-clause-turns g c = λ has names. stops_unread _ _ g.E.Executor.is_honest g.E.Executor.is_clean g.E.Executor.stands _ _ _ c.next_statement-next.result _ _ c.next_statement-next.ensures.value c.next_statement-next.ensures.end (search rules) c.of_unread.ensures.told
 
 pub returns-in-Ok-clause-turns : goal.returns-in-Ok-clause-turns
 returns-in-Ok-clause-turns g c = λ has names. record {

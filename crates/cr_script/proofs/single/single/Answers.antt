@@ -34,7 +34,7 @@ returns-in-Ok-Some-clause-executes g c = λ has names.
 pub returns-clause-executes : goal.returns-clause-executes
 returns-clause-executes g c = λ has names.
     refuses_unread _ _ g.E.Executor.is_honest g.E.Executor.is_clean g.E.Executor.stands c.args.source.now c.args.tokens.now c.args.params.now c.args.executor.now c.next_statement-next.result c.in-Err.error c.of_unread.result
-    (sym c.is_empty.ensures ∙ c.if-is_empty.false) c.next_statement-next.ensures.value c.in-Err.is c.of_unread.ensures
+    (sym c.is_empty.ensures ∙ c.if-is_empty.false) c.next_statement-next.ensures.value c.in-Err.is c.of_unread.ensures.told
 
 pub returns-in-None-clause-heard : goal.returns-in-None-clause-heard
 returns-in-None-clause-heard g c = λ clean.

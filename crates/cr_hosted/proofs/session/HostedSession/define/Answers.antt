@@ -19,7 +19,7 @@ returns-then-has-clause-does g c = λ has host.
       was_honest = λ h. h;
       was_clean = λ h. h;
       stays_clean = λ h k w. k;
-      answers = λ clean. told l.has_collation (g.C.Cells.holding c.args.self.now.session.0) c.args.self.now.session.1 ms c.args.def.now c.of_taken_name.result taken c.of_taken_name.ensures;
+      answers = λ clean. told l.has_collation (g.C.Cells.holding c.args.self.now.session.0) c.args.self.now.session.1 ms c.args.def.now c.of_taken_name.result taken c.of_taken_name.ensures.told;
       leaves = λ clean m e. e;
     }
 
