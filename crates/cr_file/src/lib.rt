@@ -1,17 +1,18 @@
 //! A store of cells in a file.
 #![tactic(auto)]
 
-ghost use Rattle.std.specs.Prelude.{◌≡◌, ◌≢◌, true, false, None, Some, Err, IfOk, IfErr, MatchResult};
+ghost use Rattle.std.specs.Prelude.{◌≡◌, ◌≢◌, true, false, None, Err, IfOk, IfErr, MatchResult};
 ghost use Rattle.sqlite.specs.Effect.{Database};
 ghost use Rattle.sqlite.specs.Held.{state};
 ghost use Rattle.sqlite.specs.Files.{over_files};
 ghost use Rattle.cr_rows.specs.Schema.{no_schema};
-ghost use Rattle.cr_cells.specs.declared.store.CellsError.TheVariants as refusal;
 ghost use Rattle.cr_cells.specs.declared.store.StoreFault.TheVariants.{Taken, Damaged, Refused};
 ghost use Rattle.cr_cells.specs.Calls.{IsRefusal};
 ghost use Rattle.cr_cells.specs.Holding.{empty_holding};
-ghost use Rattle.cr_store.specs.Making.{has_store};
+ghost use Rattle.cr_store.specs.Kept.{IsClean};
+ghost use Rattle.cr_store.specs.Making.{has_store, IsRefused};
 ghost use Rattle.cr_store.specs.Opening.{IsHeld, IsOpenError};
+ghost use Rattle.cr_store.specs.Opening as opening;
 ghost use Rattle.cr_store.specs.Schema.{schema_of};
 ghost use Rattle.cr_file.specs.declared.FileFault.TheVariants.{NoSite};
 ghost use Rattle.cr_file.specs.Opening.{FailsInFile, FailsToMake, FailsToOpen, IsOfDatabase, IsStoreOf};
@@ -134,43 +135,51 @@ impl FileCells {
     /// A store of a site that holds nothing, in a database that has nothing.
     ///
     /// # Errors
-    /// `Store(Refused)` where a transaction is open; else `Store(Taken)` where the database has a table of a store; else
-    /// `Store(Refused)` where it has anything else, or where sqlite refuses the tables, and `Memory`. Then the database is as it was.
+    /// With the connection, whose database is as it was: `Store(Refused)` where a transaction is open; else `Store(Taken)` where the
+    /// database has a table of a store; else `Store(Refused)` where it has anything else; in these cases all of the connection is as it
+    /// was. `Store(Refused)` where sqlite refuses the tables, and `Memory`.
     pub fn create(
         alloc: Global,
         conn: Connection<FileStore<File>>,
         site: Site,
-    ) -> Result<FileCells, CellsError>
+    ) -> Result<FileCells, (CellsError, Connection<FileStore<File>>)>
         ensures made { IfOk result (λ m. ⟦<FileCells as Cells>⟧.is_clean m → ⟦<FileCells as Cells>⟧.holding m ≡ empty_holding site) }
         ensures clean { IfOk result (λ m. ⟦<FileCells as Cells>⟧.is_honest m → ⟦<FileCells as Cells>⟧.is_clean m) }
-        ensures busy { (state over_files conn).in_transaction ≡ true → result ≡ Err (refusal.Store Refused) }
-        ensures taken { (state over_files conn).in_transaction ≡ false → has_store (state over_files conn).now.schema ≡ true → result ≡ Err (refusal.Store Taken) }
-        ensures foreign { (state over_files conn).in_transaction ≡ false → has_store (state over_files conn).now.schema ≡ false → (state over_files conn).now.schema ≢ no_schema → result ≡ Err (refusal.Store Refused) }
-        ensures why { has_store (state over_files conn).now.schema ≡ false → IfErr result IsRefusal }
+        ensures busy { (state over_files conn).in_transaction ≡ true → IsRefused result Refused conn }
+        ensures taken { (state over_files conn).in_transaction ≡ false → has_store (state over_files conn).now.schema ≡ true → IsRefused result Taken conn }
+        ensures foreign { (state over_files conn).in_transaction ≡ false → has_store (state over_files conn).now.schema ≡ false → (state over_files conn).now.schema ≢ no_schema → IsRefused result Refused conn }
+        ensures why { has_store (state over_files conn).now.schema ≡ false → IfErr result (λ e. IsRefusal e.0) }
+        ensures same { IfErr result (λ e. IsClean over_files e.1 → (state over_files e.1).now ≡ (state over_files conn).now) }
     {
         match Store::create(alloc, conn, site) {
             Ok(store) => Ok(FileCells { store }),
-            Err((error, _)) => Err(error),
+            Err(refused) => Err(refused),
         }
     }
 
     /// The store that a database holds.
     ///
     /// # Errors
-    /// `Store(Refused)` where a transaction is open; else `Store(Damaged)` where the database has another schema than a store's, or
-    /// rows that are those of nothing that a store holds; `Store(Refused)` where sqlite refuses to read or to write them, and
-    /// `Memory`. Then the database is as it was.
-    pub fn open(alloc: Global, conn: Connection<FileStore<File>>) -> Result<FileCells, CellsError>
+    /// With the connection, whose database is as it was: `Store(Refused)` where a transaction is open; else `Store(Damaged)` where the
+    /// database has another schema than a store's; in these cases all of the connection is as it was. Over a store's schema,
+    /// `Store(Damaged)` where the rows are those of nothing that a store holds, `Store(Refused)` where sqlite refuses to read or to
+    /// write them, and `Memory`.
+    pub fn open(
+        alloc: Global,
+        conn: Connection<FileStore<File>>,
+    ) -> Result<FileCells, (CellsError, Connection<FileStore<File>>)>
         ensures held { IfOk result (λ m. ⟦<FileCells as Cells>⟧.is_clean m → IsHeld (state over_files conn).now (⟦<FileCells as Cells>⟧.holding m)) }
         ensures clean { IfOk result (λ m. ⟦<FileCells as Cells>⟧.is_honest m → ⟦<FileCells as Cells>⟧.is_clean m) }
-        ensures busy { (state over_files conn).in_transaction ≡ true → result ≡ Err (refusal.Store Refused) }
+        ensures busy { (state over_files conn).in_transaction ≡ true → IsRefused result Refused conn }
         ensures foreign { (state over_files conn).in_transaction ≡ false → ((format : _) → (state over_files conn).now.schema ≢ schema_of format)
-            → result ≡ Err (refusal.Store Damaged) }
-        ensures why { IfErr result IsOpenError }
+            → IsRefused result Damaged conn }
+        ensures damaged { IfErr result (λ e. IsClean over_files e.1 → opening.FailsToOpen (state over_files conn).now e.0) }
+        ensures why { IfErr result (λ e. IsOpenError e.0) }
+        ensures same { IfErr result (λ e. IsClean over_files e.1 → (state over_files e.1).now ≡ (state over_files conn).now) }
     {
         match Store::open(alloc, conn) {
             Ok(store) => Ok(FileCells { store }),
-            Err((error, _)) => Err(error),
+            Err(refused) => Err(refused),
         }
     }
 
@@ -190,7 +199,7 @@ impl FileCells {
         if has_tables(&conn) {
             return match FileCells::open(alloc, conn) {
                 Ok(cells) => Ok(cells),
-                Err(error) => Err(FileFault::Cells(error)),
+                Err((error, _conn)) => Err(FileFault::Cells(error)),
             };
         }
         let Some(site) = site else {
@@ -198,7 +207,7 @@ impl FileCells {
         };
         match FileCells::create(alloc, conn, site) {
             Ok(cells) => Ok(cells),
-            Err(error) => Err(FileFault::Cells(error)),
+            Err((error, _conn)) => Err(FileFault::Cells(error)),
         }
     }
 

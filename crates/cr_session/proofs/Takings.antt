@@ -27,7 +27,7 @@ use Rattle.cr_world.specs.State.{State}
 use Rattle.cr_world.specs.Statement.{Host}
 use Rattle.cr_world.specs.Takings.{at_once, own_site, take_cause, taking, taking_cause}
 use Rattle.cr_session.specs.Listening.{TellsListener}
-use Rattle.cr_session.specs.Sessions.{Approves, CommitsTaking, IsCommitted, TakenUnless, TakesAll, TakesUnless, clean, honest, standing, state_of, unless}
+use Rattle.cr_session.specs.Sessions.{Approves, CommitsTaking, IsCommitted, IsToldAtOnce, TakenUnless, TakesAll, TakesUnless, clean, honest, standing, state_of, unless}
 
 pub want_of_taking : (e : TakeError) → is_want (of_taking e) ≡ takings.is_want e
 want_of_taking take.Memory = refl
@@ -191,6 +191,14 @@ unless_some (Some f) r e = cc
 pub unless_none : (o : Option Refusal) (u : Unit {0}) → Ok u ≡ unless o → o ≡ None
 unless_none None u e = refl
 unless_none (Some f) u e = absurd (let q : Ok u ≡ Err f = e in cc)
+
+-- what is told at once where it stands, with nothing changed
+pub tells_at_once : {C : Type 0} (o : Option Refusal) (r : Refusal) (old : C) → o ≡ Some r → IsToldAtOnce o old (Err r) old
+tells_at_once o r old e = subst (λ (x : Option Refusal). IsToldAtOnce x old (Err r) old) (sym e) (refl, refl)
+
+-- and nothing is said of a call where nothing stands against it at once
+pub not_told_at_once : {C : Type 0} (o : Option Refusal) (old : C) (result : Result (Unit {0}) Refusal) (new : C) → o ≡ None → IsToldAtOnce o old result new
+not_told_at_once o old result new e = subst (λ (x : Option Refusal). IsToldAtOnce x old result new) (sym e) tt
 
 abbrev opened_cause : Bool → Option Refusal → Option Refusal
 opened_cause opened own = if opened then Some refusal.TransactionState else own

@@ -1,5 +1,5 @@
 -- What a replica replies to a command that looks at no other, and where it then stands. Source: this project's own.
-use Rattle.std.specs.Prelude.{◌≡◌, ◌⊎◌, ℕ, Bool, true, false, List, [], ◌++◌, find, Option, Some, None, Result, Ok, Err, MatchResult}
+use Rattle.std.specs.Prelude.{◌≡◌, ◌⊎◌, ℕ, Bool, true, false, List, [], ◌++◌, find, Option, Some, None, Result, Ok, Err, IfErr, MatchResult}
 use Rattle.cr_lattice.specs.declared.change.Change.{Change}
 use Rattle.cr_lattice.specs.declared.stamped.Stamped.{Stamped}
 use Rattle.cr_cells.specs.declared.store.CellsError.{CellsError}
@@ -138,6 +138,10 @@ pub record PullsUnless {C D : Type 0} (is_honest is_clean : C → Type 0) (stand
 abbrev pub unless : Option Refusal → Result (Unit {0}) Refusal
 unless None = Ok tt
 unless (Some r) = Err r
+
+-- what is told before a store is asked for anything: it is told whatever memory there is, and nothing has happened
+abbrev pub IsToldAtOnce : {C : Type 0} → Option Refusal → C → Result (Unit {0}) Refusal → C → Type 0
+IsToldAtOnce cause old result new = IfErr (unless cause) (λ r. (result ≡ Err r) × (new ≡ old))
 
 -- ---- commands
 

@@ -25,7 +25,7 @@ impl<C: Cells> Session<C> {
     ghost use Rattle.cr_script.specs.Hearing.{Hears};
     ghost use Rattle.cr_meaning.specs.View.{Ordered};
     ghost use Rattle.cr_tree.specs.declared.statement.Statement.{Statement};
-    ghost use Rattle.cr_session.specs.Sessions.{Does, PullsUnless, TakesUnless, changes_reply, clean, honest, reply_of, rows_reply, standing, unless};
+    ghost use Rattle.cr_session.specs.Sessions.{Does, IsToldAtOnce, PullsUnless, TakesUnless, changes_reply, clean, honest, reply_of, rows_reply, standing, unless};
 
     /// Makes a replicated table, as CREATE TABLE and then `SELECT crsql_as_crr` do in one. The names of the definition are in ASCII
     /// lower case.
@@ -104,6 +104,7 @@ impl<C: Cells> Session<C> {
     ) -> Result<(), Refusal>
         requires { G.is_faithful guard.old }
         ensures takes { TakesUnless (honest C.is_honest) (clean C.is_clean) (standing C.holding) (λ st. take_cause (⟦<G as Watching>⟧.host guard.old) st changes.now None) self.old changes.now None result self.new }
+        ensures at_once { C.is_clean self.old.0 → IsToldAtOnce (at_once (standing C.holding self.old) None) self.old result self.new }
         ensures guard { ⟦<G as Watching>⟧.stays guard.old guard.new }
         ensures heard { C.is_clean self.new.0 → Hears (⟦<G as Watching>⟧.hears guard.old guard.new) (heard_between (standing C.holding self.old) (standing C.holding self.new)) result }
     {
@@ -128,6 +129,7 @@ impl<C: Cells> Session<C> {
         requires faithful { G.is_faithful guard.old }
         requires from_0 { pos 0 ≤ℤ mark.1 }
         ensures takes { TakesUnless (honest C.is_honest) (clean C.is_clean) (standing C.holding) (λ st. take_cause (⟦<G as Watching>⟧.host guard.old) st changes.now (Some mark)) self.old changes.now (Some mark) result self.new }
+        ensures at_once { C.is_clean self.old.0 → IsToldAtOnce (at_once (standing C.holding self.old) (Some mark)) self.old result self.new }
         ensures guard { ⟦<G as Watching>⟧.stays guard.old guard.new }
         ensures heard { C.is_clean self.new.0 → Hears (⟦<G as Watching>⟧.hears guard.old guard.new) (heard_between (standing C.holding self.old) (standing C.holding self.new)) result }
     {
@@ -152,6 +154,8 @@ impl<C: Cells> Session<C> {
         requires { G.is_faithful guard.old }
         ensures pulls { PullsUnless (honest C.is_honest) (clean C.is_clean) (standing C.holding) (honest D.is_honest) (clean D.is_clean) (standing D.holding) (pull_cause (⟦<G as Watching>⟧.host guard.old))
             (λ st from. changes_above from (pos 0)) (λ from. None) self.old peer.old result self.new peer.new }
+        ensures at_once { C.is_clean self.old.0 → D.is_clean peer.old.0
+            → IsToldAtOnce (at_once (standing C.holding self.old) (Some ((standing D.holding peer.old).holding.site, pos 0))) self.old result self.new }
         ensures guard { ⟦<G as Watching>⟧.stays guard.old guard.new }
         ensures heard { C.is_clean self.new.0 → Hears (⟦<G as Watching>⟧.hears guard.old guard.new) (heard_between (standing C.holding self.old) (standing C.holding self.new)) result }
     {
@@ -178,6 +182,8 @@ impl<C: Cells> Session<C> {
         requires { G.is_faithful guard.old }
         ensures pulls { PullsUnless (honest C.is_honest) (clean C.is_clean) (standing C.holding) (honest D.is_honest) (clean D.is_clean) (standing D.holding) (pull_since_cause (⟦<G as Watching>⟧.host guard.old))
             (λ st from. changes_above from (seen_at st from)) (λ from. Some (from.site, from.version)) self.old peer.old result self.new peer.new }
+        ensures at_once { C.is_clean self.old.0 → D.is_clean peer.old.0
+            → IsToldAtOnce (at_once (standing C.holding self.old) (Some ((standing D.holding peer.old).holding.site, pos 0))) self.old result self.new }
         ensures guard { ⟦<G as Watching>⟧.stays guard.old guard.new }
         ensures heard { C.is_clean self.new.0 → Hears (⟦<G as Watching>⟧.hears guard.old guard.new) (heard_between (standing C.holding self.old) (standing C.holding self.new)) result }
     {

@@ -1,4 +1,4 @@
-use Rattle.std.proofs.Common.{◌∙◌, ℕ, List, Option, None, Some, pos, sym, ap}
+use Rattle.std.proofs.Common.{◌∙◌, ℕ, List, Option, None, Some, Err, pos, sym, ap}
 use Rattle.cr_lattice.specs.declared.change.Change.{Change}
 use Rattle.cr_cells.specs.Holding.{Holding}
 use Rattle.cr_cells.specs.Marks.{Mark}
@@ -7,7 +7,7 @@ use Rattle.cr_world.specs.Takings.{at_once, changes_above}
 use Rattle.cr_script.specs.Speaking.{closures, host_under}
 use Rattle.cr_session.specs.Sessions.{clean, honest, standing}
 use Rattle.cr_session.proofs.Pulls.{pull_stopped, pull_taken, stands_still, stays_here}
-use Rattle.cr_session.proofs.Takings.{unless_none, unless_some}
+use Rattle.cr_session.proofs.Takings.{not_told_at_once, tells_at_once, unless_none, unless_some}
 use Rattle.cr_session.proofs.session.Session.pull.Goals as goal
 
 more : State → Holding → List Change
@@ -41,3 +41,18 @@ returns-in-Ok-clause-pulls g c =
     })
     (λ own theirs. ap (λ (site : List ℕ). at_once at (Some (site, pos 0))) (sym (c.site_id.ensures theirs)) ∙ unless_none _ _ (c.in_default.ensures (pos 0) own))
     c.deref.result.now None (λ own theirs. c.deref.ensures.value ∙ (c.in-Ok.ensures.reads theirs).answers) (λ theirs i. None) c.take_all.result c.take_all.new.self c.take_all.ensures.takes
+
+pub returns-in-Err-clause-at_once : goal.returns-in-Err-clause-at_once
+returns-in-Err-clause-at_once g c =
+    let at = standing g.C.Cells.holding c.args.self.now in
+    λ own theirs. tells_at_once _ c.in-Err.refusal c.args.self.now (ap (λ (site : List ℕ). at_once at (Some (site, pos 0))) (sym (c.site_id.ensures theirs)) ∙ unless_some _ _ (c.in-Err.ensures (pos 0) own))
+
+pub returns-in-Ok-clause-at_once : goal.returns-in-Ok-clause-at_once
+returns-in-Ok-clause-at_once g c =
+    let at = standing g.C.Cells.holding c.args.self.now in
+    λ own theirs. not_told_at_once _ c.args.self.now c.take_all.result c.take_all.new.self (ap (λ (site : List ℕ). at_once at (Some (site, pos 0))) (sym (c.site_id.ensures theirs)) ∙ unless_none _ _ (c.in_default.ensures (pos 0) own))
+
+pub returns-in-Err-changes_above-clause-at_once : goal.returns-in-Err-changes_above-clause-at_once
+returns-in-Err-changes_above-clause-at_once g c =
+    let at = standing g.C.Cells.holding c.args.self.now in
+    λ own theirs. not_told_at_once _ c.args.self.now (Err c.from.result) c.args.self.now (ap (λ (site : List ℕ). at_once at (Some (site, pos 0))) (sym (c.site_id.ensures theirs)) ∙ unless_none _ _ (c.in_default.ensures (pos 0) own))

@@ -1,13 +1,15 @@
-use Rattle.std.proofs.Common.{rules, ◌∙◌, ℕ, List, Option, Some, sym, ap, to_z, of_z, to_z-of_z, w64, SFits}
+use Rattle.std.proofs.Common.{rules, ◌∙◌, ℕ, List, Option, Some, Err, pos, sym, ap, to_z, of_z, to_z-of_z, w64, SFits}
 use Rattle.cr_lattice.specs.declared.change.Change.{Change}
 use Rattle.cr_cells.specs.Holding.{Holding}
 use Rattle.cr_cells.specs.Marks.{Mark, seen_of}
+use Rattle.cr_cells.specs.declared.store.StoreFault.TheVariants.{Refused}
+use Rattle.cr_world.specs.declared.refusal.Refusal.TheVariants as refusal
 use Rattle.cr_world.specs.State.{State}
 use Rattle.cr_world.specs.Takings.{at_once, changes_above, seen_at}
 use Rattle.cr_script.specs.Speaking.{closures, host_under}
 use Rattle.cr_session.specs.Sessions.{clean, honest, standing}
 use Rattle.cr_session.proofs.Pulls.{pull_stopped, pull_taken, stands_still}
-use Rattle.cr_session.proofs.Takings.{unless_none, unless_some}
+use Rattle.cr_session.proofs.Takings.{not_told_at_once, tells_at_once, unless_none, unless_some}
 use Rattle.cr_session.proofs.session.Session.pull_since.Goals as goal
 
 more : State → Holding → List Change
@@ -56,3 +58,28 @@ returns-clause-pulls g c =
       (to_z-of_z fits ∙ c.db_version-version.ensures theirs ∙ ap (λ (h : Holding). h.version) (c.in-Ok-changes_above.ensures.reads theirs).same) i,
     ))
     c.take_all.result c.take_all.new.self c.take_all.ensures.takes
+
+pub returns-in-Err-clause-at_once : goal.returns-in-Err-clause-at_once
+returns-in-Err-clause-at_once g c =
+    let at = standing g.C.Cells.holding c.args.self.now in
+    λ own theirs. tells_at_once _ c.in-Err.refusal c.args.self.now (ap (λ (site : List ℕ). at_once at (Some (site, pos 0))) (sym (c.site_id-site.ensures theirs)) ∙ unless_some _ _ (c.in-Err.ensures (pos 0) own))
+
+pub returns-in-Err-seen-clause-at_once : goal.returns-in-Err-seen-clause-at_once
+returns-in-Err-seen-clause-at_once g c =
+    let at = standing g.C.Cells.holding c.args.self.now in
+    λ own theirs. not_told_at_once _ c.args.self.now (Err c.from.result) c.seen.new.self (ap (λ (site : List ℕ). at_once at (Some (site, pos 0))) (sym (c.site_id-site.ensures theirs)) ∙ unless_none _ _ (c.in_default.ensures (pos 0) own))
+
+pub returns-in-Err-changes_above-clause-at_once : goal.returns-in-Err-changes_above-clause-at_once
+returns-in-Err-changes_above-clause-at_once g c =
+    let at = standing g.C.Cells.holding c.args.self.now in
+    λ own theirs. not_told_at_once _ c.args.self.now (Err c.from-in-Err-changes_above.result) c.seen.new.self (ap (λ (site : List ℕ). at_once at (Some (site, pos 0))) (sym (c.site_id-site.ensures theirs)) ∙ unless_none _ _ (c.in_default.ensures (pos 0) own))
+
+pub returns-then-version-lt0-clause-at_once : goal.returns-then-version-lt0-clause-at_once
+returns-then-version-lt0-clause-at_once g c =
+    let at = standing g.C.Cells.holding c.args.self.now in
+    λ own theirs. not_told_at_once _ c.args.self.now (Err (refusal.Store Refused)) c.seen.new.self (ap (λ (site : List ℕ). at_once at (Some (site, pos 0))) (sym (c.site_id-site.ensures theirs)) ∙ unless_none _ _ (c.in_default.ensures (pos 0) own))
+
+pub returns-clause-at_once : goal.returns-clause-at_once
+returns-clause-at_once g c =
+    let at = standing g.C.Cells.holding c.args.self.now in
+    λ own theirs. not_told_at_once _ c.args.self.now c.take_all.result c.take_all.new.self (ap (λ (site : List ℕ). at_once at (Some (site, pos 0))) (sym (c.site_id-site.ensures theirs)) ∙ unless_none _ _ (c.in_default.ensures (pos 0) own))
