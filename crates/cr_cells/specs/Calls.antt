@@ -32,6 +32,14 @@ abbrev pub UnlessWant : {T E : Type 0} → (E → Bool) → Result T E → Type 
 UnlessWant is_want (Ok answer) P = P
 UnlessWant is_want (Err e) P = is_want e ≡ false → P
 
+-- What every call leaves of a store's device, whatever it does: where the device gave back what was written up to the end of a call,
+-- it had up to its beginning, and where it is still there after a call, it was before. And a store that was clean stays so where its
+-- device is honest, unless the call was refused for want.
+pub record StaysClean {S T E : Type 0} (is_honest is_clean : S → Type 0) (is_want : E → Bool) (old new : S) (result : Result T E) : Type 0 where
+  pub was_honest : is_honest new → is_honest old
+  pub was_clean : is_clean new → is_clean old
+  pub stays_clean : is_honest new → is_clean old → UnlessWant is_want result (is_clean new)
+
 -- a reading leaves what the store holds, and its answer meets P, or it is refused
 pub record Reads {T : Type 0} (old new : Holding) (answer : Result T CellsError) (P : T → Type 0) : Type 0 where
   pub same : new ≡ old

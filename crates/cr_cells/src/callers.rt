@@ -6,7 +6,7 @@ ghost use Rattle.cr_lattice.specs.Keep.{join, SameMembers};
 ghost use Rattle.cr_cells.specs.Tables.{AreWellFormed};
 ghost use Rattle.cr_cells.specs.Holding.{kept_of, changes_of};
 ghost use Rattle.cr_cells.specs.Commit.{unmarked, after_all};
-ghost use Rattle.cr_cells.specs.Calls.{IsCommitRefusal, is_past_limit, is_want, UnlessWant};
+ghost use Rattle.cr_cells.specs.Calls.{IsCommitRefusal, is_past_limit, is_want, StaysClean};
 ghost use Rattle.cr_cells.specs.declared.store.CellsError.TheVariants.{VersionLimit};
 
 use crate::store::{Cells, CellsError};
@@ -26,9 +26,7 @@ pub fn commit_all<C: Cells>(
     batches: &[Items<Change>],
 ) -> Result<(), CellsError>
     requires { C.is_clean cells.old → AllByRecursion (λ batch. AreWellFormed (C.holding cells.old).tables batch) batches.now }
-    ensures was_honest { C.is_honest cells.new → C.is_honest cells.old }
-    ensures was_clean { C.is_clean cells.new → C.is_clean cells.old }
-    ensures stays_clean { C.is_honest cells.new → C.is_clean cells.old → UnlessWant is_want result (C.is_clean cells.new) }
+    ensures device { StaysClean C.is_honest C.is_clean is_want cells.old cells.new result }
     ensures holds { C.is_clean cells.new → OnOk result (C.holding cells.new ≡ after_all (C.holding cells.old) (unmarked batches.now)) }
     ensures stands { C.is_clean cells.new → OnErr result ((made : ℕ) × (C.holding cells.new ≡ after_all (C.holding cells.old) (unmarked (take made batches.now)))) }
     ensures kept { C.is_clean cells.new → OnOk result (kept_of (C.holding cells.new)

@@ -8,7 +8,7 @@ ghost use Rattle.cr_lattice.specs.Rows.{is_of_row};
 ghost use Rattle.cr_lattice.specs.Change.{change_cmp, beats};
 ghost use Rattle.cr_cells.specs.Holding.{kept_of, IsSound};
 ghost use Rattle.cr_cells.specs.Commit.{newly_kept, is_new, is_new_in, is_none, greatest_version};
-ghost use Rattle.cr_cells.specs.Calls.{Reads, Foresees, StaysWithinLimit, is_want, UnlessWant};
+ghost use Rattle.cr_cells.specs.Calls.{Reads, Foresees, StaysWithinLimit, is_want, StaysClean};
 
 use crate::store::{Cells, CellsError};
 use cr_lattice::change::Change;
@@ -68,9 +68,7 @@ fn news_of<C: Cells>(
     cells: &mut C,
     wanted: &[Change],
 ) -> Result<Vec<Change>, CellsError>
-    ensures was_honest { C.is_honest cells.new → C.is_honest cells.old }
-    ensures was_clean { C.is_clean cells.new → C.is_clean cells.old }
-    ensures stays_clean { C.is_honest cells.new → C.is_clean cells.old → UnlessWant is_want result (C.is_clean cells.new) }
+    ensures device { StaysClean C.is_honest C.is_clean is_want cells.old cells.new result }
     ensures reads { C.is_clean cells.new → Reads (C.holding cells.old) (C.holding cells.new) result
         (λ news. news.items ≡ filter (is_new (kept_of (C.holding cells.old))) wanted.now) }
 {
@@ -124,9 +122,7 @@ pub fn newly_kept<C: Cells>(
     cells: &mut C,
     changes: &[Change],
 ) -> Result<Vec<Change>, CellsError>
-    ensures was_honest { C.is_honest cells.new → C.is_honest cells.old }
-    ensures was_clean { C.is_clean cells.new → C.is_clean cells.old }
-    ensures stays_clean { C.is_honest cells.new → C.is_clean cells.old → UnlessWant is_want result (C.is_clean cells.new) }
+    ensures device { StaysClean C.is_honest C.is_clean is_want cells.old cells.new result }
     ensures sound { C.is_clean cells.new → IsSound (C.holding cells.new) }
     ensures foresees { C.is_clean cells.new → Foresees (C.holding cells.old) (C.holding cells.new) changes.now result (λ news. news.items) }
 {

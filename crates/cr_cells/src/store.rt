@@ -5,7 +5,7 @@ ghost use Rattle.std.specs.Option.{ForSome};
 ghost use Rattle.cr_cells.specs.Tables.{IsNewTable, IsNewColumn, has_defaults, is_markable, with_replicated, with_table, with_added, AreWellFormed};
 ghost use Rattle.cr_cells.specs.Marks.{seen_of};
 ghost use Rattle.cr_cells.specs.Holding.{since, cells_of, cells_of_table, IsSound, empty_holding};
-ghost use Rattle.cr_cells.specs.Calls.{Reads, Defines, Commits, IsRefusal, is_want, UnlessWant};
+ghost use Rattle.cr_cells.specs.Calls.{Reads, Defines, Commits, IsRefusal, is_want, StaysClean};
 
 use cr_lattice::change::{Change, Site};
 use cr_lattice::stamped::Stamped;
@@ -73,9 +73,7 @@ pub trait Cells: Drop {
     /// # Errors
     /// `Memory`, or `Store(Refused)`.
     fn tables(&mut self, alloc: Global) -> Result<Vec<Table>, CellsError>
-        ensures was_honest { is_honest self.new → is_honest self.old }
-        ensures was_clean { is_clean self.new → is_clean self.old }
-        ensures stays_clean { is_honest self.new → is_clean self.old → UnlessWant is_want result (is_clean self.new) }
+        ensures device { StaysClean is_honest is_clean is_want self.old self.new result }
         ensures sound { is_clean self.new → IsSound (holding self.new) }
         ensures reads { is_clean self.new → Reads (holding self.old) (holding self.new) result
             (λ tables. tables.items ≡ (holding self.old).tables) };
@@ -86,9 +84,7 @@ pub trait Cells: Drop {
     /// `Memory`, or `Store(Refused)`; then nothing is changed.
     fn add_table(&mut self, alloc: Global, def: &TableDef) -> Result<(), CellsError>
         requires { is_clean self.old → IsNewTable (holding self.old).tables def.now }
-        ensures was_honest { is_honest self.new → is_honest self.old }
-        ensures was_clean { is_clean self.new → is_clean self.old }
-        ensures stays_clean { is_honest self.new → is_clean self.old → UnlessWant is_want result (is_clean self.new) }
+        ensures device { StaysClean is_honest is_clean is_want self.old self.new result }
         ensures sound { is_clean self.new → IsSound (holding self.new) }
         ensures defines { is_clean self.new → Defines (holding self.old) (holding self.new) result
             (record (holding self.old) { tables = with_table (holding self.old).tables def.now false }) };
@@ -100,9 +96,7 @@ pub trait Cells: Drop {
     /// `Memory`, or `Store(Refused)`; then nothing is changed.
     fn mark_crr(&mut self, alloc: Global, name: &str) -> Result<(), CellsError>
         requires { is_clean self.old → is_markable name.now (holding self.old).tables ≡ true }
-        ensures was_honest { is_honest self.new → is_honest self.old }
-        ensures was_clean { is_clean self.new → is_clean self.old }
-        ensures stays_clean { is_honest self.new → is_clean self.old → UnlessWant is_want result (is_clean self.new) }
+        ensures device { StaysClean is_honest is_clean is_want self.old self.new result }
         ensures sound { is_clean self.new → IsSound (holding self.new) }
         ensures defines { is_clean self.new → Defines (holding self.old) (holding self.new) result
             (record (holding self.old) { tables = with_replicated name.now (holding self.old).tables }) };
@@ -114,9 +108,7 @@ pub trait Cells: Drop {
     fn add_replicated(&mut self, alloc: Global, def: &TableDef) -> Result<(), CellsError>
         requires is_new { is_clean self.old → IsNewTable (holding self.old).tables def.now }
         requires defaults { has_defaults def.now ≡ true }
-        ensures was_honest { is_honest self.new → is_honest self.old }
-        ensures was_clean { is_clean self.new → is_clean self.old }
-        ensures stays_clean { is_honest self.new → is_clean self.old → UnlessWant is_want result (is_clean self.new) }
+        ensures device { StaysClean is_honest is_clean is_want self.old self.new result }
         ensures sound { is_clean self.new → IsSound (holding self.new) }
         ensures defines { is_clean self.new → Defines (holding self.old) (holding self.new) result
             (record (holding self.old) { tables = with_table (holding self.old).tables def.now true }) };
@@ -134,9 +126,7 @@ pub trait Cells: Drop {
         column: &ColumnDef,
     ) -> Result<(), CellsError>
         requires { is_clean self.old → IsNewColumn (holding self.old).tables table.now column.now }
-        ensures was_honest { is_honest self.new → is_honest self.old }
-        ensures was_clean { is_clean self.new → is_clean self.old }
-        ensures stays_clean { is_honest self.new → is_clean self.old → UnlessWant is_want result (is_clean self.new) }
+        ensures device { StaysClean is_honest is_clean is_want self.old self.new result }
         ensures sound { is_clean self.new → IsSound (holding self.new) }
         ensures defines { is_clean self.new → Defines (holding self.old) (holding self.new) result
             (record (holding self.old) { tables = with_added table.now column.now (holding self.old).tables }) };
@@ -146,9 +136,7 @@ pub trait Cells: Drop {
     /// # Errors
     /// `Memory`, or `Store(Refused)`.
     fn since(&mut self, alloc: Global, version: i64) -> Result<Vec<Stamped>, CellsError>
-        ensures was_honest { is_honest self.new → is_honest self.old }
-        ensures was_clean { is_clean self.new → is_clean self.old }
-        ensures stays_clean { is_honest self.new → is_clean self.old → UnlessWant is_want result (is_clean self.new) }
+        ensures device { StaysClean is_honest is_clean is_want self.old self.new result }
         ensures sound { is_clean self.new → IsSound (holding self.new) }
         ensures reads { is_clean self.new → Reads (holding self.old) (holding self.new) result
             (λ cells. cells.items ≡ since (holding self.old).cells version) };
@@ -163,9 +151,7 @@ pub trait Cells: Drop {
         table: &str,
         pk: &[u8],
     ) -> Result<Vec<Stamped>, CellsError>
-        ensures was_honest { is_honest self.new → is_honest self.old }
-        ensures was_clean { is_clean self.new → is_clean self.old }
-        ensures stays_clean { is_honest self.new → is_clean self.old → UnlessWant is_want result (is_clean self.new) }
+        ensures device { StaysClean is_honest is_clean is_want self.old self.new result }
         ensures sound { is_clean self.new → IsSound (holding self.new) }
         ensures reads { is_clean self.new → Reads (holding self.old) (holding self.new) result
             (λ cells. cells.items ≡ cells_of (holding self.old).cells table.now pk.now) };
@@ -175,9 +161,7 @@ pub trait Cells: Drop {
     /// # Errors
     /// `Memory`, or `Store(Refused)`.
     fn cells_of_table(&mut self, alloc: Global, table: &str) -> Result<Vec<Stamped>, CellsError>
-        ensures was_honest { is_honest self.new → is_honest self.old }
-        ensures was_clean { is_clean self.new → is_clean self.old }
-        ensures stays_clean { is_honest self.new → is_clean self.old → UnlessWant is_want result (is_clean self.new) }
+        ensures device { StaysClean is_honest is_clean is_want self.old self.new result }
         ensures sound { is_clean self.new → IsSound (holding self.new) }
         ensures reads { is_clean self.new → Reads (holding self.old) (holding self.new) result
             (λ cells. cells.items ≡ cells_of_table (holding self.old).cells table.now) };
@@ -198,9 +182,7 @@ pub trait Cells: Drop {
     ) -> Result<bool, CellsError>
         requires well_formed { is_clean self.old → AreWellFormed (holding self.old).tables changes.now }
         requires from_0 { ForSome peer (λ mark. pos 0 ≤ℤ mark.1) }
-        ensures was_honest { is_honest self.new → is_honest self.old }
-        ensures was_clean { is_clean self.new → is_clean self.old }
-        ensures stays_clean { is_honest self.new → is_clean self.old → UnlessWant is_want result (is_clean self.new) }
+        ensures device { StaysClean is_honest is_clean is_want self.old self.new result }
         ensures sound { is_clean self.new → IsSound (holding self.new) }
         ensures commits { is_clean self.new → Commits (holding self.old) (holding self.new) changes.now peer result };
 
@@ -209,9 +191,7 @@ pub trait Cells: Drop {
     /// # Errors
     /// `Memory`, or `Store(Refused)`.
     fn seen(&mut self, alloc: Global, site: Site) -> Result<i64, CellsError>
-        ensures was_honest { is_honest self.new → is_honest self.old }
-        ensures was_clean { is_clean self.new → is_clean self.old }
-        ensures stays_clean { is_honest self.new → is_clean self.old → UnlessWant is_want result (is_clean self.new) }
+        ensures device { StaysClean is_honest is_clean is_want self.old self.new result }
         ensures sound { is_clean self.new → IsSound (holding self.new) }
         ensures reads { is_clean self.new → Reads (holding self.old) (holding self.new) result
             (λ version. version ≡ seen_of (holding self.old).marks site) };

@@ -25,8 +25,6 @@ module _ {C : Type 0} (is_honest is_clean : C → Type 0) (stands : C → State)
 
   pub takes_always : (host : Host) (more : List Change) (mark : Option Mark) (result : Result (Unit {0}) Refusal) → TakesAll host is_honest is_clean stands old more mark result new → TakesAll host always is_clean stands old more mark result new
   takes_always host more mark result t = record {
-    was_honest = λ u. tt;
-    was_clean = t.was_clean;
-    stays_clean = λ u clean. t.stays_clean is clean;
+    device = record { was_honest = λ u. tt; was_clean = t.device.was_clean; stays_clean = λ u clean. t.device.stays_clean is clean };
     takes = t.takes;
   }

@@ -175,9 +175,9 @@ module _ {E C : Type 0} (l : Language Statement E) (k : Closures) (is_clean : C 
             cause_same clean w s = λ x. taking_cause (host_under k (s.rules x)) (sym (taker_stands clean) x) (sym (read (mid_peer clean)) x)
 
             pub pull_done : TakesAll (host_under k rules) always is_clean stands t.1 changes None (Ok tt) t'.1 → Steps l k is_clean stands rules old (Pull name) Done rules (slice_set mid.0 i t', mid.1)
-            pull_done takes = through Done (slice_set mid.0 i t', mid.1) (used_steps l k is_clean stands rules mid i t t' place at_mid takes.was_clean (Pull name) Done
-                (λ clean told. takes.stays_clean tt clean) (λ w. pulling (named w name)) (λ w. refl) (λ all clean w m s u at_m h n keeps. (
-                let mid_clean = clean_before l k is_clean stands rules mid i t t' place at_mid takes.was_clean all in
+            pull_done takes = through Done (slice_set mid.0 i t', mid.1) (used_steps l k is_clean stands rules mid i t t' place at_mid takes.device.was_clean (Pull name) Done
+                (λ clean told. takes.device.stays_clean tt clean) (λ w. pulling (named w name)) (λ w. refl) (λ all clean w m s u at_m h n keeps. (
+                let mid_clean = clean_before l k is_clean stands rules mid i t t' place at_mid takes.device.was_clean all in
                 let s_old = shows_old mid_clean w s in
                 let q = peer w s_old in
                 let taken = takes.takes clean in
@@ -191,9 +191,9 @@ module _ {E C : Type 0} (l : Language Statement E) (k : Closures) (is_clean : C 
 
             pub pull_refused : (e : Refusal) → TakesAll (host_under k rules) always is_clean stands t.1 changes None (Err e) t'.1
                 → Steps l k is_clean stands rules old (Pull name) (Refused e) rules (slice_set mid.0 i t', mid.1)
-            pull_refused e takes = through (Refused e) (slice_set mid.0 i t', mid.1) (used_steps l k is_clean stands rules mid i t t' place at_mid takes.was_clean (Pull name) (Refused e)
-                (takes.stays_clean tt) (λ w m. m) (λ w. sym (unchanged w)) (λ all clean w m s u at_m h n keeps. (
-                let mid_clean = clean_before l k is_clean stands rules mid i t t' place at_mid takes.was_clean all in
+            pull_refused e takes = through (Refused e) (slice_set mid.0 i t', mid.1) (used_steps l k is_clean stands rules mid i t t' place at_mid takes.device.was_clean (Pull name) (Refused e)
+                (takes.device.stays_clean tt) (λ w m. m) (λ w. sym (unchanged w)) (λ all clean w m s u at_m h n keeps. (
+                let mid_clean = clean_before l k is_clean stands rules mid i t t' place at_mid takes.device.was_clean all in
                 let taken = takes.takes clean in (
                   answered w (Refused e) (shows_old mid_clean w s) (apart _ _ _ (Refused e) outside (apart_sites (mid_before mid_clean))
                       (subst (λ (c : Cause). IsDone c (Refused e)) (sym (cause_same mid_clean w s)) taken.0)),
@@ -216,5 +216,5 @@ module _ {E C : Type 0} (l : Language Statement E) (k : Closures) (is_clean : C 
                 let step = pull_taken result takes in (
                   step,
                   λ clean w s. taking_heard l k hears is_clean stands rules rules old (slice_set mid.0 i t', mid.1) i r t' place at (set_there mid.0 i t t' at_mid) (Pull name) (λ w. pulling (named w name)) (λ w. refl) result (stands t.1) g h
-                      (taker_stands (clean_before l k is_clean stands rules mid i t t' place at_mid takes.was_clean clean)) (heard (all_set (λ x. is_clean x.1) mid.0 i t t' clean at_mid)) step clean w s,
+                      (taker_stands (clean_before l k is_clean stands rules mid i t t' place at_mid takes.device.was_clean clean)) (heard (all_set (λ x. is_clean x.1) mid.0 i t t' clean at_mid)) step clean w s,
                 )

@@ -190,9 +190,9 @@ module _ {E C : Type 0} (l : Language Statement E) (k : Closures) (is_clean : C 
         cause_same clean w s = λ x. taking_cause (host_under k (s.rules x)) (sym (taker_stands clean) x) (offered_is clean x)
 
         pub since_done : TakesAll (host_under k rules) always is_clean stands t.1 changes (Some mark) (Ok tt) t'.1 → Steps l k is_clean stands rules mid (PullSince name) Done rules (slice_set mid.0 i t', mid.1)
-        since_done takes = used_steps l k is_clean stands rules mid i t t' o.in_use at_mid takes.was_clean (PullSince name) Done
-            (λ clean told. takes.stays_clean tt clean) (λ w. pulling_since (named w name)) (λ w. refl) (λ all clean w m s u at_m h n keeps. (
-            let mid_clean = clean_before l k is_clean stands rules mid i t t' o.in_use at_mid takes.was_clean all in
+        since_done takes = used_steps l k is_clean stands rules mid i t t' o.in_use at_mid takes.device.was_clean (PullSince name) Done
+            (λ clean told. takes.device.stays_clean tt clean) (λ w. pulling_since (named w name)) (λ w. refl) (λ all clean w m s u at_m h n keeps. (
+            let mid_clean = clean_before l k is_clean stands rules mid i t t' o.in_use at_mid takes.device.was_clean all in
             let s_old = shows_old mid_clean w s in
             let q = peer l k is_clean stands rules old name i r o.in_use o.taker_at j p o.named o.peer_at w s_old in
             let taken = takes.takes clean in
@@ -209,9 +209,9 @@ module _ {E C : Type 0} (l : Language Statement E) (k : Closures) (is_clean : C 
             )))
 
         pub since_refused : (e : Refusal) → TakesAll (host_under k rules) always is_clean stands t.1 changes (Some mark) (Err e) t'.1 → Steps l k is_clean stands rules mid (PullSince name) (Refused e) rules (slice_set mid.0 i t', mid.1)
-        since_refused e takes = used_steps l k is_clean stands rules mid i t t' o.in_use at_mid takes.was_clean (PullSince name) (Refused e)
-            (takes.stays_clean tt) (λ w m. m) (λ w. sym (unchanged w)) (λ all clean w m s u at_m h n keeps. (
-            let mid_clean = clean_before l k is_clean stands rules mid i t t' o.in_use at_mid takes.was_clean all in
+        since_refused e takes = used_steps l k is_clean stands rules mid i t t' o.in_use at_mid takes.device.was_clean (PullSince name) (Refused e)
+            (takes.device.stays_clean tt) (λ w m. m) (λ w. sym (unchanged w)) (λ all clean w m s u at_m h n keeps. (
+            let mid_clean = clean_before l k is_clean stands rules mid i t t' o.in_use at_mid takes.device.was_clean all in
             let taken = takes.takes clean in (
               since_answered i r o.in_use o.taker_at j p o.named o.peer_at w (Refused e) (shows_old mid_clean w s) (apart _ _ _ (Refused e) o.outside (o.apart (mid_before mid_clean))
                   (subst (λ (c : Cause). IsDone c (Refused e)) (sym (cause_same mid_clean w s)) taken.0)),
@@ -234,5 +234,5 @@ module _ {E C : Type 0} (l : Language Statement E) (k : Closures) (is_clean : C 
             let step = since_taken result takes in (
               step,
               λ clean w s. taking_heard l k hears is_clean stands rules rules old (slice_set mid.0 i t', mid.1) i r t' o.in_use o.taker_at (set_there mid.0 i t t' at_mid) (PullSince name) (λ w. pulling_since (named w name)) (λ w. refl) result (stands t.1) g h
-                  (taker_stands (clean_before l k is_clean stands rules mid i t t' o.in_use at_mid takes.was_clean clean)) (heard (all_set (λ x. is_clean x.1) mid.0 i t t' clean at_mid)) step clean w s,
+                  (taker_stands (clean_before l k is_clean stands rules mid i t t' o.in_use at_mid takes.device.was_clean clean)) (heard (all_set (λ x. is_clean x.1) mid.0 i t t' clean at_mid)) step clean w s,
             )

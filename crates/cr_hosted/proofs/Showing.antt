@@ -67,9 +67,7 @@ pub selects : {H : Type 0} {means : Means} {params : List Value} {host : Host} {
     → ((st : State) → ShowsQuery means params q st (record snap { modules = ls }) → Performs means params host st (view (r.Select q)) result st)
     → (is_honest new → is_honest old) → (is_clean new → is_clean old) → (is_honest new → is_clean old → is_clean new) → PerformedWith means params host is_honest is_clean stands old (r.Select q) result new
 selects {H} {means} {params} {host} {is_honest} {is_clean} {stands} old new q result h pending bests ms snap ls here same total shown listed answered honest_was was stays = record {
-  was_honest = honest_was;
-  was_clean = was;
-  stays_clean = λ honest clean. still result (is_clean new) (stays honest clean);
+  device = record { was_honest = honest_was; was_clean = was; stays_clean = λ honest clean. still result (is_clean new) (stays honest clean) };
   performs = λ clean.
       subst (PerformsWith means params host (stands old) (view (r.Select q)) result) (sym (same clean))
       (subst (λ (st : State). PerformsWith means params host st (view (r.Select q)) result st) (sym here)

@@ -232,9 +232,7 @@ touched ms s t b same is e = ap (λ (x : Answered). touches ms (view x)) (sym sa
 pub refuses_still : {H : Type 0} {means : Means} {params : List Value} {host : Host} {is_honest is_clean : H → Type 0} {stands : H → State} (old : H) (y : Answered) (result : Result Reply Refusal)
     → ((m : Means) (ps : List Value) (k : Host) (st : State) → m ≡ means → ps ≡ params → st ≡ stands old → PerformsWith m ps k st (view y) result st) → PerformedWith means params host is_honest is_clean stands old y result old
 refuses_still {H} {means} {params} {host} {is_honest} {is_clean} {stands} old y result p = record {
-  was_honest = λ honest. honest;
-  was_clean = λ clean. clean;
-  stays_clean = λ honest clean. still result (is_clean old) clean;
+  device = record { was_honest = λ honest. honest; was_clean = λ clean. clean; stays_clean = λ honest clean. still result (is_clean old) clean };
   performs = λ clean. p means params host (stands old) refl refl refl;
 }
 
@@ -246,9 +244,7 @@ insert_ignored {H} {means} {params} {host} {is_honest} {is_clean} {stands} old i
 pub insert_faults : {H : Type 0} {means : Means} {params : List Value} {host : Host} {is_honest is_clean : H → Type 0} {stands : H → State} (old : H) (i : Insert) (f : Refusal) (fault : EvalFault) → is_module_target (target i.relation) ≡ true → i.is_ignored ≡ false → in_transaction (stands old) ≡ false
     → f ≡ of_fault fault → Faults means params (λ m. inserted_rows m i.relation.definition.columns (insert i)) fault → PerformedWith means params host is_honest is_clean stands old (r.Insert i) (Err f) old
 insert_faults {H} {means} {params} {host} {is_honest} {is_clean} {stands} old i f fault e ig outside told faults = record {
-  was_honest = λ honest. honest;
-  was_clean = λ clean. clean;
-  stays_clean = λ honest clean want. clean;
+  device = record { was_honest = λ honest. honest; was_clean = λ clean. clean; stays_clean = λ honest clean want. clean };
   performs = λ clean. fault_is_told means params host (stands old) i e f fault ig outside told faults;
 }
 
@@ -257,8 +253,6 @@ pub insert_updates : {H : Type 0} {means : Means} {params : List Value} {host : 
     → Updates i.relation.definition.name rows (stands old).modules result ms → reply ≡ (elim result as (λ _. Result Reply Refusal) [ Ok u ↦ Ok Done | Err f ↦ Err f ])
     → (is_honest new → is_honest old) → (is_clean new → is_clean old) → (is_honest new → is_clean old → is_clean new) → stands new ≡ placed ms (stands old) → PerformedWith means params host is_honest is_clean stands old (r.Insert i) reply new
 insert_updates {H} {means} {params} {host} {is_honest} {is_clean} {stands} old new i rows result ms reply e ig outside both up is honest_was was stays same = record {
-  was_honest = honest_was;
-  was_clean = was;
-  stays_clean = λ honest clean. still reply (is_clean new) (stays honest clean);
+  device = record { was_honest = honest_was; was_clean = was; stays_clean = λ honest clean. still reply (is_clean new) (stays honest clean) };
   performs = λ clean. subst (PerformsWith means params host (stands old) (view (r.Insert i)) reply) (sym same) (update_is_told means params host (stands old) i e rows result ms reply ig outside both up is);
 }

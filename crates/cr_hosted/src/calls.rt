@@ -36,19 +36,19 @@ fn of_taken_name(alloc: Global, def: &TableDef) -> Refusal
 
 impl<C: Cells, M: Module> HostedSession<C, M> {
     ghost use Rattle.std.specs.Prelude.{◌≤ℤ◌, ℕ, Bool, List, None, Some, pos, true};
-    ghost use Rattle.cr_cells.specs.Calls.{Reads, UnlessWant, is_want};
+    ghost use Rattle.cr_cells.specs.Calls.{Reads, StaysClean, is_want};
     ghost use Rattle.cr_cells.specs.Marks.{seen_of};
     ghost use Rattle.cr_cells.specs.Tables.{has_folded_names};
     ghost use Rattle.cr_meaning.specs.View.{Ordered};
     ghost use Rattle.cr_script.specs.Hearing.{Hears};
-    ghost use Rattle.cr_session.specs.Sessions.{Does, PullsUnless, TakesUnless, changes_reply, clean, honest, reply_of, rows_reply, standing};
+    ghost use Rattle.cr_session.specs.Sessions.{Does, IsToldAtOnce, PullsUnless, TakesUnless, changes_reply, clean, honest, reply_of, rows_reply, standing};
     ghost use Rattle.cr_tree.specs.declared.statement.Statement.{Statement};
     ghost use Rattle.cr_world.specs.declared.command.Command.TheVariants.{Define, Rows, Changes};
     ghost use Rattle.cr_world.specs.declared.command.Declaration.TheVariants as declared;
     ghost use Rattle.cr_world.specs.Language.{Language};
     ghost use Rattle.cr_world.specs.State.{heard_between};
     ghost use Rattle.cr_world.specs.Statement.{Host};
-    ghost use Rattle.cr_world.specs.Takings.{changes_above, pull_cause, pull_since_cause, seen_at, take_cause};
+    ghost use Rattle.cr_world.specs.Takings.{at_once, changes_above, pull_cause, pull_since_cause, seen_at, take_cause};
 
     /// Makes a replicated table, as `Session::define` does. A module's name is taken as a table's is.
     ///
@@ -89,9 +89,7 @@ impl<C: Cells, M: Module> HostedSession<C, M> {
     /// # Errors
     /// `Memory`, or `Store(Refused)`.
     pub fn seen(&mut self, alloc: Global, site: Site) -> Result<i64, CellsError>
-        ensures was_honest { C.is_honest self.new.session.0 → C.is_honest self.old.session.0 }
-        ensures was_clean { C.is_clean self.new.session.0 → C.is_clean self.old.session.0 }
-        ensures stays_clean { C.is_honest self.new.session.0 → C.is_clean self.old.session.0 → UnlessWant is_want result (C.is_clean self.new.session.0) }
+        ensures device { StaysClean C.is_honest C.is_clean is_want self.old.session.0 self.new.session.0 result }
         ensures reads { C.is_clean self.new.session.0 → Reads (C.holding self.old.session.0) (C.holding self.new.session.0) result
             (λ version. version ≡ seen_of (C.holding self.old.session.0).marks site) }
         ensures pending { self.new.session.1 ≡ self.old.session.1 }
@@ -134,6 +132,7 @@ impl<C: Cells, M: Module> HostedSession<C, M> {
     ) -> Result<(), Refusal>
         requires { G.is_faithful guard.old }
         ensures takes { TakesUnless (honest C.is_honest) (clean C.is_clean) (standing C.holding) (λ st. take_cause (⟦<G as Watching>⟧.host guard.old) st changes.now None) self.old.session changes.now None result self.new.session }
+        ensures at_once { C.is_clean self.old.session.0 → IsToldAtOnce (at_once (standing C.holding self.old.session) None) self.old.session result self.new.session }
         ensures guard { ⟦<G as Watching>⟧.stays guard.old guard.new }
         ensures heard { C.is_clean self.new.session.0 → Hears (⟦<G as Watching>⟧.hears guard.old guard.new) (heard_between (standing C.holding self.old.session) (standing C.holding self.new.session)) result }
         ensures modules { self.new.modules ≡ self.old.modules }
@@ -156,6 +155,7 @@ impl<C: Cells, M: Module> HostedSession<C, M> {
         requires faithful { G.is_faithful guard.old }
         requires from_0 { pos 0 ≤ℤ mark.1 }
         ensures takes { TakesUnless (honest C.is_honest) (clean C.is_clean) (standing C.holding) (λ st. take_cause (⟦<G as Watching>⟧.host guard.old) st changes.now (Some mark)) self.old.session changes.now (Some mark) result self.new.session }
+        ensures at_once { C.is_clean self.old.session.0 → IsToldAtOnce (at_once (standing C.holding self.old.session) (Some mark)) self.old.session result self.new.session }
         ensures guard { ⟦<G as Watching>⟧.stays guard.old guard.new }
         ensures heard { C.is_clean self.new.session.0 → Hears (⟦<G as Watching>⟧.hears guard.old guard.new) (heard_between (standing C.holding self.old.session) (standing C.holding self.new.session)) result }
         ensures modules { self.new.modules ≡ self.old.modules }
@@ -176,6 +176,8 @@ impl<C: Cells, M: Module> HostedSession<C, M> {
         requires { G.is_faithful guard.old }
         ensures pulls { PullsUnless (honest C.is_honest) (clean C.is_clean) (standing C.holding) (honest D.is_honest) (clean D.is_clean) (standing D.holding) (pull_cause (⟦<G as Watching>⟧.host guard.old))
             (λ st from. changes_above from (pos 0)) (λ from. None) self.old.session peer.old result self.new.session peer.new }
+        ensures at_once { C.is_clean self.old.session.0 → D.is_clean peer.old.0
+            → IsToldAtOnce (at_once (standing C.holding self.old.session) (Some ((standing D.holding peer.old).holding.site, pos 0))) self.old.session result self.new.session }
         ensures guard { ⟦<G as Watching>⟧.stays guard.old guard.new }
         ensures heard { C.is_clean self.new.session.0 → Hears (⟦<G as Watching>⟧.hears guard.old guard.new) (heard_between (standing C.holding self.old.session) (standing C.holding self.new.session)) result }
         ensures modules { self.new.modules ≡ self.old.modules }
@@ -197,6 +199,8 @@ impl<C: Cells, M: Module> HostedSession<C, M> {
         requires { G.is_faithful guard.old }
         ensures pulls { PullsUnless (honest C.is_honest) (clean C.is_clean) (standing C.holding) (honest D.is_honest) (clean D.is_clean) (standing D.holding) (pull_since_cause (⟦<G as Watching>⟧.host guard.old))
             (λ st from. changes_above from (seen_at st from)) (λ from. Some (from.site, from.version)) self.old.session peer.old result self.new.session peer.new }
+        ensures at_once { C.is_clean self.old.session.0 → D.is_clean peer.old.0
+            → IsToldAtOnce (at_once (standing C.holding self.old.session) (Some ((standing D.holding peer.old).holding.site, pos 0))) self.old.session result self.new.session }
         ensures guard { ⟦<G as Watching>⟧.stays guard.old guard.new }
         ensures heard { C.is_clean self.new.session.0 → Hears (⟦<G as Watching>⟧.hears guard.old guard.new) (heard_between (standing C.holding self.old.session) (standing C.holding self.new.session)) result }
         ensures modules { self.new.modules ≡ self.old.modules }

@@ -33,14 +33,14 @@ pub struct Connection<C: Cells, F: Functions + Drop, G: Guarding + Drop, M: Drop
 impl<C: Cells, F: Functions + Drop, G: Guarding + Drop, M: Module> Connection<C, F, G, M> {
     ghost use Rattle.std.specs.Prelude.{◌≡◌, ◌<◌, ◌≤ℤ◌, ℕ, Bool, List, [], None, Some, Err, length, pos, true, is_some, OnErr};
     ghost use Rattle.std.specs.Str.{str_to_ascii_lowercase};
-    ghost use Rattle.cr_cells.specs.Calls.{Reads, UnlessWant, is_want};
+    ghost use Rattle.cr_cells.specs.Calls.{Reads, StaysClean, is_want};
     ghost use Rattle.cr_cells.specs.Marks.{seen_of};
     ghost use Rattle.cr_cells.specs.Tables.{has_folded_names};
     ghost use Rattle.cr_meaning.specs.View.{Ordered};
     ghost use Rattle.cr_modules.specs.States.{made};
     ghost use Rattle.cr_script.specs.Hearing.{Hears, HearsAll, heard_of_piece};
     ghost use Rattle.cr_script.specs.Scripts.{CarriesAll, Executed};
-    ghost use Rattle.cr_session.specs.Sessions.{Does, PullsUnless, TakesUnless, changes_reply, clean, honest, reply_of, rows_reply, standing};
+    ghost use Rattle.cr_session.specs.Sessions.{Does, IsToldAtOnce, PullsUnless, TakesUnless, changes_reply, clean, honest, reply_of, rows_reply, standing};
     ghost use Rattle.cr_tree.specs.declared.statement.Statement.{Statement};
     ghost use Rattle.cr_world.specs.declared.command.Command.TheVariants.{Define, Rows, Changes};
     ghost use Rattle.cr_world.specs.declared.command.Declaration.TheVariants as declared;
@@ -48,7 +48,7 @@ impl<C: Cells, F: Functions + Drop, G: Guarding + Drop, M: Module> Connection<C,
     ghost use Rattle.cr_world.specs.Refusals as refusals;
     ghost use Rattle.cr_world.specs.State.{heard_between};
     ghost use Rattle.cr_world.specs.Statement.{Host};
-    ghost use Rattle.cr_world.specs.Takings.{changes_above, pull_cause, pull_since_cause, seen_at, take_cause};
+    ghost use Rattle.cr_world.specs.Takings.{at_once, changes_above, pull_cause, pull_since_cause, seen_at, take_cause};
     ghost use Rattle.cr_hosted.specs.Hosted.{IsRegistered};
     ghost use Rattle.cr_world.specs.declared.refusal.Refusal.TheVariants as refusal;
     ghost use Rattle.cr_world.specs.declared.refusal.Limit.TheVariants as limit;
@@ -100,9 +100,7 @@ impl<C: Cells, F: Functions + Drop, G: Guarding + Drop, M: Module> Connection<C,
     /// # Errors
     /// `BadName`, then `TableExists`; `Memory`, or `Store`. Then the module is dropped, and nothing is changed.
     pub fn register_module(&mut self, alloc: Global, name: &str, host: M) -> Result<(), Refusal>
-        ensures was_honest { C.is_honest self.new.hosted.session.0 → C.is_honest self.old.hosted.session.0 }
-        ensures was_clean { C.is_clean self.new.hosted.session.0 → C.is_clean self.old.hosted.session.0 }
-        ensures stays_clean { C.is_honest self.new.hosted.session.0 → C.is_clean self.old.hosted.session.0 → UnlessWant refusals.is_want result (C.is_clean self.new.hosted.session.0) }
+        ensures device { StaysClean C.is_honest C.is_clean refusals.is_want self.old.hosted.session.0 self.new.hosted.session.0 result }
         ensures registers { C.is_clean self.new.hosted.session.0 → IsRegistered (⟦<HostedSession<C, M> as Executor>⟧.stands self.old.hosted) (made (str_to_ascii_lowercase name.now) (M.columns_of host) (M.rows_of host) (M.updated host)) result (⟦<HostedSession<C, M> as Executor>⟧.stands self.new.hosted) }
         ensures refused { OnErr result (⟦<Modules<M> as StandAll>⟧.states self.new.hosted.modules ≡ ⟦<Modules<M> as StandAll>⟧.states self.old.hosted.modules) }
         ensures functions { self.new.functions ≡ self.old.functions }
@@ -175,9 +173,7 @@ impl<C: Cells, F: Functions + Drop, G: Guarding + Drop, M: Module> Connection<C,
     /// # Errors
     /// `Memory`, or `Store(Refused)`.
     pub fn seen(&mut self, alloc: Global, site: Site) -> Result<i64, CellsError>
-        ensures was_honest { C.is_honest self.new.hosted.session.0 → C.is_honest self.old.hosted.session.0 }
-        ensures was_clean { C.is_clean self.new.hosted.session.0 → C.is_clean self.old.hosted.session.0 }
-        ensures stays_clean { C.is_honest self.new.hosted.session.0 → C.is_clean self.old.hosted.session.0 → UnlessWant is_want result (C.is_clean self.new.hosted.session.0) }
+        ensures device { StaysClean C.is_honest C.is_clean is_want self.old.hosted.session.0 self.new.hosted.session.0 result }
         ensures reads { C.is_clean self.new.hosted.session.0 → Reads (C.holding self.old.hosted.session.0) (C.holding self.new.hosted.session.0) result
             (λ version. version ≡ seen_of (C.holding self.old.hosted.session.0).marks site) }
         ensures pending { self.new.hosted.session.1 ≡ self.old.hosted.session.1 }
@@ -221,6 +217,7 @@ impl<C: Cells, F: Functions + Drop, G: Guarding + Drop, M: Module> Connection<C,
     pub fn take(&mut self, alloc: Global, changes: &[Change]) -> Result<(), Refusal>
         requires { G.is_faithful self.old.guard }
         ensures takes { TakesUnless (honest C.is_honest) (clean C.is_clean) (standing C.holding) (λ st. take_cause (⟦<G as Watching>⟧.host self.old.guard) st changes.now None) self.old.hosted.session changes.now None result self.new.hosted.session }
+        ensures at_once { C.is_clean self.old.hosted.session.0 → IsToldAtOnce (at_once (standing C.holding self.old.hosted.session) None) self.old.hosted.session result self.new.hosted.session }
         ensures guard { ⟦<G as Watching>⟧.stays self.old.guard self.new.guard }
         ensures heard { C.is_clean self.new.hosted.session.0 → Hears (⟦<G as Watching>⟧.hears self.old.guard self.new.guard) (heard_between (standing C.holding self.old.hosted.session) (standing C.holding self.new.hosted.session)) result }
         ensures modules { self.new.hosted.modules ≡ self.old.hosted.modules }
@@ -243,6 +240,7 @@ impl<C: Cells, F: Functions + Drop, G: Guarding + Drop, M: Module> Connection<C,
         requires faithful { G.is_faithful self.old.guard }
         requires from_0 { pos 0 ≤ℤ mark.1 }
         ensures takes { TakesUnless (honest C.is_honest) (clean C.is_clean) (standing C.holding) (λ st. take_cause (⟦<G as Watching>⟧.host self.old.guard) st changes.now (Some mark)) self.old.hosted.session changes.now (Some mark) result self.new.hosted.session }
+        ensures at_once { C.is_clean self.old.hosted.session.0 → IsToldAtOnce (at_once (standing C.holding self.old.hosted.session) (Some mark)) self.old.hosted.session result self.new.hosted.session }
         ensures guard { ⟦<G as Watching>⟧.stays self.old.guard self.new.guard }
         ensures heard { C.is_clean self.new.hosted.session.0 → Hears (⟦<G as Watching>⟧.hears self.old.guard self.new.guard) (heard_between (standing C.holding self.old.hosted.session) (standing C.holding self.new.hosted.session)) result }
         ensures modules { self.new.hosted.modules ≡ self.old.hosted.modules }
@@ -263,6 +261,8 @@ impl<C: Cells, F: Functions + Drop, G: Guarding + Drop, M: Module> Connection<C,
         requires { G.is_faithful self.old.guard }
         ensures pulls { PullsUnless (honest C.is_honest) (clean C.is_clean) (standing C.holding) (honest D.is_honest) (clean D.is_clean) (standing D.holding) (pull_cause (⟦<G as Watching>⟧.host self.old.guard))
             (λ st from. changes_above from (pos 0)) (λ from. None) self.old.hosted.session peer.old.hosted.session result self.new.hosted.session peer.new.hosted.session }
+        ensures at_once { C.is_clean self.old.hosted.session.0 → D.is_clean peer.old.hosted.session.0
+            → IsToldAtOnce (at_once (standing C.holding self.old.hosted.session) (Some ((standing D.holding peer.old.hosted.session).holding.site, pos 0))) self.old.hosted.session result self.new.hosted.session }
         ensures guard { ⟦<G as Watching>⟧.stays self.old.guard self.new.guard }
         ensures heard { C.is_clean self.new.hosted.session.0 → Hears (⟦<G as Watching>⟧.hears self.old.guard self.new.guard) (heard_between (standing C.holding self.old.hosted.session) (standing C.holding self.new.hosted.session)) result }
         ensures modules { self.new.hosted.modules ≡ self.old.hosted.modules }
@@ -288,6 +288,8 @@ impl<C: Cells, F: Functions + Drop, G: Guarding + Drop, M: Module> Connection<C,
         requires { G.is_faithful self.old.guard }
         ensures pulls { PullsUnless (honest C.is_honest) (clean C.is_clean) (standing C.holding) (honest D.is_honest) (clean D.is_clean) (standing D.holding) (pull_since_cause (⟦<G as Watching>⟧.host self.old.guard))
             (λ st from. changes_above from (seen_at st from)) (λ from. Some (from.site, from.version)) self.old.hosted.session peer.old.hosted.session result self.new.hosted.session peer.new.hosted.session }
+        ensures at_once { C.is_clean self.old.hosted.session.0 → D.is_clean peer.old.hosted.session.0
+            → IsToldAtOnce (at_once (standing C.holding self.old.hosted.session) (Some ((standing D.holding peer.old.hosted.session).holding.site, pos 0))) self.old.hosted.session result self.new.hosted.session }
         ensures guard { ⟦<G as Watching>⟧.stays self.old.guard self.new.guard }
         ensures heard { C.is_clean self.new.hosted.session.0 → Hears (⟦<G as Watching>⟧.hears self.old.guard self.new.guard) (heard_between (standing C.holding self.old.hosted.session) (standing C.holding self.new.hosted.session)) result }
         ensures modules { self.new.hosted.modules ≡ self.old.hosted.modules }

@@ -34,7 +34,7 @@ pub struct HostedSession<C: Cells, M: Drop> {
 impl<C: Cells, M: Module> HostedSession<C, M> {
     ghost use Rattle.std.specs.Prelude.{◌<◌, ℕ, Bool, List, [], Some, Err, IfOk, OnErr, is_some, length, map};
     ghost use Rattle.std.specs.Str.{str_to_ascii_lowercase};
-    ghost use Rattle.cr_cells.specs.Calls.{is_want, UnlessWant};
+    ghost use Rattle.cr_cells.specs.Calls.{is_want, StaysClean};
     ghost use Rattle.cr_cells.specs.Holding.{IsSound};
     ghost use Rattle.cr_fit.specs.Folded.{DefinesFolded};
     ghost use Rattle.cr_replica.specs.Snapshots.{IsWhole};
@@ -73,9 +73,7 @@ impl<C: Cells, M: Module> HostedSession<C, M> {
 
     // What a statement may name: what the session has, and the modules.
     fn names(&mut self, alloc: Global) -> Result<Snapshot, CellsError>
-        ensures was_honest { C.is_honest self.new.session.0 → C.is_honest self.old.session.0 }
-        ensures was_clean { C.is_clean self.new.session.0 → C.is_clean self.old.session.0 }
-        ensures stays_clean { C.is_honest self.new.session.0 → C.is_clean self.old.session.0 → UnlessWant is_want result (C.is_clean self.new.session.0) }
+        ensures device { StaysClean C.is_honest C.is_clean is_want self.old.session.0 self.new.session.0 result }
         ensures sound { C.is_clean self.new.session.0 → IsSound (C.holding self.new.session.0) }
         ensures names { C.is_clean self.new.session.0 → Names (⟦<HostedSession<C, M> as Executor>⟧.stands self.old) (⟦<HostedSession<C, M> as Executor>⟧.stands self.new) result }
         ensures modules { self.new.modules ≡ self.old.modules }
@@ -130,9 +128,7 @@ impl<C: Cells, M: Module> HostedSession<C, M> {
     /// `BadName` where the name is empty or begins with `sqlite_` or `crsql_`; `TableExists` where a table or a module has it;
     /// `Memory`, or `Store`. Then the module is dropped, and nothing is changed.
     pub fn register_module(&mut self, alloc: Global, name: &str, host: M) -> Result<(), Refusal>
-        ensures was_honest { C.is_honest self.new.session.0 → C.is_honest self.old.session.0 }
-        ensures was_clean { C.is_clean self.new.session.0 → C.is_clean self.old.session.0 }
-        ensures stays_clean { C.is_honest self.new.session.0 → C.is_clean self.old.session.0 → UnlessWant refusals.is_want result (C.is_clean self.new.session.0) }
+        ensures device { StaysClean C.is_honest C.is_clean refusals.is_want self.old.session.0 self.new.session.0 result }
         ensures registers { C.is_clean self.new.session.0 → IsRegistered (⟦<HostedSession<C, M> as Executor>⟧.stands self.old) (made (str_to_ascii_lowercase name.now) (M.columns_of host) (M.rows_of host) (M.updated host)) result (⟦<HostedSession<C, M> as Executor>⟧.stands self.new) }
         ensures refused { OnErr result (⟦<Modules<M> as StandAll>⟧.states self.new.modules ≡ ⟦<Modules<M> as StandAll>⟧.states self.old.modules) }
     {

@@ -2,7 +2,7 @@
 
 ghost use Rattle.std.specs.Prelude.{◌≡◌, ◌++◌, map, filter, int_lt, IfOk, OnOk};
 ghost use Rattle.cr_lattice.specs.Sets.{set_of};
-ghost use Rattle.cr_cells.specs.Calls.{Reads, is_want, UnlessWant};
+ghost use Rattle.cr_cells.specs.Calls.{Reads, is_want, StaysClean};
 ghost use Rattle.cr_cells.specs.Holding.{stamp_cmp};
 ghost use Rattle.cr_recent.specs.Notes.{key_cmp, key_of, cells_above};
 
@@ -94,9 +94,7 @@ pub(crate) fn cells_above<C: Cells>(
     keys: &[Key],
     version: i64,
 ) -> Result<Vec<Stamped>, CellsError>
-    ensures was_honest { C.is_honest cells.new → C.is_honest cells.old }
-    ensures was_clean { C.is_clean cells.new → C.is_clean cells.old }
-    ensures stays_clean { C.is_honest cells.new → C.is_clean cells.old → UnlessWant is_want result (C.is_clean cells.new) }
+    ensures device { StaysClean C.is_honest C.is_clean is_want cells.old cells.new result }
     ensures reads { C.is_clean cells.new → Reads (C.holding cells.old) (C.holding cells.new) result
         (λ found. found.items ≡ cells_above (C.holding cells.old).cells keys.now version) }
 {

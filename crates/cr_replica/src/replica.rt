@@ -1,7 +1,7 @@
 //! A replica without SQL.
 
 ghost use Rattle.std.specs.Prelude.{◌≡◌, ◌++◌, IfOk, OnOk};
-ghost use Rattle.cr_cells.specs.Calls.{Reads, is_want, UnlessWant};
+ghost use Rattle.cr_cells.specs.Calls.{Reads, is_want, StaysClean};
 ghost use Rattle.cr_cells.specs.Holding.{changes_of};
 ghost use Rattle.cr_replica.specs.Snapshots.{changes_of_keys, changes_of_tables};
 
@@ -129,9 +129,7 @@ fn changes_of_keys<C: Cells>(
     table: &str,
     keys: &[Bytes],
 ) -> Result<Vec<Change>, CellsError>
-    ensures was_honest { C.is_honest cells.new → C.is_honest cells.old }
-    ensures was_clean { C.is_clean cells.new → C.is_clean cells.old }
-    ensures stays_clean { C.is_honest cells.new → C.is_clean cells.old → UnlessWant is_want result (C.is_clean cells.new) }
+    ensures device { StaysClean C.is_honest C.is_clean is_want cells.old cells.new result }
     ensures reads { C.is_clean cells.new → Reads (C.holding cells.old) (C.holding cells.new) result
         (λ changes. changes.items ≡ changes_of_keys (C.holding cells.old) table.now keys.now) }
 {
@@ -149,9 +147,7 @@ fn changes_of_tables<C: Cells>(
     cells: &mut C,
     tables: &[Text],
 ) -> Result<Vec<Change>, CellsError>
-    ensures was_honest { C.is_honest cells.new → C.is_honest cells.old }
-    ensures was_clean { C.is_clean cells.new → C.is_clean cells.old }
-    ensures stays_clean { C.is_honest cells.new → C.is_clean cells.old → UnlessWant is_want result (C.is_clean cells.new) }
+    ensures device { StaysClean C.is_honest C.is_clean is_want cells.old cells.new result }
     ensures reads { C.is_clean cells.new → Reads (C.holding cells.old) (C.holding cells.new) result
         (λ changes. changes.items ≡ changes_of_tables (C.holding cells.old) tables.now) }
 {
@@ -200,7 +196,7 @@ impl<C: Cells> Replica<C> {
     ghost use Rattle.cr_cells.specs.Tables.{IsNewTable, IsNewColumn, has_folded_names, is_markable, is_named, with_replicated, with_table, with_added};
     ghost use Rattle.cr_cells.specs.Holding.{Holding, IsSound, since, changes_of};
     ghost use Rattle.cr_cells.specs.Marks.{seen_of};
-    ghost use Rattle.cr_cells.specs.Calls.{Defines, Reads, is_want, UnlessWant};
+    ghost use Rattle.cr_cells.specs.Calls.{Defines, Reads, is_want, StaysClean};
     ghost use Rattle.cr_replica.specs.Definition.{DefinesTable};
     ghost use Rattle.cr_replica.specs.Definition as definitions;
     ghost use Rattle.cr_replica.specs.Taking as takings;
@@ -240,9 +236,7 @@ impl<C: Cells> Replica<C> {
         def: &TableDef,
     ) -> Result<(), DefineError>
         requires { has_folded_names def.now ≡ true }
-        ensures was_honest { C.is_honest self.new → C.is_honest self.old }
-        ensures was_clean { C.is_clean self.new → C.is_clean self.old }
-        ensures stays_clean { C.is_honest self.new → C.is_clean self.old → UnlessWant definitions.is_want result (C.is_clean self.new) }
+        ensures device { StaysClean C.is_honest C.is_clean definitions.is_want self.old self.new result }
         ensures defines { C.is_clean self.new → DefinesTable (λ name. is_some (F.order_of functions.now name)) (C.holding self.old) (C.holding self.new) def.now result }
     {
         let tables = match self.cells.tables(alloc) {
@@ -262,9 +256,7 @@ impl<C: Cells> Replica<C> {
     /// `Memory`, or `Store(Refused)`; then nothing is changed.
     pub fn add_table(&mut self, alloc: Global, def: &TableDef) -> Result<(), CellsError>
         requires { C.is_clean self.old → IsNewTable (C.holding self.old).tables def.now }
-        ensures was_honest { C.is_honest self.new → C.is_honest self.old }
-        ensures was_clean { C.is_clean self.new → C.is_clean self.old }
-        ensures stays_clean { C.is_honest self.new → C.is_clean self.old → UnlessWant is_want result (C.is_clean self.new) }
+        ensures device { StaysClean C.is_honest C.is_clean is_want self.old self.new result }
         ensures defines { C.is_clean self.new → Defines (C.holding self.old) (C.holding self.new) result
             (record (C.holding self.old) { tables = with_table (C.holding self.old).tables def.now false }) }
     {
@@ -278,9 +270,7 @@ impl<C: Cells> Replica<C> {
     /// `Memory`, or `Store(Refused)`; then nothing is changed.
     pub fn mark_crr(&mut self, alloc: Global, name: &str) -> Result<(), CellsError>
         requires { C.is_clean self.old → is_markable name.now (C.holding self.old).tables ≡ true }
-        ensures was_honest { C.is_honest self.new → C.is_honest self.old }
-        ensures was_clean { C.is_clean self.new → C.is_clean self.old }
-        ensures stays_clean { C.is_honest self.new → C.is_clean self.old → UnlessWant is_want result (C.is_clean self.new) }
+        ensures device { StaysClean C.is_honest C.is_clean is_want self.old self.new result }
         ensures defines { C.is_clean self.new → Defines (C.holding self.old) (C.holding self.new) result
             (record (C.holding self.old) { tables = with_replicated name.now (C.holding self.old).tables }) }
     {
@@ -299,9 +289,7 @@ impl<C: Cells> Replica<C> {
         column: &ColumnDef,
     ) -> Result<(), CellsError>
         requires { C.is_clean self.old → IsNewColumn (C.holding self.old).tables table.now column.now }
-        ensures was_honest { C.is_honest self.new → C.is_honest self.old }
-        ensures was_clean { C.is_clean self.new → C.is_clean self.old }
-        ensures stays_clean { C.is_honest self.new → C.is_clean self.old → UnlessWant is_want result (C.is_clean self.new) }
+        ensures device { StaysClean C.is_honest C.is_clean is_want self.old self.new result }
         ensures defines { C.is_clean self.new → Defines (C.holding self.old) (C.holding self.new) result
             (record (C.holding self.old) { tables = with_added table.now column.now (C.holding self.old).tables }) }
     {
@@ -319,9 +307,7 @@ impl<C: Cells> Replica<C> {
         alloc: Global,
         changes: &'a [Change],
     ) -> Result<Taking<'a>, TakeError>
-        ensures was_honest { C.is_honest self.new → C.is_honest self.old }
-        ensures was_clean { C.is_clean self.new → C.is_clean self.old }
-        ensures stays_clean { C.is_honest self.new → C.is_clean self.old → UnlessWant takings.is_want result (C.is_clean self.new) }
+        ensures device { StaysClean C.is_honest C.is_clean takings.is_want self.old self.new result }
         ensures prepares { C.is_clean self.new → Prepares (C.holding self.old) (C.holding self.new) changes.now result }
         ensures changes { IfOk result (λ taking. taking.changes.now ≡ changes.now) }
     {
@@ -352,9 +338,7 @@ impl<C: Cells> Replica<C> {
         alloc: Global,
         offer: &'a Offer,
     ) -> Result<Taking<'a>, TakeError>
-        ensures was_honest { C.is_honest self.new → C.is_honest self.old }
-        ensures was_clean { C.is_clean self.new → C.is_clean self.old }
-        ensures stays_clean { C.is_honest self.new → C.is_clean self.old → UnlessWant takings.is_want result (C.is_clean self.new) }
+        ensures device { StaysClean C.is_honest C.is_clean takings.is_want self.old self.new result }
         ensures prepares { C.is_clean self.new → (peer : Holding) → IsOffer peer offer.now
             → PreparesPull peer (C.holding self.old) (C.holding self.new) result }
         ensures own { C.is_clean self.new → offer.now.site ≡ (C.holding self.old).site → result ≡ Err SameSite }
@@ -381,9 +365,7 @@ impl<C: Cells> Replica<C> {
     ) -> Result<(), CellsError>
         requires ready { C.is_clean self.old → IsReady (C.holding self.old) taking.now.changes.now taking.now.newly_kept }
         requires from_0 { ForSome mark (λ m. pos 0 ≤ℤ m.1) }
-        ensures was_honest { C.is_honest self.new → C.is_honest self.old }
-        ensures was_clean { C.is_clean self.new → C.is_clean self.old }
-        ensures stays_clean { C.is_honest self.new → C.is_clean self.old → UnlessWant is_want result (C.is_clean self.new) }
+        ensures device { StaysClean C.is_honest C.is_clean is_want self.old self.new result }
         ensures commits { C.is_clean self.new → CommitsAll (C.holding self.old) (C.holding self.new) taking.now.changes.now mark result }
         ensures joins { C.is_clean self.new → OnOk result ((held : List Change) → Stands held (C.holding self.old)
             → Stands (held ++ taking.now.changes.now) (C.holding self.new)) }
@@ -400,9 +382,7 @@ impl<C: Cells> Replica<C> {
     /// # Errors
     /// `Memory`, or `Store(Refused)`.
     pub fn offer(&mut self, alloc: Global) -> Result<Offer, CellsError>
-        ensures was_honest { C.is_honest self.new → C.is_honest self.old }
-        ensures was_clean { C.is_clean self.new → C.is_clean self.old }
-        ensures stays_clean { C.is_honest self.new → C.is_clean self.old → UnlessWant is_want result (C.is_clean self.new) }
+        ensures device { StaysClean C.is_honest C.is_clean is_want self.old self.new result }
         ensures sound { C.is_clean self.new → IsSound (C.holding self.new) }
         ensures reads { C.is_clean self.new → Reads (C.holding self.old) (C.holding self.new) result (IsOffer (C.holding self.old)) }
     {
@@ -421,9 +401,7 @@ impl<C: Cells> Replica<C> {
     /// # Errors
     /// `NoSuchTable` where no table has the name; `Memory`, or `Store`.
     pub fn rows_of(&mut self, alloc: Global, name: &str) -> Result<Items<Row>, RowsError>
-        ensures was_honest { C.is_honest self.new → C.is_honest self.old }
-        ensures was_clean { C.is_clean self.new → C.is_clean self.old }
-        ensures stays_clean { C.is_honest self.new → C.is_clean self.old → UnlessWant showings.is_want result (C.is_clean self.new) }
+        ensures device { StaysClean C.is_honest C.is_clean showings.is_want self.old self.new result }
         ensures same { C.is_clean self.new → C.holding self.new ≡ C.holding self.old }
         ensures shows { C.is_clean self.new → Shows (C.holding self.old) (find (is_named name.now) (C.holding self.old).tables) result }
     {
@@ -453,9 +431,7 @@ impl<C: Cells> Replica<C> {
     /// # Errors
     /// `Memory`, or `Store(Refused)`, as where the store gives a table that it would not have taken.
     pub fn names(&mut self, alloc: Global) -> Result<Snapshot, CellsError>
-        ensures was_honest { C.is_honest self.new → C.is_honest self.old }
-        ensures was_clean { C.is_clean self.new → C.is_clean self.old }
-        ensures stays_clean { C.is_honest self.new → C.is_clean self.old → UnlessWant is_want result (C.is_clean self.new) }
+        ensures device { StaysClean C.is_honest C.is_clean is_want self.old self.new result }
         ensures sound { C.is_clean self.new → IsSound (C.holding self.new) }
         ensures reads { C.is_clean self.new → Reads (C.holding self.old) (C.holding self.new) result (HasNamesOf (C.holding self.old)) }
         ensures whole { IfOk result IsWhole }
@@ -483,9 +459,7 @@ impl<C: Cells> Replica<C> {
     /// # Errors
     /// `Memory`, or `Store(Refused)`.
     pub fn complete(&mut self, alloc: Global, names: Snapshot) -> Result<Snapshot, CellsError>
-        ensures was_honest { C.is_honest self.new → C.is_honest self.old }
-        ensures was_clean { C.is_clean self.new → C.is_clean self.old }
-        ensures stays_clean { C.is_honest self.new → C.is_clean self.old → UnlessWant is_want result (C.is_clean self.new) }
+        ensures device { StaysClean C.is_honest C.is_clean is_want self.old self.new result }
         ensures sound { C.is_clean self.new → IsSound (C.holding self.new) }
         ensures reads { C.is_clean self.new → Reads (C.holding self.old) (C.holding self.new) result (HasCellsOf (C.holding self.old)) }
         ensures names { IfOk result (IsOfNames names) }
@@ -518,9 +492,7 @@ impl<C: Cells> Replica<C> {
         table: &str,
         keys: &[Bytes],
     ) -> Result<Vec<Change>, CellsError>
-        ensures was_honest { C.is_honest self.new → C.is_honest self.old }
-        ensures was_clean { C.is_clean self.new → C.is_clean self.old }
-        ensures stays_clean { C.is_honest self.new → C.is_clean self.old → UnlessWant is_want result (C.is_clean self.new) }
+        ensures device { StaysClean C.is_honest C.is_clean is_want self.old self.new result }
         ensures reads { C.is_clean self.new → Reads (C.holding self.old) (C.holding self.new) result
             (λ kept. kept.items ≡ kept_of_keys (C.holding self.old) table.now keys.now) }
         ensures kept { IfOk result (λ kept. keep kept.items ≡ kept.items) }
@@ -541,9 +513,7 @@ impl<C: Cells> Replica<C> {
         alloc: Global,
         tables: &[Text],
     ) -> Result<Vec<Change>, CellsError>
-        ensures was_honest { C.is_honest self.new → C.is_honest self.old }
-        ensures was_clean { C.is_clean self.new → C.is_clean self.old }
-        ensures stays_clean { C.is_honest self.new → C.is_clean self.old → UnlessWant is_want result (C.is_clean self.new) }
+        ensures device { StaysClean C.is_honest C.is_clean is_want self.old self.new result }
         ensures reads { C.is_clean self.new → Reads (C.holding self.old) (C.holding self.new) result
             (λ kept. kept.items ≡ kept_of_tables (C.holding self.old) tables.now) }
         ensures kept { IfOk result (λ kept. keep kept.items ≡ kept.items) }
@@ -560,9 +530,7 @@ impl<C: Cells> Replica<C> {
     /// # Errors
     /// `Memory`, or `Store(Refused)`.
     pub fn changes_since(&mut self, alloc: Global, version: i64) -> Result<Vec<Stamped>, CellsError>
-        ensures was_honest { C.is_honest self.new → C.is_honest self.old }
-        ensures was_clean { C.is_clean self.new → C.is_clean self.old }
-        ensures stays_clean { C.is_honest self.new → C.is_clean self.old → UnlessWant is_want result (C.is_clean self.new) }
+        ensures device { StaysClean C.is_honest C.is_clean is_want self.old self.new result }
         ensures sound { C.is_clean self.new → IsSound (C.holding self.new) }
         ensures reads { C.is_clean self.new → Reads (C.holding self.old) (C.holding self.new) result
             (λ cells. cells.items ≡ since (C.holding self.old).cells version) }
@@ -576,9 +544,7 @@ impl<C: Cells> Replica<C> {
     /// # Errors
     /// `Memory`, or `Store(Refused)`.
     pub fn changes_above(&mut self, alloc: Global, version: i64) -> Result<Vec<Change>, CellsError>
-        ensures was_honest { C.is_honest self.new → C.is_honest self.old }
-        ensures was_clean { C.is_clean self.new → C.is_clean self.old }
-        ensures stays_clean { C.is_honest self.new → C.is_clean self.old → UnlessWant is_want result (C.is_clean self.new) }
+        ensures device { StaysClean C.is_honest C.is_clean is_want self.old self.new result }
         ensures sound { C.is_clean self.new → IsSound (C.holding self.new) }
         ensures reads { C.is_clean self.new → Reads (C.holding self.old) (C.holding self.new) result
             (λ changes. changes.items ≡ changes_of (since (C.holding self.old).cells version)) }
@@ -599,9 +565,7 @@ impl<C: Cells> Replica<C> {
     /// # Errors
     /// `Memory`, or `Store(Refused)`.
     pub fn seen(&mut self, alloc: Global, site: Site) -> Result<i64, CellsError>
-        ensures was_honest { C.is_honest self.new → C.is_honest self.old }
-        ensures was_clean { C.is_clean self.new → C.is_clean self.old }
-        ensures stays_clean { C.is_honest self.new → C.is_clean self.old → UnlessWant is_want result (C.is_clean self.new) }
+        ensures device { StaysClean C.is_honest C.is_clean is_want self.old self.new result }
         ensures reads { C.is_clean self.new → Reads (C.holding self.old) (C.holding self.new) result
             (λ version. version ≡ seen_of (C.holding self.old).marks site) }
     {

@@ -126,10 +126,10 @@ module _ {E C : Type 0} (l : Language Statement E) (host : Host) (is_honest is_c
       (subst (λ (p : Option (Piece Statement)). Executed l host is_honest is_clean stands old params p result old) (sym e), subst (λ (p : Option (Piece Statement)). Executes l host (stands old) params p result (stands old)) (sym e) x)
 
   done_by : (piece : Option (Piece Statement)) → single_left source tokens ≡ piece → Executes l host (stands old) params piece (Ok Done) (stands old) → Made (Ok Done) old
-  done_by piece e x = record { was_honest = λ honest. honest; was_clean = λ clean. clean; stays_clean = λ honest clean. clean; executes = λ clean. (stays piece (Ok Done) e x).1 }
+  done_by piece e x = record { device = record { was_honest = λ honest. honest; was_clean = λ clean. clean; stays_clean = λ honest clean. clean }; executes = λ clean. (stays piece (Ok Done) e x).1 }
 
   refused_by : (piece : Option (Piece Statement)) (r : Refusal) → single_left source tokens ≡ piece → Executes l host (stands old) params piece (Err r) (stands old) → Made (Err r) old
-  refused_by piece r e x = record { was_honest = λ honest. honest; was_clean = λ clean. clean; stays_clean = λ honest clean told. clean; executes = λ clean. (stays piece (Err r) e x).1 }
+  refused_by piece r e x = record { device = record { was_honest = λ honest. honest; was_clean = λ clean. clean; stays_clean = λ honest clean told. clean }; executes = λ clean. (stays piece (Err r) e x).1 }
 
   pub does_nothing : is_empty source tokens ≡ true → second_place tokens ≡ None → Made (Ok Done) old
   does_nothing e none = done_by None (empty_is source tokens e none) (refl, refl)
@@ -149,9 +149,7 @@ module _ {E C : Type 0} (l : Language Statement E) (host : Host) (is_honest is_c
 
     pub carries_single : (result : Result Reply Refusal) → Carries l host is_honest is_clean stands old params x result new → Made result new
     carries_single result c = record {
-      was_honest = c.was_honest;
-      was_clean = c.was_clean;
-      stays_clean = c.stays_clean;
+      device = c.device;
       executes = λ clean. subst (λ (p : Option (Piece Statement)). Executes l host (stands old) params p result (stands new)) (sym (piece_read source tokens x n e f none)) (given result c clean);
     }
 
@@ -163,7 +161,7 @@ module _ {E C : Type 0} (l : Language Statement E) (host : Host) (is_honest is_c
   any_wants (Some (language.Statement x)) = ((inl (inl refl), refl), refl)
 
   pub wants_single : (p : Option (Piece Statement)) → Executed l host is_honest is_clean stands old params p (Err Memory) old
-  wants_single p = record { was_honest = λ honest. honest; was_clean = λ clean. clean; stays_clean = λ honest clean told. clean; executes = λ clean. any_wants p }
+  wants_single p = record { device = record { was_honest = λ honest. honest; was_clean = λ clean. clean; stays_clean = λ honest clean told. clean }; executes = λ clean. any_wants p }
 
   wants : (r : Refusal) → (r ≡ Memory) ⊎ (r ≡ Memory) → Made (Err r) old
   wants r (inl e) = subst (λ (x : Refusal). Made (Err x) old) (sym e) (wants_single (single_left source tokens))
@@ -214,7 +212,7 @@ module _ {C : Type 0} (function_of : List ℕ → ℕ → Option Definition) (sc
   pub refuses_long_text : 1000000 < length source → Whole (meant.single source) (Err (Limit limit.Script)) old
   refuses_long_text long =
       subst (λ (p : Option (Piece Statement)). Whole p (Err (Limit limit.Script)) old) (sym (too_long_is long))
-      (record { was_honest = λ honest. honest; was_clean = λ clean. clean; stays_clean = λ honest clean told. clean; executes = λ clean. (inl refl, refl) })
+      (record { device = record { was_honest = λ honest. honest; was_clean = λ clean. clean; stays_clean = λ honest clean told. clean }; executes = λ clean. (inl refl, refl) })
 
   pub wants_text : Whole (meant.single source) (Err Memory) old
   wants_text = wants_single meant host is_honest is_clean stands source [] params old (meant.single source)

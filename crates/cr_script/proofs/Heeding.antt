@@ -64,7 +64,7 @@ module _ {E C G : Type 0} (l : Language Statement E) (host : Host) (is_honest is
         enough = fewer;
         leads = λ clean xs why k run.
             subst (λ (r : List Reply). HearsAll l host hears g (stands old) all r why k) (sym (append_assoc replies (t.0 ∷ []) xs))
-            (leads (goes.carries.was_clean clean) (t.0 ∷ xs) why k
+            (leads (goes.carries.device.was_clean clean) (t.0 ∷ xs) why k
             (subst (λ (ps : List (Piece Statement)). HearsAll l host hears h (stands now) ps (t.0 ∷ xs) why k) (sym (one_left n source rest goes.statement t.1 goes.is)) (
               (stands now').modules,
               h',
@@ -105,5 +105,5 @@ module _ {E C G : Type 0} (l : Language Statement E) (host : Host) (is_honest is
   -- a store that is clean after a refusal was so before it
   pub was_clean : (source : List ℕ) (rest : List Token) (now new : C) (r : Refusal) → Stops l host is_honest is_clean stands now (next source rest) r new → is_clean new → is_clean now
   was_clean source rest now new r (inl (why, e, told, same)) clean = subst is_clean same clean
-  was_clean source rest now new r (inr (inl (x, k, e, carries))) clean = carries.was_clean clean
+  was_clean source rest now new r (inr (inl (x, k, e, carries))) clean = carries.device.was_clean clean
   was_clean source rest now new r (inr (inr want)) clean = subst is_clean want.1 clean

@@ -164,7 +164,7 @@ module _ {E C : Type 0} (l : Language Statement E) (host : Host) (is_honest is_c
         enough = fewer;
         leads = λ clean xs why new run.
             subst (λ (r : List Reply). RunsEach l host (stands old) all r why new) (sym (append_assoc replies (t.0 ∷ []) xs))
-            (leads (g.carries.was_clean clean) (t.0 ∷ xs) why new
+            (leads (g.carries.device.was_clean clean) (t.0 ∷ xs) why new
             (subst (λ (ps : List (Piece Statement)). RunsEach l host (stands now) ps (t.0 ∷ xs) why new) (sym (one_left n source rest g.statement t.1 g.is))
             ((stands now').modules, (g.carries.answers clean, subst (λ (st : State). RunsEach l host st (pieces_left n source (drop t.1 rest)) xs why new) (sym (g.carries.leaves clean)) run))));
       })
@@ -173,7 +173,7 @@ module _ {E C : Type 0} (l : Language Statement E) (host : Host) (is_honest is_c
       → Led source all old now rest replies → Goes l host is_honest is_clean stands now (next source rest) t now' → rest' ≡ drop t.1 rest → replies' ≡ replies ++ t.0 ∷ [] → Led source all old now' rest' replies'
   more source all old now rest rest' replies replies' t now' d g same told =
       subst (Led source all old now' rest') (sym told)
-      (one_run source all old now rest rest' replies t now' d.turns d.enough d.leads (λ honest. d.was_honest (g.carries.was_honest honest)) (λ clean. d.was_clean (g.carries.was_clean clean)) (λ honest clean. g.carries.stays_clean honest (d.stays_clean (g.carries.was_honest honest) clean)) g same)
+      (one_run source all old now rest rest' replies t now' d.turns d.enough d.leads (λ honest. d.was_honest (g.carries.device.was_honest honest)) (λ clean. d.was_clean (g.carries.device.was_clean clean)) (λ honest clean. g.carries.device.stays_clean honest (d.stays_clean (g.carries.device.was_honest honest) clean)) g same)
 
   -- ---- how a script ends
 
@@ -241,7 +241,7 @@ module _ {E C : Type 0} (l : Language Statement E) (host : Host) (is_honest is_c
       subst (CarriesAll l host is_honest is_clean stands old all replies (Some r)) (sym same)
       (refused source all old now rest replies r now d (λ honest. honest) (λ clean. clean) (λ honest clean told. clean) (λ clean. unread_runs source rest (stands now) d.turns why r d.enough e told))
   stops source all old now rest replies r new d (inr (inl (x, k, e, carries))) =
-      refused source all old now rest replies r new d carries.was_honest carries.was_clean carries.stays_clean (refuses_runs source rest now new d.turns x k r d.enough e carries)
+      refused source all old now rest replies r new d carries.device.was_honest carries.device.was_clean carries.device.stays_clean (refuses_runs source rest now new d.turns x k r d.enough e carries)
   stops source all old now rest replies r new d (inr (inr want)) =
       subst (CarriesAll l host is_honest is_clean stands old all replies (Some r)) (sym want.1)
       (subst (λ (x : Refusal). CarriesAll l host is_honest is_clean stands old all replies (Some x) now) (sym want.0)

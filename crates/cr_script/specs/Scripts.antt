@@ -3,7 +3,7 @@ use Rattle.std.specs.Prelude.{◌≡◌, ◌≢◌, ◌⊎◌, ℕ, Bool, true, 
 use Rattle.cr_value.specs.declared.value.Value.{Value}
 use Rattle.cr_lex.specs.declared.token.Token.{Token}
 use Rattle.cr_tree.specs.declared.statement.Statement.{Statement}
-use Rattle.cr_cells.specs.Calls.{UnlessWant}
+use Rattle.cr_cells.specs.Calls.{StaysClean}
 use Rattle.cr_statement.specs.Sql.{Refusal as Unread, is_semicolon}
 use Rattle.cr_statement.specs.Scripts as scripts
 use Rattle.cr_world.specs.declared.command.Reply.{Reply}
@@ -44,17 +44,13 @@ module _ {S E C : Type 0} (l : Language S E) (host : Host) (is_honest is_clean :
   -- A statement with these parameters. It holds where the store is clean after it, as it is where it was clean before, its device
   -- is honest, and there was no want.
   pub record Carries (old : C) (params : List Value) (x : S) (result : Result Reply Refusal) (new : C) : Type 0 where
-    pub was_honest : is_honest new → is_honest old
-    pub was_clean : is_clean new → is_clean old
-    pub stays_clean : is_honest new → is_clean old → UnlessWant is_want result (is_clean new)
+    pub device : StaysClean is_honest is_clean is_want old new result
     pub answers : is_clean new → Answers l host (stands old) params x result (stands new).modules
     pub leaves : is_clean new → stepped l host (stands old) params x result (stands new).modules ≡ stands new
 
   -- a text that is to be one statement, with these parameters
   pub record Executed (old : C) (params : List Value) (piece : Option (Piece S)) (result : Result Reply Refusal) (new : C) : Type 0 where
-    pub was_honest : is_honest new → is_honest old
-    pub was_clean : is_clean new → is_clean old
-    pub stays_clean : is_honest new → is_clean old → UnlessWant is_want result (is_clean new)
+    pub device : StaysClean is_honest is_clean is_want old new result
     pub executes : is_clean new → Executes l host (stands old) params piece result (stands new)
 
   -- the same of the pieces of a script, with these replies, and this refusal if there is one

@@ -199,8 +199,6 @@ pub performed_beside : {C : Type 0} (means : Means) (params : List Value) (host 
     → Performed means params host (honest is_honest) (clean is_clean) (standing holding) old y result new
     → PerformedWith means params host (honest is_honest) (clean is_clean) (beside ms (standing holding)) old y result new
 performed_beside means params host is_honest is_clean holding ms old y result new e there d = record {
-  was_honest = d.was_honest;
-  was_clean = d.was_clean;
-  stays_clean = d.stays_clean;
+  device = d.device;
   performs = λ clean. performs_beside means params host (holding old.0) old.1 ms (view y) e (there clean) result (standing holding new) (d.performs clean);
 }

@@ -207,9 +207,7 @@ performs_alone means params host st v (Err f) h pending none p = p
 pub performed_alone : {C : Type 0} (means : Means) (params : List Value) (host : Host) (is_honest is_clean : C → Type 0) (holding : C → Holding) (old : SessionOf C) (y : Answered) (result : Result Reply Refusal) (new : SessionOf C)
     → Performed means params host (honest is_honest) (clean is_clean) (standing holding) old y result new → PerformedWith means params host (honest is_honest) (clean is_clean) (standing holding) old y result new
 performed_alone means params host is_honest is_clean holding old y result new d = record {
-  was_honest = d.was_honest;
-  was_clean = d.was_clean;
-  stays_clean = d.stays_clean;
+  device = d.device;
   performs = λ clean. performs_alone means params host (standing holding old) (view y) result (holding new.0) new.1 refl (d.performs clean);
 }
 
@@ -311,9 +309,7 @@ module _ {C : Type 0} (function_of : List ℕ → ℕ → Option Definition) (sc
       → (is_honest new → is_honest old) → (is_clean new → is_clean old) → (is_honest new → is_clean old → is_clean new) → (is_clean new → Agrees (stands old) snap x) → (is_clean new → stands new ≡ stands old)
       → Allows (known_by function_of named order_of snap) under.ask x (length params) (Err f) → Does old x (Err f) new
   refused_so old new x snap f honest_was was stays agrees same h = record {
-    was_honest = honest_was;
-    was_clean = was;
-    stays_clean = λ honest clean told. stays honest clean;
+    device = record { was_honest = honest_was; was_clean = was; stays_clean = λ honest clean told. stays honest clean };
     answers = λ clean. (replied clean).0;
     leaves = λ clean. (replied clean).1;
   } where
@@ -347,9 +343,7 @@ module _ {C : Type 0} (function_of : List ℕ → ℕ → Option Definition) (sc
   pub unread_refuses : (old new : C) (x : Statement) (e : CellsError) (f : Refusal) → f ≡ of_store e → is_transaction x ≡ false
       → (is_honest new → is_honest old) → (is_clean new → is_clean old) → (is_honest new → is_clean old → calls.is_want e ≡ false → is_clean new) → (is_clean new → Names (stands old) (stands new) (Err e)) → Does old x (Err f) new
   unread_refuses old new x e f told other honest_was was stays reads = record {
-    was_honest = honest_was;
-    was_clean = was;
-    stays_clean = λ honest clean want. stays honest clean (sym (want_of_store e) ∙ ap is_want (sym told) ∙ want);
+    device = record { was_honest = honest_was; was_clean = was; stays_clean = λ honest clean want. stays honest clean (sym (want_of_store e) ∙ ap is_want (sym told) ∙ want) };
     answers = λ clean. (replied clean).0;
     leaves = λ clean. (replied clean).1;
   } where
@@ -363,15 +357,13 @@ module _ {C : Type 0} (function_of : List ℕ → ℕ → Option Definition) (sc
       (allows : Allows (known_by function_of named order_of snap) under.ask x (length params) (Ok y)) (done : PerformedWith means params under is_honest is_clean stands middle y result new) where
     replied : is_clean new → Replies language under (stands old) params x result (stands new)
     replied clean =
-        let first = reads (done.was_clean clean) in
+        let first = reads (done.device.was_clean clean) in
         replies_performed language means params under (stands old) x y (resolves (stands old) snap x first.names ∙ ap viewed allows.0) (counts x ∙ allows.1) exactly limited
         result (stands new) (subst (λ (st : State). PerformsWith means params under st (view y) result (stands new)) first.same (done.performs clean))
 
     pub carries_performed : (is_honest middle → is_honest old) → (is_clean middle → is_clean old) → (is_honest middle → is_clean old → is_clean middle) → Does old x result new
     carries_performed honest_was was stays = record {
-      was_honest = λ honest. honest_was (done.was_honest honest);
-      was_clean = λ clean. was (done.was_clean clean);
-      stays_clean = λ honest clean. done.stays_clean honest (stays (done.was_honest honest) clean);
+      device = record { was_honest = λ honest. honest_was (done.device.was_honest honest); was_clean = λ clean. was (done.device.was_clean clean); stays_clean = λ honest clean. done.device.stays_clean honest (stays (done.device.was_honest honest) clean) };
       answers = λ clean. (replied clean).0;
       leaves = λ clean. (replied clean).1;
     }
@@ -388,9 +380,7 @@ module _ {C : Type 0} (function_of : List ℕ → ℕ → Option Definition) (sc
 
     pub carries_transacted : Permits (known_by function_of named order_of snap) under.ask x (length params) (Ok tt) → Does old x result new
     carries_transacted permits = record {
-      was_honest = done.was_honest;
-      was_clean = done.was_clean;
-      stays_clean = done.stays_clean;
+      device = done.device;
       answers = λ clean. (transacted permits clean).0;
       leaves = λ clean. (transacted permits clean).1;
     }

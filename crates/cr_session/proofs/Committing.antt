@@ -151,11 +151,9 @@ module _ {C : Type 0} (means : Means) (params : List Value) (host : Host) (is_ho
   pub inserts : (new : SessionOf C) (changes : List Change) (result : Result Reply Refusal) → (is_clean old.0 → Leads means params def stands.holding.site (now stands) (insert_wants (now stands) i) changes)
       → Adds host (honest is_honest) (clean is_clean) (standing holding) old changes result new → Performed means params host (honest is_honest) (clean is_clean) (standing holding) old (r.Insert i) result new
   inserts new changes result l c = record {
-    was_honest = c.was_honest;
-    was_clean = c.was_clean;
-    stays_clean = c.stays_clean;
+    device = c.device;
     performs = λ clean. (
-        let before = c.was_clean clean in
+        let before = c.device.was_clean clean in
         subst (λ (x : Resolved Ordered). Performs means params host stands x result (standing holding new)) (sym (insert_view i false e used))
         (performs_write means params host stands def _ _ (insert_write host (holding old.0) old.1 def (insert i).places (insert i).tuples) (held_there before) changes result (standing holding new)
         (subst (λ (b : Bool). Leads means params def stands.holding.site (now stands) (λ m. wanted_by_insert m def.columns (inserting b) (rows (now stands) def)) changes) used (l before)) (c.adds clean)));
@@ -177,10 +175,8 @@ module _ {C : Type 0} (means : Means) (params : List Value) (host : Host) (is_ho
   added_as : (new : SessionOf C) (x : Answered) (changes : List Change) (result : Result Reply Refusal) → Added changes result new
       → (is_clean old.0 → AreAdded host here changes result (standing holding new) → Performs means params host here (view x) result (standing holding new)) → Does x result new
   added_as new x changes result c p = record {
-    was_honest = c.was_honest;
-    was_clean = c.was_clean;
-    stays_clean = c.stays_clean;
-    performs = λ clean. p (c.was_clean clean) (c.adds clean);
+    device = c.device;
+    performs = λ clean. p (c.device.was_clean clean) (c.adds clean);
   }
 
   -- ---- UPDATE

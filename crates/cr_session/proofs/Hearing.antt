@@ -144,8 +144,8 @@ module _ {C : Type 0} (host : Host) (is_honest is_clean : SessionOf C → Type 0
       → TellsListener is_honest is_clean (standing holding) hears mid more (Ok tt) here → CommitsTaking is_honest is_clean (standing holding) here changes mark result new → changes ≡ more → is_clean new
       → Hears hears (heard_between (standing holding old) (standing holding new)) result
   hears_take mid mark t changes result a told c e clean =
-      let at_here = c.was_clean clean in
-      let at_mid = told.was_clean at_here in
+      let at_here = c.device.was_clean clean in
+      let at_mid = told.device.was_clean at_here in
       hears_taken hears (holding old.0) old.1 more mark (standing holding here) (standing holding new) result (told.same at_here ∙ a.same at_mid)
       (subst (λ (st : State). IsTold hears st more (Ok tt)) (a.same at_mid) (told.told at_here))
       (subst (λ (cs : List Change). IsCommitted (standing holding here) cs mark result (standing holding new)) e (c.commits clean))
@@ -154,14 +154,12 @@ module _ {C : Type 0} (host : Host) (is_honest is_clean : SessionOf C → Type 0
   pub adds_on : (result : Result Reply Refusal) → TellsListener is_honest is_clean (standing holding) hears old more (Ok tt) here → Adds host is_honest is_clean (standing holding) here more result new
       → Adds host is_honest is_clean (standing holding) old more result new
   adds_on result told a = record {
-    was_honest = λ honest. told.was_honest (a.was_honest honest);
-    was_clean = λ clean. told.was_clean (a.was_clean clean);
-    stays_clean = λ honest clean. a.stays_clean honest (told.stays_clean (a.was_honest honest) clean);
-    adds = λ clean. subst (λ (st : State). AreAdded host st more result (standing holding new)) (told.same (a.was_clean clean)) (a.adds clean);
+    device = record { was_honest = λ honest. told.device.was_honest (a.device.was_honest honest); was_clean = λ clean. told.device.was_clean (a.device.was_clean clean); stays_clean = λ honest clean. a.device.stays_clean honest (told.device.stays_clean (a.device.was_honest honest) clean) };
+    adds = λ clean. subst (λ (st : State). AreAdded host st more result (standing holding new)) (told.same (a.device.was_clean clean)) (a.adds clean);
   }
 
   pub hears_add : (result : Result Reply Refusal) → TellsListener is_honest is_clean (standing holding) hears old more (Ok tt) here → Adds host is_honest is_clean (standing holding) here more result new → IfErr result IsWant → is_clean new
       → Hears hears (heard_between (standing holding old) (standing holding new)) result
   hears_add (Ok reply) told a w clean =
-      hears_added hears (holding old.0) old.1 more (standing holding new) ((a.adds clean).1.1 ∙ ap (adding more) (told.same (a.was_clean clean))) (told.told (a.was_clean clean))
+      hears_added hears (holding old.0) old.1 more (standing holding new) ((a.adds clean).1.1 ∙ ap (adding more) (told.same (a.device.was_clean clean))) (told.told (a.device.was_clean clean))
   hears_add (Err r) told a w clean = inl w

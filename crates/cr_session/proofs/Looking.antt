@@ -30,27 +30,21 @@ module _ {C : Type 0} (means : Means) (params : List Value) (host : Host) (is_ho
   -- what is carried out by what was read alone
   pub looks : (result : Result Reply Refusal) → (is_honest middle.0 → is_clean old.0 → is_clean middle.0) → (is_clean middle.0 → Performs means params host here (view x) result here) → Does old result middle
   looks result stays p = record {
-    was_honest = honest_was;
-    was_clean = was;
-    stays_clean = λ honest clean. still result (is_clean middle.0) (stays honest clean);
+    device = record { was_honest = honest_was; was_clean = was; stays_clean = λ honest clean. still result (is_clean middle.0) (stays honest clean) };
     performs = λ clean. subst (λ (st : State). Performs means params host here (view x) result st) (sym (same clean)) (p clean);
   }
 
   -- what is carried out after it
   pub after_look : (result : Result Reply Refusal) (new : SessionOf C) → (is_honest middle.0 → is_clean old.0 → is_clean middle.0) → Does middle result new → Does old result new
   after_look result new stays d = record {
-    was_honest = λ honest. honest_was (d.was_honest honest);
-    was_clean = λ clean. was (d.was_clean clean);
-    stays_clean = λ honest clean. d.stays_clean honest (stays (d.was_honest honest) clean);
-    performs = λ clean. subst (λ (st : State). Performs means params host st (view x) result (standing holding new)) (same (d.was_clean clean)) (d.performs clean);
+    device = record { was_honest = λ honest. honest_was (d.device.was_honest honest); was_clean = λ clean. was (d.device.was_clean clean); stays_clean = λ honest clean. d.device.stays_clean honest (stays (d.device.was_honest honest) clean) };
+    performs = λ clean. subst (λ (st : State). Performs means params host st (view x) result (standing holding new)) (same (d.device.was_clean clean)) (d.performs clean);
   }
 
   -- what can't be read
   pub unseen : (e : CellsError) (f : Refusal) → f ≡ of_store e → is_commit (view x) ≡ false → (is_honest middle.0 → is_clean old.0 → calls.is_want e ≡ false → is_clean middle.0) → (is_clean middle.0 → IsRefusal e) → Does old (Err f) middle
   unseen e f told lasts stays is = record {
-    was_honest = honest_was;
-    was_clean = was;
-    stays_clean = λ honest clean want. stays honest clean (sym (want_of_store e) ∙ ap is_want (sym told) ∙ want);
+    device = record { was_honest = honest_was; was_clean = was; stays_clean = λ honest clean want. stays honest clean (sym (want_of_store e) ∙ ap is_want (sym told) ∙ want) };
     performs = λ clean. (
       inl (subst IsWant (sym told) (wanting e (is clean))),
       same clean ∙ sym (ap (λ (b : Bool). cond (b && (in_transaction here && not (is_memory f))) (ended here) here) lasts),

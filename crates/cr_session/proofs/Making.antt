@@ -61,9 +61,7 @@ still (Err f) P p = λ e. p
 pub untouched : {C : Type 0} (means : Means) (params : List Value) (host : Host) (is_honest is_clean : C → Type 0) (stands : C → State) (old : C) (x : Resolved) (result : Result Reply Refusal)
     → (is_clean old → Performs means params host (stands old) (view x) result (stands old)) → Performed means params host is_honest is_clean stands old x result old
 untouched means params host is_honest is_clean stands old x result p = record {
-  was_honest = λ honest. honest;
-  was_clean = λ clean. clean;
-  stays_clean = λ honest clean. still result (is_clean old) clean;
+  device = record { was_honest = λ honest. honest; was_clean = λ clean. clean; stays_clean = λ honest clean. still result (is_clean old) clean };
   performs = p;
 }
 
@@ -77,18 +75,14 @@ module _ {C : Type 0} (means : Means) (params : List Value) (host : Host) (is_ho
   pub defined : (reply : Reply) → (is_honest new → is_clean old → is_clean new) → (is_clean new → Defines (holding old) (holding new) (Ok tt) wanted)
       → (is_clean new → Performs means params host (standing holding (old, None)) (view x) (Ok reply) (state_of wanted None)) → Does (Ok reply)
   defined reply stays defines p = record {
-    was_honest = honest_was;
-    was_clean = was;
-    stays_clean = stays;
+    device = record { was_honest = honest_was; was_clean = was; stays_clean = stays };
     performs = λ clean. subst (λ (h : Holding). Performs means params host (standing holding (old, None)) (view x) (Ok reply) (state_of h None)) (sym (defines clean)) (p clean);
   }
 
   pub not_defined : (e : CellsError) (f : Refusal) → f ≡ of_store e → is_commit (view x) ≡ false → (is_honest new → is_clean old → calls.is_want e ≡ false → is_clean new) → (is_clean new → Defines (holding old) (holding new) (Err e) wanted)
       → Does (Err f)
   not_defined e f told lasts stays defines = record {
-    was_honest = honest_was;
-    was_clean = was;
-    stays_clean = λ honest clean want. stays honest clean (sym (want_of_store e) ∙ ap is_want (sym told) ∙ want);
+    device = record { was_honest = honest_was; was_clean = was; stays_clean = λ honest clean want. stays honest clean (sym (want_of_store e) ∙ ap is_want (sym told) ∙ want) };
     performs = λ clean. (inl (subst IsWant (sym told) (wanting e (defines clean).1)), ap (λ (h : Holding). state_of h None) (defines clean).0 ∙ sym (ap (λ (b : Bool). cond (b && false) (ended (standing holding (old, None))) (standing holding (old, None))) lasts));
   }
 

@@ -49,12 +49,8 @@ module _ {C D : Type 0} (host : Host) (more : State → Holding → List Change)
   -- nothing was read
   pub pull_stopped : (r : Refusal) → (is_clean old → peer_clean peer → at_once (stands old) (first from) ≡ Some r) → Pulls (Err r) old peer
   pull_stopped r told = record {
-    was_honest = λ h. h;
-    was_clean = λ c. c;
-    stays_clean = λ h c w. c;
-    peer_was_honest = λ h. h;
-    peer_was_clean = λ c. c;
-    peer_stays_clean = λ h c w. c;
+    device = record { was_honest = λ h. h; was_clean = λ c. c; stays_clean = λ h c w. c };
+    peer_device = record { was_honest = λ h. h; was_clean = λ c. c; stays_clean = λ h c w. c };
     peer_same = λ c. refl;
     takes = λ c d. stopped host (stands old) (first from) (more (stands old) from) (mark from) r (told c d);
   }
@@ -62,12 +58,8 @@ module _ {C D : Type 0} (host : Host) (more : State → Holding → List Change)
   -- this replica's store failed
   pub pull_unread : (e : CellsError) (new : C) → StaysUnless is_honest is_clean stands e old new → Pulls (Err (of_store e)) new peer
   pull_unread e new s = record {
-    was_honest = s.was_honest;
-    was_clean = s.was_clean;
-    stays_clean = λ h c w. s.lasts h c (sym (want_of_store e) ∙ w);
-    peer_was_honest = λ h. h;
-    peer_was_clean = λ c. c;
-    peer_stays_clean = λ h c w. c;
+    device = record { was_honest = s.was_honest; was_clean = s.was_clean; stays_clean = λ h c w. s.lasts h c (sym (want_of_store e) ∙ w) };
+    peer_device = record { was_honest = λ h. h; was_clean = λ c. c; stays_clean = λ h c w. c };
     peer_same = λ c. refl;
     takes = λ c d. wanted host (stands old) (first from) (more (stands old) from) (mark from) (of_store e) (stands new) (s.same c) (wanting e (s.refusal c));
   }
@@ -76,12 +68,8 @@ module _ {C D : Type 0} (host : Host) (more : State → Holding → List Change)
     -- the peer's store failed
     pub pull_unsent : (e : CellsError) (peer_new : D) → StaysUnless peer_honest peer_clean peer_stands e peer peer_new → Pulls (Err (of_store e)) mid peer_new
     pull_unsent e peer_new t = record {
-      was_honest = s.was_honest;
-      was_clean = s.was_clean;
-      stays_clean = λ h c w. s.lasts h c;
-      peer_was_honest = t.was_honest;
-      peer_was_clean = t.was_clean;
-      peer_stays_clean = λ h c w. t.lasts h c (sym (want_of_store e) ∙ w);
+      device = record { was_honest = s.was_honest; was_clean = s.was_clean; stays_clean = λ h c w. s.lasts h c };
+      peer_device = record { was_honest = t.was_honest; was_clean = t.was_clean; stays_clean = λ h c w. t.lasts h c (sym (want_of_store e) ∙ w) };
       peer_same = t.same;
       takes = λ c d. wanted host (stands old) (first from) (more (stands old) from) (mark from) (of_store e) (stands mid) (s.same c) (wanting e (t.refusal d));
     }
@@ -90,12 +78,8 @@ module _ {C D : Type 0} (host : Host) (more : State → Holding → List Change)
       -- what it sent is not taken, for want
       pub pull_untaken : (r : Refusal) → IsWant r → Pulls (Err r) mid peer_new
       pull_untaken r w = record {
-        was_honest = s.was_honest;
-        was_clean = s.was_clean;
-        stays_clean = λ h c u. s.lasts h c;
-        peer_was_honest = t.was_honest;
-        peer_was_clean = t.was_clean;
-        peer_stays_clean = λ h c u. t.lasts h c;
+        device = record { was_honest = s.was_honest; was_clean = s.was_clean; stays_clean = λ h c u. s.lasts h c };
+        peer_device = record { was_honest = t.was_honest; was_clean = t.was_clean; stays_clean = λ h c u. t.lasts h c };
         peer_same = t.same;
         takes = λ c d. wanted host (stands old) (first from) (more (stands old) from) (mark from) r (stands mid) (s.same c) w;
       }
@@ -109,15 +93,11 @@ module _ {C D : Type 0} (host : Host) (more : State → Holding → List Change)
           → (is_clean mid → peer_clean peer_new → changes ≡ more (stands old) from) → (peer_clean peer_new → m ≡ mark from)
           → (result : Result (Unit {0}) Refusal) (new : C) → TakesAll host is_honest is_clean stands mid changes m result new → Pulls result new peer_new
       pull_taken free changes m sent marked result new k = record {
-        was_honest = λ h. s.was_honest (k.was_honest h);
-        was_clean = λ c. s.was_clean (k.was_clean c);
-        stays_clean = λ h c. k.stays_clean h (s.lasts (k.was_honest h) c);
-        peer_was_honest = t.was_honest;
-        peer_was_clean = t.was_clean;
-        peer_stays_clean = lasting result;
+        device = record { was_honest = λ h. s.was_honest (k.device.was_honest h); was_clean = λ c. s.was_clean (k.device.was_clean c); stays_clean = λ h c. k.device.stays_clean h (s.lasts (k.device.was_honest h) c) };
+        peer_device = record { was_honest = t.was_honest; was_clean = t.was_clean; stays_clean = lasting result };
         peer_same = t.same;
         takes = λ c d.
-            let was = k.was_clean c in
+            let was = k.device.was_clean c in
             goes_on host (stands old) (first from) (more (stands old) from) (mark from) result (stands new) (free (s.was_clean was) (t.was_clean d))
             (moved (stands mid) changes m result (stands new) (s.same was) (sent was d) (marked d) (k.takes c));
       } where

@@ -175,10 +175,8 @@ module _ {C : Type 0} (means : Means) (params : List Value) (host : Host) (is_ho
   pub receives : (new : SessionOf C) (changes : List Change) (result : Result Reply Refusal) → i.is_ignored ≡ false → AreReceived means params snap.tables i changes → Adds host (honest is_honest) (clean is_clean) (standing holding) old changes result new
       → Performed means params host (honest is_honest) (clean is_clean) (standing holding) old (r.Insert i) result new
   receives new changes result ig l c = record {
-    was_honest = c.was_honest;
-    was_clean = c.was_clean;
-    stays_clean = c.stays_clean;
+    device = c.device;
     performs = λ clean. as_insert false result (standing holding new) ig
         (performs_received means params host (holding old.0) old.1 (insert i) l.rows (subst (λ (b : Bool). IsBoth means params (brought_by b) l.rows) ig l.brought) changes result (standing holding new)
-        l.changes_of_rows (bad_is (c.was_clean clean) l.rows ∙ l.well_formed) (c.adds clean));
+        l.changes_of_rows (bad_is (c.device.was_clean clean) l.rows ∙ l.well_formed) (c.adds clean));
   }

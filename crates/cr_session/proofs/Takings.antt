@@ -81,9 +81,7 @@ module _ {C : Type 0} (host : Host) (is_honest is_clean : C → Type 0) (holding
 
   pub approve_unready : (e : TakeError) → (is_honest new → is_clean old → takings.is_want e ≡ false → is_clean new) → (is_clean new → Prepares (holding old) (holding new) more (Err e)) → Approved (Err (of_taking e))
   approve_unready e lasts p = record {
-    was_honest = honests;
-    was_clean = cleans;
-    stays_clean = λ honest clean w. lasts honest clean (sym (want_of_taking e) ∙ w);
+    device = record { was_honest = honests; was_clean = cleans; stays_clean = λ honest clean w. lasts honest clean (sym (want_of_taking e) ∙ w) };
     same = λ clean. ap left (p clean).0;
     approves = λ clean. not_prepared host (holding old) pending more e (p clean).1;
   }
@@ -91,18 +89,14 @@ module _ {C : Type 0} (host : Host) (is_honest is_clean : C → Type 0) (holding
   module _ (taking : Taking) (lasts : is_honest new → is_clean old → is_clean new) (p : is_clean new → Prepares (holding old) (holding new) more (Ok taking)) where
     pub approve_vetoed : host.vetoes taking.newly_kept ≡ true → Approved (Err refusal.Veto)
     approve_vetoed v = record {
-      was_honest = honests;
-      was_clean = cleans;
-      stays_clean = λ honest clean w. lasts honest clean;
+      device = record { was_honest = honests; was_clean = cleans; stays_clean = λ honest clean w. lasts honest clean };
       same = λ clean. ap left (p clean).0;
       approves = λ clean. told_veto host (holding old) pending more taking.newly_kept (p clean).2 v;
     }
 
     pub approved : host.vetoes taking.newly_kept ≡ false → Approved (Ok taking)
     approved v = record {
-      was_honest = honests;
-      was_clean = cleans;
-      stays_clean = λ honest clean. lasts honest clean;
+      device = record { was_honest = honests; was_clean = cleans; stays_clean = λ honest clean. lasts honest clean };
       same = λ clean. ap left (p clean).0;
       approves = λ clean. (
         subst (λ (h : Holding). IsReady h more taking.newly_kept) (sym (p clean).0) (p clean).2,
@@ -115,13 +109,11 @@ module _ {C : Type 0} (host : Host) (is_honest is_clean : C → Type 0) (holding
     Committed result = CommitsTaking (honest is_honest) (clean is_clean) (standing holding) (old, pending) more mark result (new, pending)
 
     pub committed_all : (is_honest new → is_clean old → is_clean new) → (is_clean new → CommitsAll (holding old) (holding new) more mark (Ok tt)) → Committed (Ok tt)
-    committed_all lasts c = record { was_honest = honests; was_clean = cleans; stays_clean = λ honest clean. lasts honest clean; commits = λ clean. ap left (c clean) }
+    committed_all lasts c = record { device = record { was_honest = honests; was_clean = cleans; stays_clean = λ honest clean. lasts honest clean }; commits = λ clean. ap left (c clean) }
 
     pub commit_refused : (e : CellsError) → (is_honest new → is_clean old → calls.is_want e ≡ false → is_clean new) → (is_clean new → CommitsAll (holding old) (holding new) more mark (Err e)) → Committed (Err (of_store e))
     commit_refused e lasts c = record {
-      was_honest = honests;
-      was_clean = cleans;
-      stays_clean = λ honest clean w. lasts honest clean (sym (want_of_store e) ∙ w);
+      device = record { was_honest = honests; was_clean = cleans; stays_clean = λ honest clean w. lasts honest clean (sym (want_of_store e) ∙ w) };
       commits = λ clean. (wanting e (c clean).1, ap left (c clean).0);
     }
 
@@ -132,7 +124,10 @@ module _ {C : Type 0} (host : Host) (is_honest is_clean : C → Type 0) (stands 
   Takes result new = TakesAll host is_honest is_clean stands old more mark result new
 
   pub take_unapproved : (r : Refusal) (new : C) → Approves host is_honest is_clean stands old more (Err r) new → Takes (Err r) new
-  take_unapproved r new a = record { was_honest = a.was_honest; was_clean = a.was_clean; stays_clean = a.stays_clean; takes = λ clean. (a.approves clean, a.same clean) }
+  take_unapproved r new a = record {
+    device = record { was_honest = a.device.was_honest; was_clean = a.device.was_clean; stays_clean = a.device.stays_clean };
+    takes = λ clean. (a.approves clean, a.same clean);
+  }
 
   -- it is approved, and then the session stands where it stood
   module _ (t : Taking) (mid : C) (a : Approves host is_honest is_clean stands old more (Ok t) mid) where
@@ -144,11 +139,9 @@ module _ {C : Type 0} (host : Host) (is_honest is_clean : C → Type 0) (stands 
     pub take_on : (here new : C) (result : Result (Unit {0}) Refusal) → (is_honest here → is_honest mid) → (is_clean here → is_clean mid) → (is_honest here → is_clean mid → is_clean here) → (is_clean here → stands here ≡ stands mid)
         → CommitsTaking is_honest is_clean stands here more mark result new → Takes result new
     take_on here new result honests cleans lasts same c = record {
-      was_honest = λ honest. a.was_honest (honests (c.was_honest honest));
-      was_clean = λ clean. a.was_clean (cleans (c.was_clean clean));
-      stays_clean = λ honest clean. c.stays_clean honest (lasts (c.was_honest honest) (a.stays_clean (honests (c.was_honest honest)) clean));
+      device = record { was_honest = λ honest. a.device.was_honest (honests (c.device.was_honest honest)); was_clean = λ clean. a.device.was_clean (cleans (c.device.was_clean clean)); stays_clean = λ honest clean. c.device.stays_clean honest (lasts (c.device.was_honest honest) (a.device.stays_clean (honests (c.device.was_honest honest)) clean)) };
       takes = λ clean.
-          let still = c.was_clean clean in
+          let still = c.device.was_clean clean in
           taken_by result (stands here) (stands new) (same still ∙ a.same (cleans still)) (a.approves (cleans still)).1 (c.commits clean);
     }
 
@@ -157,14 +150,12 @@ module _ {C : Type 0} (host : Host) (is_honest is_clean : C → Type 0) (stands 
 
     module _ (hears : List Event → Type 0) (here : C) where
       pub take_told : (new : C) (result : Result (Unit {0}) Refusal) → TellsListener is_honest is_clean stands hears mid more (Ok tt) here → CommitsTaking is_honest is_clean stands here more mark result new → Takes result new
-      take_told new result t c = take_on here new result t.was_honest t.was_clean t.stays_clean t.same c
+      take_told new result t c = take_on here new result t.device.was_honest t.device.was_clean t.device.stays_clean t.same c
 
       pub take_untold : (r : Refusal) → TellsListener is_honest is_clean stands hears mid more (Err r) here → Takes (Err r) here
       take_untold r t = record {
-        was_honest = λ honest. a.was_honest (t.was_honest honest);
-        was_clean = λ clean. a.was_clean (t.was_clean clean);
-        stays_clean = λ honest clean w. t.stays_clean honest (a.stays_clean (t.was_honest honest) clean) w;
-        takes = λ clean. (inl (t.refused clean), t.same clean ∙ a.same (t.was_clean clean));
+        device = record { was_honest = λ honest. a.device.was_honest (t.device.was_honest honest); was_clean = λ clean. a.device.was_clean (t.device.was_clean clean); stays_clean = λ honest clean w. t.device.stays_clean honest (a.device.stays_clean (t.device.was_honest honest) clean) w };
+        takes = λ clean. (inl (t.refused clean), t.same clean ∙ a.same (t.device.was_clean clean));
       }
 
 -- ---- takings by a call
@@ -235,16 +226,12 @@ module _ {C : Type 0} (host : Host) (is_honest is_clean : C → Type 0) (stands 
   -- refused before the store is asked for anything
   pub call_stopped : (r : Refusal) → (is_clean old → at_once (stands old) first ≡ Some r) → ByCall (Err r) old
   call_stopped r told = record {
-    was_honest = λ honest. honest;
-    was_clean = λ clean. clean;
-    stays_clean = λ honest clean w. clean;
+    device = record { was_honest = λ honest. honest; was_clean = λ clean. clean; stays_clean = λ honest clean w. clean };
     takes = λ clean. stopped host (stands old) first more mark r (told clean);
   }
 
   pub call_taken : (is_clean old → at_once (stands old) first ≡ None) → (result : Result (Unit {0}) Refusal) (new : C) → TakesAll host is_honest is_clean stands old more mark result new → ByCall result new
   call_taken free result new t = record {
-    was_honest = t.was_honest;
-    was_clean = t.was_clean;
-    stays_clean = t.stays_clean;
-    takes = λ clean. goes_on host (stands old) first more mark result (stands new) (free (t.was_clean clean)) (t.takes clean);
+    device = t.device;
+    takes = λ clean. goes_on host (stands old) first more mark result (stands new) (free (t.device.was_clean clean)) (t.takes clean);
   }

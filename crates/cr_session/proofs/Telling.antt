@@ -37,9 +37,7 @@ module _ {C : Type 0} (is_honest is_clean : C → Type 0) (stands : C → State)
     -- what can't be read
     pub unread : (e : CellsError) → (is_honest new → is_clean old → calls.is_want e ≡ false → is_clean new) → (is_clean new → IsRefusal e) → FindsEvents events is_honest is_clean stands old ts more (Err (of_store e)) new
     unread e lasts is = record {
-      was_honest = honests;
-      was_clean = cleans;
-      stays_clean = λ honest clean w. lasts honest clean (sym (want_of_store e) ∙ w);
+      device = record { was_honest = honests; was_clean = cleans; stays_clean = λ honest clean w. lasts honest clean (sym (want_of_store e) ∙ w) };
       same = same;
       refused = λ clean. wanting e (is clean);
       finds = λ clean. tt;
@@ -48,16 +46,14 @@ module _ {C : Type 0} (is_honest is_clean : C → Type 0) (stands : C → State)
     -- what there is no memory for, or what isn't as it was a moment ago
     pub unfound : (r : Refusal) → IsWant r → FindsEvents events is_honest is_clean stands old ts more (Err r) new
     unfound r w = record {
-      was_honest = honests;
-      was_clean = cleans;
-      stays_clean = λ honest clean. never r w;
+      device = record { was_honest = honests; was_clean = cleans; stays_clean = λ honest clean. never r w };
       same = same;
       refused = λ clean. w;
       finds = λ clean. tt;
     }
 
     pub found : (v : T) → (is_honest new → is_clean old → is_clean new) → (is_clean new → events v ≡ heard_of_touched (now (stands old)) more ts) → FindsEvents events is_honest is_clean stands old ts more (Ok v) new
-    found v lasts is = record { was_honest = honests; was_clean = cleans; stays_clean = λ honest clean. lasts honest clean; same = same; refused = λ clean. tt; finds = is }
+    found v lasts is = record { device = record { was_honest = honests; was_clean = cleans; stays_clean = λ honest clean. lasts honest clean }; same = same; refused = λ clean. tt; finds = is }
 
   -- of one table
   pub found_keys : {T : Type 0} (events : T → List Event) (t : Touched) (kept : List Change) (v : T) → (is_honest new → is_clean old → is_clean new)
@@ -70,9 +66,7 @@ module _ {C : Type 0} (is_honest is_clean : C → Type 0) (stands : C → State)
   module _ (hears : List Event → Type 0) where
     pub untold : (r : Refusal) → IsWant r → hears [] → TellsListener is_honest is_clean stands hears old more (Err r) new
     untold r w none = record {
-      was_honest = honests;
-      was_clean = cleans;
-      stays_clean = λ honest clean. never r w;
+      device = record { was_honest = honests; was_clean = cleans; stays_clean = λ honest clean. never r w };
       same = same;
       refused = λ clean. w;
       told = λ clean. none;
@@ -80,16 +74,14 @@ module _ {C : Type 0} (is_honest is_clean : C → Type 0) (stands : C → State)
 
     pub told_of_store : (e : CellsError) → (is_honest new → is_clean old → calls.is_want e ≡ false → is_clean new) → (is_clean new → IsRefusal e) → hears [] → TellsListener is_honest is_clean stands hears old more (Err (of_store e)) new
     told_of_store e lasts is none = record {
-      was_honest = honests;
-      was_clean = cleans;
-      stays_clean = λ honest clean w. lasts honest clean (sym (want_of_store e) ∙ w);
+      device = record { was_honest = honests; was_clean = cleans; stays_clean = λ honest clean w. lasts honest clean (sym (want_of_store e) ∙ w) };
       same = same;
       refused = λ clean. wanting e (is clean);
       told = λ clean. none;
     }
 
     pub told_all : (is_honest new → is_clean old → is_clean new) → (is_clean new → IsTold hears (stands old) more (Ok tt)) → TellsListener is_honest is_clean stands hears old more (Ok tt) new
-    told_all lasts told = record { was_honest = honests; was_clean = cleans; stays_clean = λ honest clean. lasts honest clean; same = same; refused = λ clean. tt; told = told }
+    told_all lasts told = record { device = record { was_honest = honests; was_clean = cleans; stays_clean = λ honest clean. lasts honest clean }; same = same; refused = λ clean. tt; told = told }
 
 -- what the touched keys tell is all that there is to hear
 pub tell_all : (h : Holding) (pending : Option (List Change)) (tables : List Table) (more : List Change) → IsSound h → tables ≡ h.tables → ForSome pending (AreWellFormed tables) → AreWellFormed tables more

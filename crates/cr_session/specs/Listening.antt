@@ -3,7 +3,7 @@ use Rattle.std.specs.Prelude.{◌≡◌, ◌⊎◌, List, [], Result, Ok, Err, I
 use Rattle.std.specs.List.{flat_map}
 use Rattle.cr_lattice.specs.declared.change.Change.{Change}
 use Rattle.cr_lattice.specs.Keep.{join}
-use Rattle.cr_cells.specs.Calls.{UnlessWant}
+use Rattle.cr_cells.specs.Calls.{StaysClean}
 use Rattle.cr_cells.specs.Holding.{IsSound}
 use Rattle.cr_guard.specs.declared.event.Event.{Event}
 use Rattle.cr_heard.specs.declared.touched.Touched.{Touched}
@@ -20,9 +20,7 @@ heard_with st more = flat_map (heard_of_table (now st) (join (now st) more)) (by
 -- What there is to hear of some keys, where these changes come to what shows there. It leaves a session where it stands, and is refused
 -- for want alone.
 pub record FindsEvents {C T : Type 0} (events : T → List Event) (is_honest is_clean : C → Type 0) (stands : C → State) (old : C) (touched : List Touched) (more : List Change) (result : Result T Refusal) (new : C) : Type 0 where
-  pub was_honest : is_honest new → is_honest old
-  pub was_clean : is_clean new → is_clean old
-  pub stays_clean : is_honest new → is_clean old → UnlessWant is_want result (is_clean new)
+  pub device : StaysClean is_honest is_clean is_want old new result
   pub same : is_clean new → stands new ≡ stands old
   pub refused : is_clean new → IfErr result IsWant
   pub finds : is_clean new → IfOk result (λ v. events v ≡ heard_of_touched (now (stands old)) more touched)
@@ -34,9 +32,7 @@ IsTold hears st more (Err r) = hears []
 
 -- A telling leaves a session where it stands. It is refused for want alone.
 pub record TellsListener {C : Type 0} (is_honest is_clean : C → Type 0) (stands : C → State) (hears : List Event → Type 0) (old : C) (more : List Change) (result : Result (Unit {0}) Refusal) (new : C) : Type 0 where
-  pub was_honest : is_honest new → is_honest old
-  pub was_clean : is_clean new → is_clean old
-  pub stays_clean : is_honest new → is_clean old → UnlessWant is_want result (is_clean new)
+  pub device : StaysClean is_honest is_clean is_want old new result
   pub same : is_clean new → stands new ≡ stands old
   pub refused : is_clean new → IfErr result IsWant
   pub told : is_clean new → IsTold hears (stands old) more result

@@ -3,7 +3,7 @@ use Rattle.std.specs.Prelude.{◌≡◌, ◌⊎◌, ◌&&◌, ℕ, Bool, true, f
 use Rattle.std.specs.List.{list_any}
 use Rattle.cr_value.specs.declared.value.Value.{Value}
 use Rattle.cr_lattice.specs.declared.change.Change.{Change}
-use Rattle.cr_cells.specs.Calls.{UnlessWant, is_past_limit}
+use Rattle.cr_cells.specs.Calls.{StaysClean, is_past_limit}
 use Rattle.cr_cells.specs.Holding.{kept_of}
 use Rattle.cr_cells.specs.Commit.{newly_kept}
 use Rattle.cr_tree.specs.declared.statement.Statement.{Statement}
@@ -107,15 +107,11 @@ module _ (means : Means) (params : List Value) (host : Host) (st : State) (x : V
 -- A statement whose names are resolved, with these parameters. It holds where the store is clean after it, as it is where it was
 -- clean before, its device is honest, and there was no want.
 pub record Performed {C : Type 0} (means : Means) (params : List Value) (host : Host) (is_honest is_clean : C → Type 0) (stands : C → State) (old : C) (x : Resolved) (result : Result Reply Refusal) (new : C) : Type 0 where
-  pub was_honest : is_honest new → is_honest old
-  pub was_clean : is_clean new → is_clean old
-  pub stays_clean : is_honest new → is_clean old → UnlessWant is_want result (is_clean new)
+  pub device : StaysClean is_honest is_clean is_want old new result
   pub performs : is_clean new → Performs means params host (stands old) (view x) result (stands new)
 
 pub record PerformedWith {C : Type 0} (means : Means) (params : List Value) (host : Host) (is_honest is_clean : C → Type 0) (stands : C → State) (old : C) (x : Resolved) (result : Result Reply Refusal) (new : C) : Type 0 where
-  pub was_honest : is_honest new → is_honest old
-  pub was_clean : is_clean new → is_clean old
-  pub stays_clean : is_honest new → is_clean old → UnlessWant is_want result (is_clean new)
+  pub device : StaysClean is_honest is_clean is_want old new result
   pub performs : is_clean new → PerformsWith means params host (stands old) (view x) result (stands new)
 
 -- ---- beside modules
@@ -167,9 +163,7 @@ AreCommitted host old more (Ok reply) new = (commit_cause host old more ≡ Free
 AreCommitted host old more (Err f) new = (IsWant f ⊎ Tells (commit_cause host old more) f) × (new ≡ old)
 
 pub record Commits {C : Type 0} (host : Host) (is_honest is_clean : C → Type 0) (stands : C → State) (old : C) (more : List Change) (result : Result Reply Refusal) (new : C) : Type 0 where
-  pub was_honest : is_honest new → is_honest old
-  pub was_clean : is_clean new → is_clean old
-  pub stays_clean : is_honest new → is_clean old → UnlessWant is_want result (is_clean new)
+  pub device : StaysClean is_honest is_clean is_want old new result
   pub commits : is_clean new → AreCommitted host (stands old) more result (stands new)
 
 -- nothing holds against changes that an open transaction keeps
@@ -183,7 +177,5 @@ AreAdded host old more (Ok reply) new = (adding_cause host old more ≡ Free) ×
 AreAdded host old more (Err f) new = (IsWant f ⊎ Tells (adding_cause host old more) f) × (new ≡ old)
 
 pub record Adds {C : Type 0} (host : Host) (is_honest is_clean : C → Type 0) (stands : C → State) (old : C) (more : List Change) (result : Result Reply Refusal) (new : C) : Type 0 where
-  pub was_honest : is_honest new → is_honest old
-  pub was_clean : is_clean new → is_clean old
-  pub stays_clean : is_honest new → is_clean old → UnlessWant is_want result (is_clean new)
+  pub device : StaysClean is_honest is_clean is_want old new result
   pub adds : is_clean new → AreAdded host (stands old) more result (stands new)

@@ -3,7 +3,7 @@ use Rattle.std.specs.Prelude.{◌≡◌, ◌⊎◌, ℕ, Bool, true, false, List
 use Rattle.cr_lattice.specs.declared.change.Change.{Change}
 use Rattle.cr_lattice.specs.declared.stamped.Stamped.{Stamped}
 use Rattle.cr_cells.specs.declared.store.CellsError.{CellsError}
-use Rattle.cr_cells.specs.Calls.{IsRefusal, UnlessWant}
+use Rattle.cr_cells.specs.Calls.{IsRefusal, StaysClean}
 use Rattle.cr_cells.specs.Holding.{Holding}
 use Rattle.cr_cells.specs.Marks.{Mark}
 use Rattle.cr_cells.specs.Tables.{is_named}
@@ -92,9 +92,7 @@ TakenUnless cause old more mark (Ok u) new = (cause ≡ Free) × (new ≡ taking
 TakenUnless cause old more mark (Err r) new = (IsWant r ⊎ Tells cause r) × (new ≡ old)
 
 pub record TakesUnless {C : Type 0} (is_honest is_clean : C → Type 0) (stands : C → State) (cause : State → Cause) (old : C) (more : List Change) (mark : Option Mark) (result : Result (Unit {0}) Refusal) (new : C) : Type 0 where
-  pub was_honest : is_honest new → is_honest old
-  pub was_clean : is_clean new → is_clean old
-  pub stays_clean : is_honest new → is_clean old → UnlessWant is_want result (is_clean new)
+  pub device : StaysClean is_honest is_clean is_want old new result
   pub takes : is_clean new → TakenUnless (cause (stands old)) (stands old) more mark result (stands new)
 
 -- whether a call may take them is its caller's to ask
@@ -104,9 +102,7 @@ TakesAll host is_honest is_clean stands old more mark result new = TakesUnless i
 -- The first step: the changes may be taken, with what their commit would bring in, or the first cause that holds is told, or want; and
 -- a session stays where it stands.
 pub record Approves {C : Type 0} (host : Host) (is_honest is_clean : C → Type 0) (stands : C → State) (old : C) (more : List Change) (result : Result Taking Refusal) (new : C) : Type 0 where
-  pub was_honest : is_honest new → is_honest old
-  pub was_clean : is_clean new → is_clean old
-  pub stays_clean : is_honest new → is_clean old → UnlessWant is_want result (is_clean new)
+  pub device : StaysClean is_honest is_clean is_want old new result
   pub same : is_clean new → stands new ≡ stands old
   pub approves : is_clean new → MatchResult result (λ t. IsReady (stands new).holding more t.newly_kept × (taking_cause host (stands old) more ≡ Free)) (λ r. IsWant r ⊎ Tells (taking_cause host (stands old) more) r)
 
@@ -116,20 +112,14 @@ IsCommitted old more mark (Ok u) new = new ≡ taking more mark old
 IsCommitted old more mark (Err r) new = IsWant r × (new ≡ old)
 
 pub record CommitsTaking {C : Type 0} (is_honest is_clean : C → Type 0) (stands : C → State) (old : C) (more : List Change) (mark : Option Mark) (result : Result (Unit {0}) Refusal) (new : C) : Type 0 where
-  pub was_honest : is_honest new → is_honest old
-  pub was_clean : is_clean new → is_clean old
-  pub stays_clean : is_honest new → is_clean old → UnlessWant is_want result (is_clean new)
+  pub device : StaysClean is_honest is_clean is_want old new result
   pub commits : is_clean new → IsCommitted (stands old) more mark result (stands new)
 
 -- A session takes what a peer holds, which stands where it stood. Where the peer is read and its store fails, that is want.
 pub record PullsUnless {C D : Type 0} (is_honest is_clean : C → Type 0) (stands : C → State) (peer_honest peer_clean : D → Type 0) (peer_stands : D → State)
     (cause : State → Holding → Cause) (more : State → Holding → List Change) (mark : Holding → Option Mark) (old : C) (peer : D) (result : Result (Unit {0}) Refusal) (new : C) (peer_new : D) : Type 0 where
-  pub was_honest : is_honest new → is_honest old
-  pub was_clean : is_clean new → is_clean old
-  pub stays_clean : is_honest new → is_clean old → UnlessWant is_want result (is_clean new)
-  pub peer_was_honest : peer_honest peer_new → peer_honest peer
-  pub peer_was_clean : peer_clean peer_new → peer_clean peer
-  pub peer_stays_clean : peer_honest peer_new → peer_clean peer → UnlessWant is_want result (peer_clean peer_new)
+  pub device : StaysClean is_honest is_clean is_want old new result
+  pub peer_device : StaysClean peer_honest peer_clean is_want peer peer_new result
   pub peer_same : peer_clean peer_new → peer_stands peer_new ≡ peer_stands peer
   pub takes : is_clean new → peer_clean peer_new
       → TakenUnless (cause (stands old) (peer_stands peer).holding) (stands old) (more (stands old) (peer_stands peer).holding) (mark (peer_stands peer).holding) result (stands new)

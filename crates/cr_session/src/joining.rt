@@ -135,7 +135,7 @@ fn push(seen: &mut Vec<Items<Row>>, rows: Items<Row>) -> Result<(), AllocError>
 
 impl<C: Cells> Session<C> {
     ghost use Rattle.std.specs.Prelude.{◌≡◌, ◌∷◌, [], IsTrue};
-    ghost use Rattle.cr_cells.specs.Calls.{is_want, UnlessWant};
+    ghost use Rattle.cr_cells.specs.Calls.{is_want, StaysClean};
     ghost use Rattle.cr_cells.specs.Holding.{IsSound};
     ghost use Rattle.cr_scalar.specs.Host.{Host as Means};
     ghost use Rattle.cr_touched.specs.Parts.{is_key_of, part};
@@ -170,9 +170,7 @@ impl<C: Cells> Session<C> {
         keys: &[Bytes],
     ) -> Result<Items<Row>, CellsError>
         requires sound { C.is_clean self.old.0 → IsSound (C.holding self.old.0) }
-        ensures was_honest { C.is_honest self.new.0 → C.is_honest self.old.0 }
-        ensures was_clean { C.is_clean self.new.0 → C.is_clean self.old.0 }
-        ensures stays_clean { C.is_honest self.new.0 → C.is_clean self.old.0 → UnlessWant is_want result (C.is_clean self.new.0) }
+        ensures device { StaysClean C.is_honest C.is_clean is_want self.old.0 self.new.0 result }
         ensures finds { C.is_clean self.new.0
             → Finds (λ rows. rows ≡ table_rows (part name.now (is_key_of keys.now) (now (standing C.holding self.old))) table.now) (standing C.holding self.old) (standing C.holding self.new) result }
     {
@@ -191,9 +189,7 @@ impl<C: Cells> Session<C> {
         name: &str,
     ) -> Result<Items<Row>, CellsError>
         requires sound { C.is_clean self.old.0 → IsSound (C.holding self.old.0) }
-        ensures was_honest { C.is_honest self.new.0 → C.is_honest self.old.0 }
-        ensures was_clean { C.is_clean self.new.0 → C.is_clean self.old.0 }
-        ensures stays_clean { C.is_honest self.new.0 → C.is_clean self.old.0 → UnlessWant is_want result (C.is_clean self.new.0) }
+        ensures device { StaysClean C.is_honest C.is_clean is_want self.old.0 self.new.0 result }
         ensures finds { C.is_clean self.new.0
             → Finds (λ rows. rows ≡ table_rows (of_tables (name.now ∷ []) (now (standing C.holding self.old))) table.now) (standing C.holding self.old) (standing C.holding self.new) result }
     {
@@ -219,9 +215,7 @@ impl<C: Cells> Session<C> {
         params: &[Value],
     ) -> Result<Items<Row>, CellsError>
         requires sound { C.is_clean self.old.0 → IsSound (C.holding self.old.0) }
-        ensures was_honest { C.is_honest self.new.0 → C.is_honest self.old.0 }
-        ensures was_clean { C.is_clean self.new.0 → C.is_clean self.old.0 }
-        ensures stays_clean { C.is_honest self.new.0 → C.is_clean self.old.0 → UnlessWant is_want result (C.is_clean self.new.0) }
+        ensures device { StaysClean C.is_honest C.is_clean is_want self.old.0 self.new.0 result }
         ensures finds { C.is_clean self.new.0
             → Finds (IsFoundIn params.now (standing C.holding self.old) tables.now query.now joined.now base partners.now) (standing C.holding self.old) (standing C.holding self.new) result }
     {
@@ -251,9 +245,7 @@ impl<C: Cells> Session<C> {
     ) -> Result<Vec<Items<Row>>, CellsError>
         requires sound { C.is_clean self.old.0 → IsSound (C.holding self.old.0) }
         requires named { C.is_clean self.old.0 → tables.now ≡ (C.holding self.old.0).tables }
-        ensures was_honest { C.is_honest self.new.0 → C.is_honest self.old.0 }
-        ensures was_clean { C.is_clean self.new.0 → C.is_clean self.old.0 }
-        ensures stays_clean { C.is_honest self.new.0 → C.is_clean self.old.0 → UnlessWant is_want result (C.is_clean self.new.0) }
+        ensures device { StaysClean C.is_honest C.is_clean is_want self.old.0 self.new.0 result }
         ensures finds { (means : Means) → IsJoinOf means self.old.1 tables.now query.now → C.is_clean self.new.0
             → Finds (λ v. Suffice means params.now query.now (standing C.holding self.old) v.items) (standing C.holding self.old) (standing C.holding self.new) result }
     {

@@ -26,7 +26,7 @@ const DB_VERSION: usize = 5;
 impl<C: Cells> Session<C> {
     ghost use Rattle.std.specs.Prelude.{◌≡◌, true, IfOk};
     ghost use Rattle.std.specs.Option.{ForSome};
-    ghost use Rattle.cr_cells.specs.Calls.{is_want, UnlessWant};
+    ghost use Rattle.cr_cells.specs.Calls.{is_want, StaysClean};
     ghost use Rattle.cr_cells.specs.Holding.{IsSound};
     ghost use Rattle.cr_fit.specs.Suited.{HasRelation};
     ghost use Rattle.cr_lattice.specs.Keep.{keep};
@@ -68,9 +68,7 @@ impl<C: Cells> Session<C> {
     ) -> Result<Snapshot, CellsError>
         requires sound { C.is_clean self.old.0 → IsSound (C.holding self.old.0) }
         requires named { C.is_clean self.old.0 → IsNamed (standing C.holding self.old) names }
-        ensures was_honest { C.is_honest self.new.0 → C.is_honest self.old.0 }
-        ensures was_clean { C.is_clean self.new.0 → C.is_clean self.old.0 }
-        ensures stays_clean { C.is_honest self.new.0 → C.is_clean self.old.0 → UnlessWant is_want result (C.is_clean self.new.0) }
+        ensures device { StaysClean C.is_honest C.is_clean is_want self.old.0 self.new.0 result }
         ensures sees { C.is_clean self.new.0 → Looks (IsSeenAt (standing C.holding self.old) name.now keys.now) (standing C.holding self.old) (standing C.holding self.new) result }
         ensures names { IfOk result (IsOfNames names) }
         ensures kept { IfOk result (λ snapshot. keep snapshot.kept ≡ snapshot.kept) }
@@ -96,9 +94,7 @@ impl<C: Cells> Session<C> {
     ) -> Result<Snapshot, CellsError>
         requires sound { C.is_clean self.old.0 → IsSound (C.holding self.old.0) }
         requires named { C.is_clean self.old.0 → IsNamed (standing C.holding self.old) names }
-        ensures was_honest { C.is_honest self.new.0 → C.is_honest self.old.0 }
-        ensures was_clean { C.is_clean self.new.0 → C.is_clean self.old.0 }
-        ensures stays_clean { C.is_honest self.new.0 → C.is_clean self.old.0 → UnlessWant is_want result (C.is_clean self.new.0) }
+        ensures device { StaysClean C.is_honest C.is_clean is_want self.old.0 self.new.0 result }
         ensures looks { C.is_clean self.new.0
             → Looks (IsLook (⟦<F as Hosted>⟧.means functions.now) params.now (standing C.holding self.old) name.now terms.now) (standing C.holding self.old) (standing C.holding self.new) result }
         ensures names { IfOk result (IsOfNames names) }
@@ -150,9 +146,7 @@ impl<C: Cells> Session<C> {
         version: i64,
     ) -> Result<Snapshot, CellsError>
         requires named { C.is_clean self.old.0 → IsNamed (standing C.holding self.old) names }
-        ensures was_honest { C.is_honest self.new.0 → C.is_honest self.old.0 }
-        ensures was_clean { C.is_clean self.new.0 → C.is_clean self.old.0 }
-        ensures stays_clean { C.is_honest self.new.0 → C.is_clean self.old.0 → UnlessWant is_want result (C.is_clean self.new.0) }
+        ensures device { StaysClean C.is_honest C.is_clean is_want self.old.0 self.new.0 result }
         ensures sees { C.is_clean self.new.0 → Looks (IsSeenAbove (standing C.holding self.old) version) (standing C.holding self.old) (standing C.holding self.new) result }
     {
         let cells = match self.replica.changes_since(alloc, version) {
@@ -176,9 +170,7 @@ impl<C: Cells> Session<C> {
     ) -> Result<Snapshot, CellsError>
         requires sound { C.is_clean self.old.0 → IsSound (C.holding self.old.0) }
         requires named { C.is_clean self.old.0 → IsNamed (standing C.holding self.old) names }
-        ensures was_honest { C.is_honest self.new.0 → C.is_honest self.old.0 }
-        ensures was_clean { C.is_clean self.new.0 → C.is_clean self.old.0 }
-        ensures stays_clean { C.is_honest self.new.0 → C.is_clean self.old.0 → UnlessWant is_want result (C.is_clean self.new.0) }
+        ensures device { StaysClean C.is_honest C.is_clean is_want self.old.0 self.new.0 result }
         ensures looks { C.is_clean self.new.0
             → Looks (ShowsQuery (⟦<F as Hosted>⟧.means functions.now) params.now query.now (standing C.holding self.old)) (standing C.holding self.old) (standing C.holding self.new) result }
     {
@@ -212,9 +204,7 @@ impl<C: Cells> Session<C> {
         requires suits { HasRelation (catalog_of names) update.now.relation }
         requires table { is_table update.now.relation.held ≡ true }
         requires replicated { not_replicated update.now.relation ≡ Free }
-        ensures was_honest { C.is_honest self.new.0 → C.is_honest self.old.0 }
-        ensures was_clean { C.is_clean self.new.0 → C.is_clean self.old.0 }
-        ensures stays_clean { C.is_honest self.new.0 → C.is_clean self.old.0 → UnlessWant is_want result (C.is_clean self.new.0) }
+        ensures device { StaysClean C.is_honest C.is_clean is_want self.old.0 self.new.0 result }
         ensures looks { C.is_clean self.new.0
             → Looks (ShowsUpdate (⟦<F as Hosted>⟧.means functions.now) params.now update.now (standing C.holding self.old)) (standing C.holding self.old) (standing C.holding self.new) result }
         ensures names { IfOk result (IsOfNames names) }
@@ -249,9 +239,7 @@ impl<C: Cells> Session<C> {
         requires suits { HasRelation (catalog_of names) delete.now.relation }
         requires table { is_table delete.now.relation.held ≡ true }
         requires replicated { not_replicated delete.now.relation ≡ Free }
-        ensures was_honest { C.is_honest self.new.0 → C.is_honest self.old.0 }
-        ensures was_clean { C.is_clean self.new.0 → C.is_clean self.old.0 }
-        ensures stays_clean { C.is_honest self.new.0 → C.is_clean self.old.0 → UnlessWant is_want result (C.is_clean self.new.0) }
+        ensures device { StaysClean C.is_honest C.is_clean is_want self.old.0 self.new.0 result }
         ensures looks { C.is_clean self.new.0
             → Looks (ShowsDelete (⟦<F as Hosted>⟧.means functions.now) params.now delete.now (standing C.holding self.old)) (standing C.holding self.old) (standing C.holding self.new) result }
         ensures names { IfOk result (IsOfNames names) }

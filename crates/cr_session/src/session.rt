@@ -60,7 +60,7 @@ impl<C: Cells> Model for Session<C> {
 impl<C: Cells> Session<C> {
     ghost use Rattle.std.specs.Prelude.{◌≡◌, ◌≤ℤ◌, ℕ, Bool, List, None, pos, true, is_some, IfOk, IsTrue};
     ghost use Rattle.std.specs.Option.{ForSome};
-    ghost use Rattle.cr_cells.specs.Calls.{Reads, is_want, UnlessWant};
+    ghost use Rattle.cr_cells.specs.Calls.{Reads, is_want, StaysClean};
     ghost use Rattle.cr_cells.specs.Holding.{IsSound, since, changes_of};
     ghost use Rattle.cr_cells.specs.Marks.{seen_of};
     ghost use Rattle.cr_cells.specs.Tables.{AreWellFormed};
@@ -124,9 +124,7 @@ impl<C: Cells> Session<C> {
     /// # Errors
     /// `Memory`, or `Store(Refused)`.
     pub fn changes_above(&mut self, alloc: Global, version: i64) -> Result<Vec<Change>, CellsError>
-        ensures was_honest { C.is_honest self.new.0 → C.is_honest self.old.0 }
-        ensures was_clean { C.is_clean self.new.0 → C.is_clean self.old.0 }
-        ensures stays_clean { C.is_honest self.new.0 → C.is_clean self.old.0 → UnlessWant is_want result (C.is_clean self.new.0) }
+        ensures device { StaysClean C.is_honest C.is_clean is_want self.old.0 self.new.0 result }
         ensures sound { C.is_clean self.new.0 → IsSound (C.holding self.new.0) }
         ensures reads { C.is_clean self.new.0 → Reads (C.holding self.old.0) (C.holding self.new.0) result
             (λ changes. changes.items ≡ changes_of (since (C.holding self.old.0).cells version)) }
@@ -140,9 +138,7 @@ impl<C: Cells> Session<C> {
     /// # Errors
     /// `Memory`, or `Store(Refused)`.
     pub fn names(&mut self, alloc: Global) -> Result<Snapshot, CellsError>
-        ensures was_honest { C.is_honest self.new.0 → C.is_honest self.old.0 }
-        ensures was_clean { C.is_clean self.new.0 → C.is_clean self.old.0 }
-        ensures stays_clean { C.is_honest self.new.0 → C.is_clean self.old.0 → UnlessWant is_want result (C.is_clean self.new.0) }
+        ensures device { StaysClean C.is_honest C.is_clean is_want self.old.0 self.new.0 result }
         ensures sound { C.is_clean self.new.0 → IsSound (C.holding self.new.0) }
         ensures names { C.is_clean self.new.0 → Names (standing C.holding self.old) (standing C.holding self.new) result }
         ensures whole { IfOk result IsWhole }
@@ -154,9 +150,7 @@ impl<C: Cells> Session<C> {
     // transaction.
     pub(crate) fn see(&mut self, alloc: Global, names: Snapshot) -> Result<Snapshot, CellsError>
         requires named { C.is_clean self.old.0 → IsNamed (standing C.holding self.old) names }
-        ensures was_honest { C.is_honest self.new.0 → C.is_honest self.old.0 }
-        ensures was_clean { C.is_clean self.new.0 → C.is_clean self.old.0 }
-        ensures stays_clean { C.is_honest self.new.0 → C.is_clean self.old.0 → UnlessWant is_want result (C.is_clean self.new.0) }
+        ensures device { StaysClean C.is_honest C.is_clean is_want self.old.0 self.new.0 result }
         ensures sees { C.is_clean self.new.0 → Sees (standing C.holding self.old) (standing C.holding self.new) result }
         ensures names { IfOk result (IsOfNames names) }
         ensures kept { IfOk result (λ snapshot. keep snapshot.kept ≡ snapshot.kept) }
@@ -192,9 +186,7 @@ impl<C: Cells> Session<C> {
         keys: &[Bytes],
     ) -> Result<Vec<Change>, CellsError>
         requires sound { C.is_clean self.old.0 → IsSound (C.holding self.old.0) }
-        ensures was_honest { C.is_honest self.new.0 → C.is_honest self.old.0 }
-        ensures was_clean { C.is_clean self.new.0 → C.is_clean self.old.0 }
-        ensures stays_clean { C.is_honest self.new.0 → C.is_clean self.old.0 → UnlessWant is_want result (C.is_clean self.new.0) }
+        ensures device { StaysClean C.is_honest C.is_clean is_want self.old.0 self.new.0 result }
         ensures sees { C.is_clean self.new.0 → SeesKeys (λ v. v.items) (standing C.holding self.old) (standing C.holding self.new) table.now keys.now result }
         ensures kept { IfOk result (λ kept. keep kept.items ≡ kept.items) }
     {
@@ -214,9 +206,7 @@ impl<C: Cells> Session<C> {
     /// # Errors
     /// `Memory`, or `Store(Refused)`.
     pub fn seen(&mut self, alloc: Global, site: Site) -> Result<i64, CellsError>
-        ensures was_honest { C.is_honest self.new.0 → C.is_honest self.old.0 }
-        ensures was_clean { C.is_clean self.new.0 → C.is_clean self.old.0 }
-        ensures stays_clean { C.is_honest self.new.0 → C.is_clean self.old.0 → UnlessWant is_want result (C.is_clean self.new.0) }
+        ensures device { StaysClean C.is_honest C.is_clean is_want self.old.0 self.new.0 result }
         ensures reads { C.is_clean self.new.0 → Reads (C.holding self.old.0) (C.holding self.new.0) result
             (λ version. version ≡ seen_of (C.holding self.old.0).marks site) }
         ensures pending { self.new.1 ≡ self.old.1 }

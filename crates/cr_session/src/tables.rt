@@ -46,7 +46,7 @@ fn in_order(alloc: Global, joined: &[Joined]) -> Result<Vec<Text>, AllocError>
 
 impl<C: Cells> Session<C> {
     ghost use Rattle.std.specs.Prelude.{◌≡◌, ◌∷◌, [], map, IfOk};
-    ghost use Rattle.cr_cells.specs.Calls.{is_want, UnlessWant};
+    ghost use Rattle.cr_cells.specs.Calls.{is_want, StaysClean};
     ghost use Rattle.cr_cells.specs.Holding.{IsSound};
     ghost use Rattle.cr_lattice.specs.Keep.{keep};
     ghost use Rattle.cr_replica.specs.Snapshots.{IsOfNames};
@@ -62,9 +62,7 @@ impl<C: Cells> Session<C> {
         tables: &[Text],
     ) -> Result<Vec<Change>, CellsError>
         requires sound { C.is_clean self.old.0 → IsSound (C.holding self.old.0) }
-        ensures was_honest { C.is_honest self.new.0 → C.is_honest self.old.0 }
-        ensures was_clean { C.is_clean self.new.0 → C.is_clean self.old.0 }
-        ensures stays_clean { C.is_honest self.new.0 → C.is_clean self.old.0 → UnlessWant is_want result (C.is_clean self.new.0) }
+        ensures device { StaysClean C.is_honest C.is_clean is_want self.old.0 self.new.0 result }
         ensures sees { C.is_clean self.new.0 → SeesTables (λ v. v.items) (standing C.holding self.old) (standing C.holding self.new) tables.now result }
         ensures kept { IfOk result (λ kept. keep kept.items ≡ kept.items) }
     {
@@ -88,9 +86,7 @@ impl<C: Cells> Session<C> {
     ) -> Result<Snapshot, CellsError>
         requires sound { C.is_clean self.old.0 → IsSound (C.holding self.old.0) }
         requires named { C.is_clean self.old.0 → IsNamed (standing C.holding self.old) names }
-        ensures was_honest { C.is_honest self.new.0 → C.is_honest self.old.0 }
-        ensures was_clean { C.is_clean self.new.0 → C.is_clean self.old.0 }
-        ensures stays_clean { C.is_honest self.new.0 → C.is_clean self.old.0 → UnlessWant is_want result (C.is_clean self.new.0) }
+        ensures device { StaysClean C.is_honest C.is_clean is_want self.old.0 self.new.0 result }
         ensures sees { C.is_clean self.new.0 → Looks (IsSeenIn (standing C.holding self.old) tables.now) (standing C.holding self.old) (standing C.holding self.new) result }
         ensures names { IfOk result (IsOfNames names) }
         ensures kept { IfOk result (λ snapshot. keep snapshot.kept ≡ snapshot.kept) }
@@ -113,9 +109,7 @@ impl<C: Cells> Session<C> {
     ) -> Result<Snapshot, CellsError>
         requires sound { C.is_clean self.old.0 → IsSound (C.holding self.old.0) }
         requires named { C.is_clean self.old.0 → IsNamed (standing C.holding self.old) names }
-        ensures was_honest { C.is_honest self.new.0 → C.is_honest self.old.0 }
-        ensures was_clean { C.is_clean self.new.0 → C.is_clean self.old.0 }
-        ensures stays_clean { C.is_honest self.new.0 → C.is_clean self.old.0 → UnlessWant is_want result (C.is_clean self.new.0) }
+        ensures device { StaysClean C.is_honest C.is_clean is_want self.old.0 self.new.0 result }
         ensures looks { C.is_clean self.new.0 → Looks (ShowsTables (standing C.holding self.old) tables.now) (standing C.holding self.old) (standing C.holding self.new) result }
         ensures names { IfOk result (IsOfNames names) }
         ensures kept { IfOk result (λ snapshot. keep snapshot.kept ≡ snapshot.kept) }
@@ -135,9 +129,7 @@ impl<C: Cells> Session<C> {
     ) -> Result<Snapshot, CellsError>
         requires sound { C.is_clean self.old.0 → IsSound (C.holding self.old.0) }
         requires named { C.is_clean self.old.0 → IsNamed (standing C.holding self.old) names }
-        ensures was_honest { C.is_honest self.new.0 → C.is_honest self.old.0 }
-        ensures was_clean { C.is_clean self.new.0 → C.is_clean self.old.0 }
-        ensures stays_clean { C.is_honest self.new.0 → C.is_clean self.old.0 → UnlessWant is_want result (C.is_clean self.new.0) }
+        ensures device { StaysClean C.is_honest C.is_clean is_want self.old.0 self.new.0 result }
         ensures looks { C.is_clean self.new.0 → Looks (ShowsTables (standing C.holding self.old) (table.now ∷ [])) (standing C.holding self.old) (standing C.holding self.new) result }
         ensures names { IfOk result (IsOfNames names) }
         ensures kept { IfOk result (λ snapshot. keep snapshot.kept ≡ snapshot.kept) }
@@ -160,9 +152,7 @@ impl<C: Cells> Session<C> {
     ) -> Result<Snapshot, CellsError>
         requires sound { C.is_clean self.old.0 → IsSound (C.holding self.old.0) }
         requires named { C.is_clean self.old.0 → IsNamed (standing C.holding self.old) names }
-        ensures was_honest { C.is_honest self.new.0 → C.is_honest self.old.0 }
-        ensures was_clean { C.is_clean self.new.0 → C.is_clean self.old.0 }
-        ensures stays_clean { C.is_honest self.new.0 → C.is_clean self.old.0 → UnlessWant is_want result (C.is_clean self.new.0) }
+        ensures device { StaysClean C.is_honest C.is_clean is_want self.old.0 self.new.0 result }
         ensures looks { C.is_clean self.new.0 → Looks (ShowsTables (standing C.holding self.old) (in_order (map name_of joined.now))) (standing C.holding self.old) (standing C.holding self.new) result }
         ensures names { IfOk result (IsOfNames names) }
         ensures kept { IfOk result (λ snapshot. keep snapshot.kept ≡ snapshot.kept) }

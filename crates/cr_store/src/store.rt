@@ -6,7 +6,7 @@ ghost use Rattle.std.specs.Option.{ForSome};
 ghost use Rattle.sqlite.specs.Held.{state};
 ghost use Rattle.sqlite.specs.State.{HasCleanDisk};
 ghost use Rattle.cr_rows.specs.Schema.{no_schema};
-ghost use Rattle.cr_cells.specs.Calls.{IsRefusal, Reads, Defines, Commits, is_want, UnlessWant};
+ghost use Rattle.cr_cells.specs.Calls.{IsRefusal, Reads, Defines, Commits, is_want, StaysClean};
 ghost use Rattle.cr_cells.specs.Holding.{empty_holding, IsSound, since, cells_of, cells_of_table};
 ghost use Rattle.cr_cells.specs.Tables.{AreWellFormed, IsNewTable, IsNewColumn, has_defaults, with_table, with_replicated, with_added, is_markable};
 ghost use Rattle.cr_store.specs.Making.{has_store, IsRefused};
@@ -210,9 +210,7 @@ impl<S: Alter> Store<S> {
     fn add(&mut self, alloc: Global, def: &TableDef, is_replicated: bool) -> Result<(), CellsError>
         requires is_new { IsClean S.Store self.old.0 → IsNewTable (holding_of (state S.Store self.old.0).now self.old.1).tables def.now }
         requires defaults { is_replicated ≡ true → has_defaults def.now ≡ true }
-        ensures was_honest { HasCleanDisk (state S.Store self.new.0) → HasCleanDisk (state S.Store self.old.0) }
-        ensures was_clean { IsClean S.Store self.new.0 → IsClean S.Store self.old.0 }
-        ensures stays_clean { HasCleanDisk (state S.Store self.new.0) → IsClean S.Store self.old.0 → UnlessWant is_want result (IsClean S.Store self.new.0) }
+        ensures device { StaysClean (λ conn. HasCleanDisk (state S.Store conn)) (IsClean S.Store) is_want self.old.0 self.new.0 result }
         ensures sound { IsClean S.Store self.new.0 → IsSound (holding_of (state S.Store self.new.0).now self.new.1) }
         ensures defines { IsClean S.Store self.new.0 → Defines (holding_of (state S.Store self.old.0).now self.old.1) (holding_of (state S.Store self.new.0).now self.new.1) result
             (record (holding_of (state S.Store self.old.0).now self.old.1) { tables = with_table (holding_of (state S.Store self.old.0).now self.old.1).tables def.now is_replicated }) }
@@ -236,117 +234,6 @@ impl<S: Alter> Store<S> {
             Err(error) => Err(refusal(error)),
         }
     }
-
-    fn mark(&mut self, alloc: Global, name: &str) -> Result<(), CellsError>
-        requires { IsClean S.Store self.old.0 → is_markable name.now (holding_of (state S.Store self.old.0).now self.old.1).tables ≡ true }
-        ensures was_honest { HasCleanDisk (state S.Store self.new.0) → HasCleanDisk (state S.Store self.old.0) }
-        ensures was_clean { IsClean S.Store self.new.0 → IsClean S.Store self.old.0 }
-        ensures stays_clean { HasCleanDisk (state S.Store self.new.0) → IsClean S.Store self.old.0 → UnlessWant is_want result (IsClean S.Store self.new.0) }
-        ensures sound { IsClean S.Store self.new.0 → IsSound (holding_of (state S.Store self.new.0).now self.new.1) }
-        ensures defines { IsClean S.Store self.new.0 → Defines (holding_of (state S.Store self.old.0).now self.old.1) (holding_of (state S.Store self.new.0).now self.new.1) result
-            (record (holding_of (state S.Store self.old.0).now self.old.1) { tables = with_replicated name.now (holding_of (state S.Store self.old.0).now self.old.1).tables }) }
-    {
-        let _ = self.conn.is_autocommit();
-        let tables = with_replicated(alloc, &self.known.tables, name)?;
-        match replicate(&mut self.conn, name) {
-            Ok(()) => {
-                self.known.tables = tables;
-                Ok(())
-            }
-            Err(error) => Err(refusal(error)),
-        }
-    }
-
-    fn widen(&mut self, alloc: Global, name: &str, column: &ColumnDef) -> Result<(), CellsError>
-        requires { IsClean S.Store self.old.0 → IsNewColumn (holding_of (state S.Store self.old.0).now self.old.1).tables name.now column.now }
-        ensures was_honest { HasCleanDisk (state S.Store self.new.0) → HasCleanDisk (state S.Store self.old.0) }
-        ensures was_clean { IsClean S.Store self.new.0 → IsClean S.Store self.old.0 }
-        ensures stays_clean { HasCleanDisk (state S.Store self.new.0) → IsClean S.Store self.old.0 → UnlessWant is_want result (IsClean S.Store self.new.0) }
-        ensures sound { IsClean S.Store self.new.0 → IsSound (holding_of (state S.Store self.new.0).now self.new.1) }
-        ensures defines { IsClean S.Store self.new.0 → Defines (holding_of (state S.Store self.old.0).now self.old.1) (holding_of (state S.Store self.new.0).now self.new.1) result
-            (record (holding_of (state S.Store self.old.0).now self.old.1) { tables = with_added name.now column.now (holding_of (state S.Store self.old.0).now self.old.1).tables }) }
-    {
-        let _ = self.conn.is_autocommit();
-        let table = match table_named(&self.known.tables, name) {
-            Some(table) => table,
-            None => return Ok(()),
-        };
-        let wider = with_column(alloc, &table.definition, column)?;
-        let bytes = definition(alloc, &wider)?;
-        let tables = with_added(alloc, &self.known.tables, name, column)?;
-        match redefine(&mut self.conn, name, &bytes) {
-            Ok(()) => {
-                self.known.tables = tables;
-                Ok(())
-            }
-            Err(error) => Err(refusal(error)),
-        }
-    }
-
-    fn read_since(&mut self, alloc: Global, version: i64) -> Result<Vec<Stamped>, CellsError>
-        ensures was_honest { HasCleanDisk (state S.Store self.new.0) → HasCleanDisk (state S.Store self.old.0) }
-        ensures was_clean { IsClean S.Store self.new.0 → IsClean S.Store self.old.0 }
-        ensures stays_clean { HasCleanDisk (state S.Store self.new.0) → IsClean S.Store self.old.0 → UnlessWant is_want result (IsClean S.Store self.new.0) }
-        ensures sound { IsClean S.Store self.new.0 → IsSound (holding_of (state S.Store self.new.0).now self.new.1) }
-        ensures reads { IsClean S.Store self.new.0 → Reads (holding_of (state S.Store self.old.0).now self.old.1) (holding_of (state S.Store self.new.0).now self.new.1) result
-            (λ cells. cells.items ≡ since (holding_of (state S.Store self.old.0).now self.old.1).cells version) }
-    {
-        let _ = self.conn.is_autocommit();
-        since(&mut self.conn, &self.known.tables, version, alloc)
-    }
-
-    fn read_row<'a>(
-        &mut self,
-        alloc: Global,
-        table: &'a str,
-        pk: &'a [u8],
-    ) -> Result<Vec<Stamped>, CellsError>
-        ensures was_honest { HasCleanDisk (state S.Store self.new.0) → HasCleanDisk (state S.Store self.old.0) }
-        ensures was_clean { IsClean S.Store self.new.0 → IsClean S.Store self.old.0 }
-        ensures stays_clean { HasCleanDisk (state S.Store self.new.0) → IsClean S.Store self.old.0 → UnlessWant is_want result (IsClean S.Store self.new.0) }
-        ensures sound { IsClean S.Store self.new.0 → IsSound (holding_of (state S.Store self.new.0).now self.new.1) }
-        ensures reads { IsClean S.Store self.new.0 → Reads (holding_of (state S.Store self.old.0).now self.old.1) (holding_of (state S.Store self.new.0).now self.new.1) result
-            (λ cells. cells.items ≡ cells_of (holding_of (state S.Store self.old.0).now self.old.1).cells table.now pk.now) }
-    {
-        let _ = self.conn.is_autocommit();
-        cells_of(&mut self.conn, &self.known.tables, table, pk, alloc)
-    }
-
-    fn read_table(&mut self, alloc: Global, table: &str) -> Result<Vec<Stamped>, CellsError>
-        ensures was_honest { HasCleanDisk (state S.Store self.new.0) → HasCleanDisk (state S.Store self.old.0) }
-        ensures was_clean { IsClean S.Store self.new.0 → IsClean S.Store self.old.0 }
-        ensures stays_clean { HasCleanDisk (state S.Store self.new.0) → IsClean S.Store self.old.0 → UnlessWant is_want result (IsClean S.Store self.new.0) }
-        ensures sound { IsClean S.Store self.new.0 → IsSound (holding_of (state S.Store self.new.0).now self.new.1) }
-        ensures reads { IsClean S.Store self.new.0 → Reads (holding_of (state S.Store self.old.0).now self.old.1) (holding_of (state S.Store self.new.0).now self.new.1) result
-            (λ cells. cells.items ≡ cells_of_table (holding_of (state S.Store self.old.0).now self.old.1).cells table.now) }
-    {
-        let _ = self.conn.is_autocommit();
-        cells_of_table(&mut self.conn, &self.known.tables, table, alloc)
-    }
-
-    fn take(
-        &mut self,
-        alloc: Global,
-        changes: &[Change],
-        peer: Option<Mark>,
-    ) -> Result<bool, CellsError>
-        requires well_formed { IsClean S.Store self.old.0 → AreWellFormed (holding_of (state S.Store self.old.0).now self.old.1).tables changes.now }
-        requires from_0 { ForSome peer (λ mark. pos 0 ≤ℤ mark.1) }
-        ensures was_honest { HasCleanDisk (state S.Store self.new.0) → HasCleanDisk (state S.Store self.old.0) }
-        ensures was_clean { IsClean S.Store self.new.0 → IsClean S.Store self.old.0 }
-        ensures stays_clean { HasCleanDisk (state S.Store self.new.0) → IsClean S.Store self.old.0 → UnlessWant is_want result (IsClean S.Store self.new.0) }
-        ensures sound { IsClean S.Store self.new.0 → IsSound (holding_of (state S.Store self.new.0).now self.new.1) }
-        ensures commits { IsClean S.Store self.new.0 → Commits (holding_of (state S.Store self.old.0).now self.old.1) (holding_of (state S.Store self.new.0).now self.new.1) changes.now peer result }
-    {
-        match commit(alloc, &mut self.conn, &self.known, changes, peer) {
-            Ok(outcome) => {
-                self.known.version = outcome.version;
-                self.known.marks = outcome.marks;
-                Ok(outcome.is_changed)
-            }
-            Err(error) => Err(error),
-        }
-    }
 }
 
 impl<S: Alter + Drop> Cells for Store<S> {
@@ -367,7 +254,15 @@ impl<S: Alter + Drop> Cells for Store<S> {
     }
 
     fn mark_crr(&mut self, alloc: Global, name: &str) -> Result<(), CellsError> {
-        self.mark(alloc, name)
+        let _ = self.conn.is_autocommit();
+        let tables = with_replicated(alloc, &self.known.tables, name)?;
+        match replicate(&mut self.conn, name) {
+            Ok(()) => {
+                self.known.tables = tables;
+                Ok(())
+            }
+            Err(error) => Err(refusal(error)),
+        }
     }
 
     fn add_replicated(&mut self, alloc: Global, def: &TableDef) -> Result<(), CellsError> {
@@ -380,11 +275,26 @@ impl<S: Alter + Drop> Cells for Store<S> {
         table: &str,
         column: &ColumnDef,
     ) -> Result<(), CellsError> {
-        self.widen(alloc, table, column)
+        let _ = self.conn.is_autocommit();
+        let old = match table_named(&self.known.tables, table) {
+            Some(old) => old,
+            None => return Ok(()),
+        };
+        let wider = with_column(alloc, &old.definition, column)?;
+        let bytes = definition(alloc, &wider)?;
+        let tables = with_added(alloc, &self.known.tables, table, column)?;
+        match redefine(&mut self.conn, table, &bytes) {
+            Ok(()) => {
+                self.known.tables = tables;
+                Ok(())
+            }
+            Err(error) => Err(refusal(error)),
+        }
     }
 
     fn since(&mut self, alloc: Global, version: i64) -> Result<Vec<Stamped>, CellsError> {
-        self.read_since(alloc, version)
+        let _ = self.conn.is_autocommit();
+        since(&mut self.conn, &self.known.tables, version, alloc)
     }
 
     fn cells_of(
@@ -393,11 +303,13 @@ impl<S: Alter + Drop> Cells for Store<S> {
         table: &str,
         pk: &[u8],
     ) -> Result<Vec<Stamped>, CellsError> {
-        self.read_row(alloc, table, pk)
+        let _ = self.conn.is_autocommit();
+        cells_of(&mut self.conn, &self.known.tables, table, pk, alloc)
     }
 
     fn cells_of_table(&mut self, alloc: Global, table: &str) -> Result<Vec<Stamped>, CellsError> {
-        self.read_table(alloc, table)
+        let _ = self.conn.is_autocommit();
+        cells_of_table(&mut self.conn, &self.known.tables, table, alloc)
     }
 
     fn commit(
@@ -406,7 +318,14 @@ impl<S: Alter + Drop> Cells for Store<S> {
         changes: &[Change],
         peer: Option<(Site, i64)>,
     ) -> Result<bool, CellsError> {
-        self.take(alloc, changes, peer)
+        match commit(alloc, &mut self.conn, &self.known, changes, peer) {
+            Ok(outcome) => {
+                self.known.version = outcome.version;
+                self.known.marks = outcome.marks;
+                Ok(outcome.is_changed)
+            }
+            Err(error) => Err(error),
+        }
     }
 
     fn seen(&mut self, _alloc: Global, site: Site) -> Result<i64, CellsError> {

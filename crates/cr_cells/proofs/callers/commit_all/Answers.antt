@@ -16,20 +16,20 @@ loop-batch-preserved g c =
     let i = c.loop-batch.batch-index in
     let cut = ap (λ b. take i bs ++ b ∷ []) c.batch-item.is ∙ sym (take_more bs i c.batch-item.result c.loop-batch-test.true) in
     record {
-      was_honest = λ honest. c.loop-batch.invariant.was_honest (c.commit.ensures.was_honest honest);
-      stays_clean = λ honest clean. c.in_ok-commit.ensures.stays_clean honest (c.loop-batch.invariant.stays_clean (c.commit.ensures.was_honest honest) clean);
-      was_clean = λ clean. c.loop-batch.invariant.was_clean (c.in_ok-commit.ensures.was_clean clean);
-      tables = λ clean. ap (λ (h : Holding). h.tables) (c.in_ok-commit.ensures.commits clean).0 ∙ c.loop-batch.invariant.tables (c.in_ok-commit.ensures.was_clean clean);
+      was_honest = λ honest. c.loop-batch.invariant.was_honest (c.commit.ensures.device.was_honest honest);
+      stays_clean = λ honest clean. c.in_ok-commit.ensures.device.stays_clean honest (c.loop-batch.invariant.stays_clean (c.commit.ensures.device.was_honest honest) clean);
+      was_clean = λ clean. c.loop-batch.invariant.was_clean (c.in_ok-commit.ensures.device.was_clean clean);
+      tables = λ clean. ap (λ (h : Holding). h.tables) (c.in_ok-commit.ensures.commits clean).0 ∙ c.loop-batch.invariant.tables (c.in_ok-commit.ensures.device.was_clean clean);
       sound = c.in_ok-commit.ensures.sound;
       holds = λ clean. (
           let first = g.C.Cells.holding c.args.cells.now in
           (c.in_ok-commit.ensures.commits clean).0
-          ∙ ap (λ h. committed h c.as_slice.result.now None) (c.loop-batch.invariant.holds (c.in_ok-commit.ensures.was_clean clean))
+          ∙ ap (λ h. committed h c.as_slice.result.now None) (c.loop-batch.invariant.holds (c.in_ok-commit.ensures.device.was_clean clean))
           ∙ ap (λ m. committed (after_all first (unmarked (take i bs))) m None) c.as_slice.ensures
           ∙ sym (unmarked-more first (take i bs) c.batch-item.result)
           ∙ ap (λ l. after_all first (unmarked l)) cut);
       kept = λ clean. (
-          let before = c.in_ok-commit.ensures.was_clean clean in
+          let before = c.in_ok-commit.ensures.device.was_clean clean in
           let kept : List Change = kept_of (g.C.Cells.holding c.args.cells.now) in
           let held : List Change = flat_map (λ batch. batch) (take i bs) in
           kept-once_more old new kept held c.as_slice.result.now None (c.in_ok-commit.ensures.commits clean).0 (c.loop-batch.invariant.sound before) (c.loop-batch.invariant.kept before)

@@ -5,9 +5,9 @@ use Rattle.cr_cells.proofs.callers.commit_twice.Goals as goal
 
 pub returns-clause-listed : goal.returns-clause-listed
 returns-clause-listed g c = λ clean.
-    let clean_2 : g.C.Cells.is_clean c.commit-2.new.self = c.since.ensures.was_clean clean in
-    let clean_1 : g.C.Cells.is_clean c.commit.new.self = c.in_ok-commit-2.ensures.was_clean clean_2 in
-    let clean_0 : g.C.Cells.is_clean c.args.cells.now = c.in_ok-commit.ensures.was_clean clean_1 in
+    let clean_2 : g.C.Cells.is_clean c.commit-2.new.self = c.since.ensures.device.was_clean clean in
+    let clean_1 : g.C.Cells.is_clean c.commit.new.self = c.in_ok-commit-2.ensures.device.was_clean clean_2 in
+    let clean_0 : g.C.Cells.is_clean c.args.cells.now = c.in_ok-commit.ensures.device.was_clean clean_1 in
     let h_0 = g.C.Cells.holding c.args.cells.now in
     let h_1 = g.C.Cells.holding c.commit.new.self in
     let h_2 = g.C.Cells.holding c.commit-2.new.self in
@@ -18,12 +18,12 @@ returns-clause-listed g c = λ clean.
 
 pub returns-clause-holds : goal.returns-clause-holds
 returns-clause-holds g c = λ clean.
-    let clean_2 : g.C.Cells.is_clean c.commit-2.new.self = c.since.ensures.was_clean clean in
-    let clean_1 : g.C.Cells.is_clean c.commit.new.self = c.in_ok-commit-2.ensures.was_clean clean_2 in
+    let clean_2 : g.C.Cells.is_clean c.commit-2.new.self = c.since.ensures.device.was_clean clean in
+    let clean_1 : g.C.Cells.is_clean c.commit.new.self = c.in_ok-commit-2.ensures.device.was_clean clean_2 in
     on-ok c.since.result _ ((c.since.ensures.reads clean).same ∙ (c.in_ok-commit-2.ensures.commits clean_2).0 ∙ ap (λ h. committed h c.args.second.now None) (c.in_ok-commit.ensures.commits clean_1).0)
 
 pub returns-clause-stands : goal.returns-clause-stands
 returns-clause-stands g c = λ clean.
-    let clean_2 : g.C.Cells.is_clean c.commit-2.new.self = c.since.ensures.was_clean clean in
-    let clean_1 : g.C.Cells.is_clean c.commit.new.self = c.in_ok-commit-2.ensures.was_clean clean_2 in
+    let clean_2 : g.C.Cells.is_clean c.commit-2.new.self = c.since.ensures.device.was_clean clean in
+    let clean_1 : g.C.Cells.is_clean c.commit.new.self = c.in_ok-commit-2.ensures.device.was_clean clean_2 in
     on-err c.since.result _ (2, (c.since.ensures.reads clean).same ∙ (c.in_ok-commit-2.ensures.commits clean_2).0 ∙ ap (λ h. committed h c.args.second.now None) (c.in_ok-commit.ensures.commits clean_1).0)

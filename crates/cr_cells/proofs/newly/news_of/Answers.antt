@@ -33,17 +33,17 @@ loop-change-preserved g c =
       | then-not-is_read+in_ok-row w ↦ (
           let back = λ (k : clean next). subst clean w.cells-is k in
           let device = λ (k : honest next). subst honest w.cells-is k in
-          let before = λ (k : clean next). w.cells_of.ensures.was_clean (back k) in
+          let before = λ (k : clean next). w.cells_of.ensures.device.was_clean (back k) in
           let own = λ (k : clean next).
           ap (λ v. v.items) w.row-is ∙ (w.in_ok-row.ensures.reads (back k)).answers
           ∙ ap (λ t. cells_of (g.C.Cells.holding c.loop-change.cells).cells t w.as_slice.result.now) w.as_str.ensures.value
           ∙ ap (cells_of (g.C.Cells.holding c.loop-change.cells).cells x.table) w.as_slice.ensures
           ∙ ap (λ (d : Holding). cells_of d.cells x.table x.pk) (c.loop-change.invariant.same (before k)) in
           record {
-            was_honest = λ k. c.loop-change.invariant.was_honest (w.cells_of.ensures.was_honest (device k));
+            was_honest = λ k. c.loop-change.invariant.was_honest (w.cells_of.ensures.device.was_honest (device k));
             stays_clean = λ k was.
                 subst clean (sym w.cells-is)
-                (w.in_ok-row.ensures.stays_clean (device k) (c.loop-change.invariant.stays_clean (w.cells_of.ensures.was_honest (device k)) was));
+                (w.in_ok-row.ensures.device.stays_clean (device k) (c.loop-change.invariant.stays_clean (w.cells_of.ensures.device.was_honest (device k)) was));
             was_clean = λ k. c.loop-change.invariant.was_clean (before k);
             same = λ k. ap g.C.Cells.holding w.cells-is ∙ (w.in_ok-row.ensures.reads (back k)).same ∙ c.loop-change.invariant.same (before k);
             read = λ k r e. own k ∙ ap (λ (o : Option (Bor Change)). option_map_or (λ t. cells_of h.cells t.now.table t.now.pk) o []) (sym w.read-is ∙ e);

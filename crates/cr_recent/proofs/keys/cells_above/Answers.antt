@@ -29,12 +29,12 @@ loop-key-preserved g c =
     let of : Key → List Stamped = λ key. filter (λ s. int_lt v s.version) (cells_of h.cells key.table key.pk) in
     let cut = ap (λ b. take i ks ++ b ∷ []) c.key-item.is ∙ sym (take_more ks i k c.loop-key-test.true) in
     record {
-      was_honest = λ honest. c.loop-key.invariant.was_honest (c.cells_of.ensures.was_honest honest);
-      stays_clean = λ honest clean. c.in_ok-row.ensures.stays_clean honest (c.loop-key.invariant.stays_clean (c.cells_of.ensures.was_honest honest) clean);
-      was_clean = λ clean. c.loop-key.invariant.was_clean (c.cells_of.ensures.was_clean clean);
-      same = λ clean. (c.in_ok-row.ensures.reads clean).same ∙ c.loop-key.invariant.same (c.cells_of.ensures.was_clean clean);
+      was_honest = λ honest. c.loop-key.invariant.was_honest (c.cells_of.ensures.device.was_honest honest);
+      stays_clean = λ honest clean. c.in_ok-row.ensures.device.stays_clean honest (c.loop-key.invariant.stays_clean (c.cells_of.ensures.device.was_honest honest) clean);
+      was_clean = λ clean. c.loop-key.invariant.was_clean (c.cells_of.ensures.device.was_clean clean);
+      same = λ clean. (c.in_ok-row.ensures.reads clean).same ∙ c.loop-key.invariant.same (c.cells_of.ensures.device.was_clean clean);
       found = λ clean. (
-          let before = c.cells_of.ensures.was_clean clean in
+          let before = c.cells_of.ensures.device.was_clean clean in
           let row = (c.in_ok-row.ensures.reads clean).answers ∙ ap (λ (t : Holding). cells_of t.cells c.as_str.result.now c.as_slice.result.now) (c.loop-key.invariant.same before)
           ∙ ap (λ t. cells_of h.cells t c.as_slice.result.now) c.as_str.ensures.value ∙ ap (cells_of h.cells k.table) c.as_slice.ensures in
           c.in_ok-push_above.ensures

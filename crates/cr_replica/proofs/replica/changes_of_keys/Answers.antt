@@ -14,12 +14,12 @@ loop-key-preserved g c =
     let of : List ℕ → List Change = λ pk. changes_of (cells_of h.cells c.args.table.now pk) in
     let cut = ap (λ b. take i ks ++ b ∷ []) c.key-item.is ∙ sym (take_more ks i k c.loop-key-test.true) in
     record {
-      was_honest = λ honest. c.loop-key.invariant.was_honest (c.cells_of.ensures.was_honest honest);
-      stays_clean = λ honest clean. c.in_ok-row.ensures.stays_clean honest (c.loop-key.invariant.stays_clean (c.cells_of.ensures.was_honest honest) clean);
-      was_clean = λ clean. c.loop-key.invariant.was_clean (c.cells_of.ensures.was_clean clean);
-      same = λ clean. (c.in_ok-row.ensures.reads clean).same ∙ c.loop-key.invariant.same (c.cells_of.ensures.was_clean clean);
+      was_honest = λ honest. c.loop-key.invariant.was_honest (c.cells_of.ensures.device.was_honest honest);
+      stays_clean = λ honest clean. c.in_ok-row.ensures.device.stays_clean honest (c.loop-key.invariant.stays_clean (c.cells_of.ensures.device.was_honest honest) clean);
+      was_clean = λ clean. c.loop-key.invariant.was_clean (c.cells_of.ensures.device.was_clean clean);
+      same = λ clean. (c.in_ok-row.ensures.reads clean).same ∙ c.loop-key.invariant.same (c.cells_of.ensures.device.was_clean clean);
       changes = λ clean. (
-          let before = c.cells_of.ensures.was_clean clean in
+          let before = c.cells_of.ensures.device.was_clean clean in
           let row = (c.in_ok-row.ensures.reads clean).answers ∙ ap (λ (t : Holding). cells_of t.cells c.args.table.now c.as_slice.result.now) (c.loop-key.invariant.same before) ∙ ap (cells_of h.cells c.args.table.now) c.as_slice.ensures in
           c.in_ok-push_changes.ensures
           ∙ ap (λ (l : List Change). l ++ changes_of c.in_ok-row.row.items) (c.loop-key.invariant.changes before)

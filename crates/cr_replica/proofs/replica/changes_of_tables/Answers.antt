@@ -14,12 +14,12 @@ loop-table-preserved g c =
     let of : List ℕ → List Change = λ name. changes_of (cells_of_table h.cells name) in
     let cut = ap (λ b. take i ks ++ b ∷ []) c.table-item.is ∙ sym (take_more ks i k c.loop-table-test.true) in
     record {
-      was_honest = λ honest. c.loop-table.invariant.was_honest (c.cells_of_table.ensures.was_honest honest);
-      stays_clean = λ honest clean. c.in_ok-found.ensures.stays_clean honest (c.loop-table.invariant.stays_clean (c.cells_of_table.ensures.was_honest honest) clean);
-      was_clean = λ clean. c.loop-table.invariant.was_clean (c.cells_of_table.ensures.was_clean clean);
-      same = λ clean. (c.in_ok-found.ensures.reads clean).same ∙ c.loop-table.invariant.same (c.cells_of_table.ensures.was_clean clean);
+      was_honest = λ honest. c.loop-table.invariant.was_honest (c.cells_of_table.ensures.device.was_honest honest);
+      stays_clean = λ honest clean. c.in_ok-found.ensures.device.stays_clean honest (c.loop-table.invariant.stays_clean (c.cells_of_table.ensures.device.was_honest honest) clean);
+      was_clean = λ clean. c.loop-table.invariant.was_clean (c.cells_of_table.ensures.device.was_clean clean);
+      same = λ clean. (c.in_ok-found.ensures.reads clean).same ∙ c.loop-table.invariant.same (c.cells_of_table.ensures.device.was_clean clean);
       changes = λ clean. (
-          let before = c.cells_of_table.ensures.was_clean clean in
+          let before = c.cells_of_table.ensures.device.was_clean clean in
           let cells = (c.in_ok-found.ensures.reads clean).answers ∙ ap (λ (t : Holding). cells_of_table t.cells c.as_str.result.now) (c.loop-table.invariant.same before) ∙ ap (cells_of_table h.cells) c.as_str.ensures.value in
           c.in_ok-push_changes.ensures
           ∙ ap (λ (l : List Change). l ++ changes_of c.in_ok-found.found.items) (c.loop-table.invariant.changes before)

@@ -74,7 +74,7 @@ returns-in-Err-clause-steps g c = λ l.
     (c.site_id-2.ensures (all_at (λ x. g.C.Cells.is_clean x.1.0) (map pair items) c.in-Some.at _ clean paired) i))
     ∙ sym c.same_bytes.ensures ∙ c.if-same_bytes.false) in
     rw c.from.ensures (rw (← c.self.view_is) (rw (map_set pair items c.in-Some-place_of.from _) (
-      pull_unread l _ (clean g.C.Cells.is_clean) (standing g.C.Cells.holding) _ _ c.args.name.now c.in-Some.at _ place paired c.in-Some-place_of.from _ from there (sym c.in_transaction.ensures ∙ c.if-in_transaction.false) _ refl c.changes_above.ensures.was_clean sites c.in-Err.error (c.in-Err.ensures.stays_clean (g.met.C.NewCells.always_honest _))
+      pull_unread l _ (clean g.C.Cells.is_clean) (standing g.C.Cells.holding) _ _ c.args.name.now c.in-Some.at _ place paired c.in-Some-place_of.from _ from there (sym c.in_transaction.ensures ∙ c.if-in_transaction.false) _ refl c.changes_above.ensures.device.was_clean sites c.in-Err.error (c.in-Err.ensures.device.stays_clean (g.met.C.NewCells.always_honest _))
           (λ clean. ((λ i. state_of ((c.in-Err.ensures.reads clean).same i) (c.changes_above.ensures.pending i)), (c.in-Err.ensures.reads clean).answers)),
       λ clean w s. quiet_pull l (closures (g.G.Guarding.allows c.args.guard.now) (g.G.Guarding.refuses c.args.guard.now)) (λ from to events. HasHeard (g.G.Guarding.noted from) (g.G.Guarding.noted_with from) (g.G.Guarding.noted to) events) w c.args.name.now _ _ _ refl,
     )))
@@ -103,8 +103,8 @@ returns-clause-steps g c = λ l.
     let at_mid : slice_get mid c.in-Some.at ≡ Some c.in-Some-get_mut-2.taker.now = slice_get-get_or mid c.in-Some.at c.in-Some-get_mut-2.taker.now within_mid ∙ ap Some (sym c.in-Some-get_mut-2.ensures.value) in
     let paired_mid = rw (map_set pair items c.in-Some-place_of.from peer) at (pair_at mid c.in-Some.at c.in-Some-get_mut-2.taker.now at_mid) in
     rw (c.reply_of.ensures, c.take_all.ensures.guard.same_rules) (rw (← c.self.view_is) (rw (map_set pair mid c.in-Some.at _, map_set pair items c.in-Some-place_of.from peer)
-    (pull_told l _ (clean g.C.Cells.is_clean) (standing g.C.Cells.holding) _ _ c.args.name.now c.in-Some.at _ place paired c.in-Some-place_of.from _ from there (sym c.in_transaction.ensures ∙ c.if-in_transaction.false) _ refl c.changes_above.ensures.was_clean sites
-    c.in-Ok.changes.items (c.in-Ok.ensures.stays_clean (g.met.C.NewCells.always_honest _)) (λ clean i. state_of ((c.in-Ok.ensures.reads clean).same i) (c.changes_above.ensures.pending i)) c.changes_above.ensures.sound (λ clean. (c.in-Ok.ensures.reads clean).answers)
+    (pull_told l _ (clean g.C.Cells.is_clean) (standing g.C.Cells.holding) _ _ c.args.name.now c.in-Some.at _ place paired c.in-Some-place_of.from _ from there (sym c.in_transaction.ensures ∙ c.if-in_transaction.false) _ refl c.changes_above.ensures.device.was_clean sites
+    c.in-Ok.changes.items (c.in-Ok.ensures.device.stays_clean (g.met.C.NewCells.always_honest _)) (λ clean i. state_of ((c.in-Ok.ensures.reads clean).same i) (c.changes_above.ensures.pending i)) c.changes_above.ensures.sound (λ clean. (c.in-Ok.ensures.reads clean).answers)
     _ _ paired_mid refl (λ from to events. HasHeard (g.G.Guarding.noted from) (g.G.Guarding.noted_with from) (g.G.Guarding.noted to) events) c.take_all.result (takes_always (honest g.C.Cells.is_honest) (clean g.C.Cells.is_clean) (standing g.C.Cells.holding) _ _ (g.met.C.NewCells.always_honest _) (host_under (closures (g.G.Guarding.allows c.args.guard.now) (g.G.Guarding.refuses c.args.guard.now)) (g.G.Guarding.rules c.args.guard.now)) _ _ _ (rw c.deref-4.ensures.value at c.take_all.ensures.takes)) _ _ c.take_all.ensures.heard)))
 
 pub returns-clause-closures : goal.returns-clause-closures

@@ -77,7 +77,7 @@ returns-in-Err-clause-steps g c = λ l.
     (site_told (all_at (λ x. g.C.Cells.is_clean x.1.0) (map pair items) c.in-Some.at _ clean paired) i))
     ∙ sym c.same_bytes.ensures ∙ c.if-same_bytes.false) in
     rw c.from.ensures (rw (← c.self.view_is) (rw (map_set pair items c.in-Some.at _) (
-      since_unseen l _ (clean g.C.Cells.is_clean) (standing g.C.Cells.holding) _ _ c.args.name.now c.in-Some.at _ place paired c.in-Some-place_of.from _ from there outside sites _ refl c.seen.ensures.was_clean c.in-Err.error (c.in-Err.ensures.stays_clean (g.met.C.NewCells.always_honest _))
+      since_unseen l _ (clean g.C.Cells.is_clean) (standing g.C.Cells.holding) _ _ c.args.name.now c.in-Some.at _ place paired c.in-Some-place_of.from _ from there outside sites _ refl c.seen.ensures.device.was_clean c.in-Err.error (c.in-Err.ensures.device.stays_clean (g.met.C.NewCells.always_honest _))
           (λ clean. ((λ i. state_of ((c.in-Err.ensures.reads clean).same i) (c.seen.ensures.pending i)), (c.in-Err.ensures.reads clean).answers)),
       λ clean w s. quiet_pull_since l (closures (g.G.Guarding.allows c.args.guard.now) (g.G.Guarding.refuses c.args.guard.now)) (λ from to events. HasHeard (g.G.Guarding.noted from) (g.G.Guarding.noted_with from) (g.G.Guarding.noted to) events) w c.args.name.now _ _ _ refl,
     )))
@@ -105,7 +105,7 @@ returns-clause-steps g c = λ l.
     let fits : SFits w64 c.in-Ok.seen = search rules in
     let seen_same : to_z w64 (of_z w64 c.in-Ok.seen) ≡ c.in-Ok.seen = to_z-of_z fits in
     rw (← c.self.view_is, c.take_since.ensures.rules)
-    (since_seen l _ (clean g.C.Cells.is_clean) (standing g.C.Cells.holding) _ _ c.args.name.now c.in-Some.at _ place paired c.in-Some-place_of.from _ from there outside sites (pair taker) refl (ap is_some c.seen.ensures.pending ∙ outside) c.seen.ensures.was_clean (c.in-Ok.ensures.stays_clean (g.met.C.NewCells.always_honest _))
+    (since_seen l _ (clean g.C.Cells.is_clean) (standing g.C.Cells.holding) _ _ c.args.name.now c.in-Some.at _ place paired c.in-Some-place_of.from _ from there outside sites (pair taker) refl (ap is_some c.seen.ensures.pending ∙ outside) c.seen.ensures.device.was_clean (c.in-Ok.ensures.device.stays_clean (g.met.C.NewCells.always_honest _))
     (λ clean i. state_of ((c.in-Ok.ensures.reads clean).same i) (c.seen.ensures.pending i)) (to_z w64 (of_z w64 c.in-Ok.seen))
     (λ clean own. seen_same ∙ (c.in-Ok.ensures.reads own).answers ∙ ap (seen_of (g.C.Cells.holding c.in-Some-get_mut.taker.now.session.0).marks) (c.site_id-site.ensures (all_at (λ x. g.C.Cells.is_clean x.1.0) (map pair items) c.in-Some-place_of.from _ clean there)))
     c.take_since.result c.take_since.new.self (λ from to events. HasHeard (g.G.Guarding.noted from) (g.G.Guarding.noted_with from) (g.G.Guarding.noted to) events) _ _ (rw (map_set pair items c.in-Some.at taker) at (c.take_since.ensures.steps l c.args.name.now)))

@@ -9,17 +9,17 @@ use Rattle.cr_hosted.proofs.session.HostedSession.carry_out.Goals as goal
 pub returns-then-is_transaction-clause-carries : goal.returns-then-is_transaction-clause-carries
 returns-then-is_transaction-clause-carries g c = λ has names.
     let d = c.transact.ensures (map (λ r. made r.name (g.M.Module.columns_of r.host) (g.M.Module.rows_of r.host) (g.M.Module.updated r.host)) c.args.self.now.modules.list.items) has names in
-    record { was_honest = d.was_honest; was_clean = d.was_clean; stays_clean = d.stays_clean; answers = d.answers; leaves = d.leaves }
+    record { device = record { was_honest = d.device.was_honest; was_clean = d.device.was_clean; stays_clean = d.device.stays_clean }; answers = d.answers; leaves = d.leaves }
 
 pub returns-in-Err-clause-carries : goal.returns-in-Err-clause-carries
 returns-in-Err-clause-carries g c = λ has names.
     unread_refuses _ _ _ _ _ _ has _ names _ _ _ _ c.args.params.now c.args.self.now c.names.new.self c.args.statement.now c.in-Err.error c.from.result c.from.ensures (search rules)
-    c.names.ensures.was_honest c.names.ensures.was_clean c.in-Err.ensures.stays_clean c.in-Err.ensures.names
+    c.names.ensures.device.was_honest c.names.ensures.device.was_clean c.in-Err.ensures.device.stays_clean c.in-Err.ensures.names
 
 pub returns-in-Err-allowed-clause-carries : goal.returns-in-Err-allowed-clause-carries
 returns-in-Err-allowed-clause-carries g c = λ has names.
     refuses_allowed _ _ _ _ _ _ has _ names _ _ _ _ c.args.params.now _ _ c.args.statement.now c.in-Ok.names c.in-Err-allowed.refusal
-    c.in-Ok.ensures.was_honest c.in-Ok.ensures.was_clean c.in-Ok.ensures.stays_clean c.in-Ok.ensures.names c.in-Err-allowed.ensures
+    c.in-Ok.ensures.device.was_honest c.in-Ok.ensures.device.was_clean c.in-Ok.ensures.device.stays_clean c.in-Ok.ensures.names c.in-Err-allowed.ensures
 
 pub perform-requires-clause-suits : goal.perform-requires-clause-suits
 perform-requires-clause-suits g c =
@@ -34,4 +34,4 @@ perform-requires-clause-form g c =
 pub returns-clause-carries : goal.returns-clause-carries
 returns-clause-carries g c = λ has names.
     carries_performed _ _ _ _ _ _ has _ names _ _ _ _ c.args.params.now c.args.self.now c.names.new.self c.perform.new.self c.args.statement.now c.in-Ok.names c.in-Ok-allowed.resolved c.perform.result
-    c.in-Ok.ensures.names c.in-Ok-allowed.ensures c.perform.ensures.performs c.in-Ok.ensures.was_honest c.in-Ok.ensures.was_clean c.in-Ok.ensures.stays_clean
+    c.in-Ok.ensures.names c.in-Ok-allowed.ensures c.perform.ensures.performs c.in-Ok.ensures.device.was_honest c.in-Ok.ensures.device.was_clean c.in-Ok.ensures.device.stays_clean

@@ -23,8 +23,8 @@ pub returns-then-not-touches-clause-performs : goal.returns-then-not-touches-cla
 returns-then-not-touches-clause-performs g c =
     let apart = sym c.touches-touches.ensures ∙ c.if-not-touches.true in
     let d = performed_beside _ c.args.params.now _ g.C.Cells.is_honest g.C.Cells.is_clean g.C.Cells.holding _ c.args.self.now.session c.args.statement.now c.perform.result c.perform.new.self apart
-    (λ clean. has_its_target (standing g.C.Cells.holding c.args.self.now.session) (alone c.args.names) c.args.statement.now (named_alone _ (standing g.C.Cells.holding c.args.self.now.session) c.args.names refl refl (c.requires.named (c.perform.ensures.performs.was_clean clean))) (suits_alone c.args.names _ c.args.statement.now apart c.requires.suits)) c.perform.ensures.performs in
-    record { was_honest = d.was_honest; was_clean = d.was_clean; stays_clean = d.stays_clean; performs = d.performs }
+    (λ clean. has_its_target (standing g.C.Cells.holding c.args.self.now.session) (alone c.args.names) c.args.statement.now (named_alone _ (standing g.C.Cells.holding c.args.self.now.session) c.args.names refl refl (c.requires.named (c.perform.ensures.performs.device.was_clean clean))) (suits_alone c.args.names _ c.args.statement.now apart c.requires.suits)) c.perform.ensures.performs in
+    record { device = record { was_honest = d.device.was_honest; was_clean = d.device.was_clean; stays_clean = d.device.stays_clean }; performs = d.performs }
 
 pub insert-requires-clause-columns : goal.insert-requires-clause-columns
 insert-requires-clause-columns g c = λ x there.

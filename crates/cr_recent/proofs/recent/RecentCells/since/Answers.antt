@@ -19,6 +19,6 @@ returns-clause-reads g c = λ clean.
       same = read.same ∙ start;
       answers = c.in_ok-by_stamp.ensures
           ∙ ap (set_of stamp_cmp) (read.answers ∙ ap (cells_above h.cells c.deref.result.now) (to_z-of_z fits) ∙ ap (λ (ks : List Key). cells_above h.cells ks version) (c.deref.ensures.value ∙ c.in_ok-keys.ensures ∙ ap (noted_above noted.notes) (to_z-of_z fits)))
-          ∙ notes_tell noted h.cells version (c.self.invariant (c.in_ok-found.ensures.was_clean clean)) from
+          ∙ notes_tell noted h.cells version (c.self.invariant (c.in_ok-found.ensures.device.was_clean clean)) from
           ∙ ap (λ (k : Holding). since k.cells version) start;
     }

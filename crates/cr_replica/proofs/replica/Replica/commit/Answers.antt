@@ -10,7 +10,7 @@ pub returns-clause-joins : goal.returns-clause-joins
 returns-clause-joins g c =
     elim c.match-commit.branch [
       | in-Ok w ↦ rw w.result-is (λ clean held stands.
-          (let before = c.commit.ensures.was_clean clean in
+          (let before = c.commit.ensures.device.was_clean clean in
           kept-once_more (g.C.Cells.holding c.self.inside.cells) (g.C.Cells.holding c.commit.new.self) [] held c.args.taking.now.changes.now c.args.mark (w.in-Ok.ensures.commits clean).0 (c.db_version.ensures.sound before) (rw c.self.view_is stands)))
       | in-Err w ↦ rw w.result-is (λ clean. tt)
     ]

@@ -13,12 +13,12 @@ returns-clause-prepares g c = λ clean peer offered.
     let old = g.C.Cells.holding c.args.self.now in
     let new = g.C.Cells.holding c.prepare.new.self in
     let offer : c.as_slice.result.now ≡ changes_of_peer peer = c.as_slice.ensures ∙ offered.1 in
-    prepares_pull peer old new c.prepare.result (λ same. other_sites _ _ (sym c.same_bytes.ensures ∙ c.if-same_bytes.false) (offered.0 ∙ same ∙ sym (c.site_id.ensures (c.prepare.ensures.was_clean clean))))
+    prepares_pull peer old new c.prepare.result (λ same. other_sites _ _ (sym c.same_bytes.ensures ∙ c.if-same_bytes.false) (offered.0 ∙ same ∙ sym (c.site_id.ensures (c.prepare.ensures.device.was_clean clean))))
     (subst (λ (more : List Change). Prepares old new more c.prepare.result) offer (c.prepare.ensures.prepares clean))
 
 pub returns-clause-own : goal.returns-clause-own
 returns-clause-own g c = λ clean same.
-    absurd (other_sites _ _ (sym c.same_bytes.ensures ∙ c.if-same_bytes.false) (same ∙ sym (c.site_id.ensures (c.prepare.ensures.was_clean clean))))
+    absurd (other_sites _ _ (sym c.same_bytes.ensures ∙ c.if-same_bytes.false) (same ∙ sym (c.site_id.ensures (c.prepare.ensures.device.was_clean clean))))
 
 pub returns-clause-same : goal.returns-clause-same
 returns-clause-same g c = λ clean. prepared_same _ _ c.as_slice.result.now c.prepare.result (c.prepare.ensures.prepares clean)

@@ -10,7 +10,7 @@ use Rattle.cr_replica.proofs.replica.Replica.rows_of.Goals as goal
 
 pub returns-clause-shows : goal.returns-clause-shows
 returns-clause-shows g c = λ clean.
-    let before = c.in-Ok-since.ensures.was_clean clean in
+    let before = c.in-Ok-since.ensures.device.was_clean clean in
     let first = c.in-Ok.ensures.reads before in
     let second = c.in-Ok-since.ensures.reads clean in
     let start = g.C.Cells.holding c.self.inside.cells in

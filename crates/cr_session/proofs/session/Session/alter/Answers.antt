@@ -23,9 +23,9 @@ returns g c = λ means params host.
     let none : is_some pending ≡ false = ap (λ (s : SessionOf g.row.C.Denot). is_some s.1) c.self.view_is ∙ sym c.in_transaction.ensures ∙ c.if-in_transaction.false in
     elim c.match-add_column.branch [
       | in-Ok w ↦ rw w.result-is (rw (← c.self.view_is) (outside means params host g.C.Cells.is_honest g.C.Cells.is_clean g.C.Cells.holding c.self.inside.replica c.add_column.new.self (r.Alter c.args.alter.now) _ pending none
-          (defined means params host g.C.Cells.is_honest g.C.Cells.is_clean g.C.Cells.holding c.self.inside.replica c.add_column.new.self _ _ c.add_column.ensures.was_honest c.add_column.ensures.was_clean Done (λ honest clean. w.in-Ok.ensures.stays_clean honest clean) w.in-Ok.ensures.defines
+          (defined means params host g.C.Cells.is_honest g.C.Cells.is_clean g.C.Cells.holding c.self.inside.replica c.add_column.new.self _ _ c.add_column.ensures.device.was_honest c.add_column.ensures.device.was_clean Done (λ honest clean. w.in-Ok.ensures.device.stays_clean honest clean) w.in-Ok.ensures.defines
           (λ clean. performs_altered (g.C.Cells.holding c.self.inside.replica) c.args.alter.now means params host c.as_str.result.now c.in_default.ensures c.in_ok-check_default.ensures c.as_str.ensures.value))))
       | in-Err-add_column w ↦ rw w.result-is (rw (← c.self.view_is) (outside means params host g.C.Cells.is_honest g.C.Cells.is_clean g.C.Cells.holding c.self.inside.replica c.add_column.new.self (r.Alter c.args.alter.now) _ pending none
-          (not_defined means params host g.C.Cells.is_honest g.C.Cells.is_clean g.C.Cells.holding c.self.inside.replica c.add_column.new.self (r.Alter c.args.alter.now) (g.C.Cells.holding c.self.inside.replica) c.add_column.ensures.was_honest c.add_column.ensures.was_clean w.in-Err-add_column.error w.from.result w.from.ensures refl
-          (λ honest clean. w.in-Err-add_column.ensures.stays_clean honest clean) w.in-Err-add_column.ensures.defines)))
+          (not_defined means params host g.C.Cells.is_honest g.C.Cells.is_clean g.C.Cells.holding c.self.inside.replica c.add_column.new.self (r.Alter c.args.alter.now) (g.C.Cells.holding c.self.inside.replica) c.add_column.ensures.device.was_honest c.add_column.ensures.device.was_clean w.in-Err-add_column.error w.from.result w.from.ensures refl
+          (λ honest clean. w.in-Err-add_column.ensures.device.stays_clean honest clean) w.in-Err-add_column.ensures.defines)))
     ]

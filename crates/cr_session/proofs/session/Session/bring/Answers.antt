@@ -37,22 +37,22 @@ returns-in-Err-clause-performs g c = λ means params both.
 pub returns-in-Ok-changes_of_rows-clause-performs : goal.returns-in-Ok-changes_of_rows-clause-performs
 returns-in-Ok-changes_of_rows-clause-performs g c = λ means params both.
     brings means params _ g.C.Cells.is_honest g.C.Cells.is_clean g.C.Cells.holding c.args.self.now c.see_keys.new.self c.args.names.now c.requires.named c.args.insert.now c.requires.suits c.requires.table c.requires.replicated c.requires.used
-    c.args.rows.items both c.see_keys.ensures.was_honest c.see_keys.ensures.was_clean c.in-Ok.ensures.stays_clean (λ clean. (c.in-Ok.ensures.sees clean).same) c.in-Ok-changes_of_rows.changes.items c.add_changes.result c.add_changes.new.self
+    c.args.rows.items both c.see_keys.ensures.device.was_honest c.see_keys.ensures.device.was_clean c.in-Ok.ensures.device.stays_clean (λ clean. (c.in-Ok.ensures.sees clean).same) c.in-Ok-changes_of_rows.changes.items c.add_changes.result c.add_changes.new.self
     (λ clean. made_read g.C.Cells.is_clean g.C.Cells.holding c.args.self.now c.requires.sound c.args.names.now c.requires.named (rw c.as_slice-tables.ensures at c.is_of.ensures c.if-not-is_of.false) c.args.insert.now c.requires.suits c.requires.table c.requires.replicated c.args.rows.items
-    (c.see_keys.ensures.was_clean clean) _ _
+    (c.see_keys.ensures.device.was_clean clean) _ _
     (c.deref-4.ensures.value ∙ (c.in-Ok.ensures.sees clean).sees ∙ (λ i. part (c.as_str.ensures.value i) (is_key_of ((c.deref-3.ensures.value ∙ c.in_ok-keys.ensures ∙ ap (map (key_of c.args.insert.now.relation.definition)) c.deref-2.ensures.value) i)) (now (standing g.C.Cells.holding c.args.self.now))))
     refl c.in-Ok-changes_of_rows.changes.items c.in-Ok-changes_of_rows.ensures) c.add_changes.ensures.adds
 
 pub returns-clause-performs : goal.returns-clause-performs
 returns-clause-performs g c = λ means params both.
     brings_refused means params _ g.C.Cells.is_honest g.C.Cells.is_clean g.C.Cells.holding c.args.self.now c.see_keys.new.self c.args.names.now c.requires.named c.args.insert.now c.requires.suits c.requires.table c.requires.replicated c.requires.used
-    c.args.rows.items both c.see_keys.ensures.was_honest c.see_keys.ensures.was_clean c.in-Ok.ensures.stays_clean (λ clean. (c.in-Ok.ensures.sees clean).same) c.in-Err-changes_of_rows.refusal
+    c.args.rows.items both c.see_keys.ensures.device.was_honest c.see_keys.ensures.device.was_clean c.in-Ok.ensures.device.stays_clean (λ clean. (c.in-Ok.ensures.sees clean).same) c.in-Err-changes_of_rows.refusal
     (λ clean. told_read g.C.Cells.is_clean g.C.Cells.holding c.args.self.now c.requires.sound c.args.names.now c.requires.named (rw c.as_slice-tables.ensures at c.is_of.ensures c.if-not-is_of.false) c.args.insert.now c.requires.suits c.requires.table c.requires.replicated c.args.rows.items
-    (c.see_keys.ensures.was_clean clean) _ _
+    (c.see_keys.ensures.device.was_clean clean) _ _
     (c.deref-4.ensures.value ∙ (c.in-Ok.ensures.sees clean).sees ∙ (λ i. part (c.as_str.ensures.value i) (is_key_of ((c.deref-3.ensures.value ∙ c.in_ok-keys.ensures ∙ ap (map (key_of c.args.insert.now.relation.definition)) c.deref-2.ensures.value) i)) (now (standing g.C.Cells.holding c.args.self.now))))
     refl c.in-Err-changes_of_rows.refusal c.in-Err-changes_of_rows.ensures)
 
 pub returns-in-Err-see_keys-clause-performs : goal.returns-in-Err-see_keys-clause-performs
 returns-in-Err-see_keys-clause-performs g c = λ means params both.
-    unseen means params _ g.C.Cells.is_honest g.C.Cells.is_clean g.C.Cells.holding c.args.self.now c.see_keys.new.self (r.Insert c.args.insert.now) c.see_keys.ensures.was_honest c.see_keys.ensures.was_clean (λ clean. (c.in-Err-see_keys.ensures.sees clean).same)
-    c.in-Err-see_keys.error c.from.result c.from.ensures refl c.in-Err-see_keys.ensures.stays_clean (λ clean. (c.in-Err-see_keys.ensures.sees clean).sees)
+    unseen means params _ g.C.Cells.is_honest g.C.Cells.is_clean g.C.Cells.holding c.args.self.now c.see_keys.new.self (r.Insert c.args.insert.now) c.see_keys.ensures.device.was_honest c.see_keys.ensures.device.was_clean (λ clean. (c.in-Err-see_keys.ensures.sees clean).same)
+    c.in-Err-see_keys.error c.from.result c.from.ensures refl c.in-Err-see_keys.ensures.device.stays_clean (λ clean. (c.in-Err-see_keys.ensures.sees clean).sees)

@@ -9,7 +9,7 @@ use Rattle.cr_session.proofs.session.Session.carry_out.Goals as goal
 pub returns-in-Err-allowed-clause-carries : goal.returns-in-Err-allowed-clause-carries
 returns-in-Err-allowed-clause-carries g c = λ has names.
     refuses_allowed _ _ _ _ _ _ has _ names _ (honest g.C.Cells.is_honest) (clean g.C.Cells.is_clean) (standing g.C.Cells.holding) c.args.params.now _ _ c.args.statement.now c.in-Ok.names c.in-Err-allowed.refusal
-    c.in-Ok.ensures.was_honest c.in-Ok.ensures.was_clean c.in-Ok.ensures.stays_clean c.in-Ok.ensures.names c.in-Err-allowed.ensures
+    c.in-Ok.ensures.device.was_honest c.in-Ok.ensures.device.was_clean c.in-Ok.ensures.device.stays_clean c.in-Ok.ensures.names c.in-Err-allowed.ensures
 
 pub perform-requires-clause-suits : goal.perform-requires-clause-suits
 perform-requires-clause-suits g c =
@@ -24,7 +24,7 @@ perform-requires-clause-form g c =
 pub returns-in-Err-clause-carries : goal.returns-in-Err-clause-carries
 returns-in-Err-clause-carries g c = λ has names.
     unread_refuses _ _ _ _ _ _ has _ names _ (honest g.C.Cells.is_honest) (clean g.C.Cells.is_clean) (standing g.C.Cells.holding) c.args.params.now c.args.self.now c.names.new.self c.args.statement.now c.in-Err.error c.from.result c.from.ensures (search rules)
-    c.names.ensures.was_honest c.names.ensures.was_clean c.in-Err.ensures.stays_clean c.in-Err.ensures.names
+    c.names.ensures.device.was_honest c.names.ensures.device.was_clean c.in-Err.ensures.device.stays_clean c.in-Err.ensures.names
 
 pub returns-then-is_transaction-clause-carries : goal.returns-then-is_transaction-clause-carries
 returns-then-is_transaction-clause-carries g c = λ has names. c.transact.ensures [] has names
@@ -32,4 +32,4 @@ returns-then-is_transaction-clause-carries g c = λ has names. c.transact.ensure
 pub returns-clause-carries : goal.returns-clause-carries
 returns-clause-carries g c = λ has names.
     carries_performed _ _ _ _ _ _ has _ names _ (honest g.C.Cells.is_honest) (clean g.C.Cells.is_clean) (standing g.C.Cells.holding) c.args.params.now c.args.self.now c.names.new.self c.perform.new.self c.args.statement.now c.in-Ok.names c.in-Ok-allowed.resolved c.perform.result
-    c.in-Ok.ensures.names c.in-Ok-allowed.ensures (performed_alone _ _ _ g.C.Cells.is_honest g.C.Cells.is_clean g.C.Cells.holding _ _ _ _ c.perform.ensures.performs) c.in-Ok.ensures.was_honest c.in-Ok.ensures.was_clean c.in-Ok.ensures.stays_clean
+    c.in-Ok.ensures.names c.in-Ok-allowed.ensures (performed_alone _ _ _ g.C.Cells.is_honest g.C.Cells.is_clean g.C.Cells.holding _ _ _ _ c.perform.ensures.performs) c.in-Ok.ensures.device.was_honest c.in-Ok.ensures.device.was_clean c.in-Ok.ensures.device.stays_clean

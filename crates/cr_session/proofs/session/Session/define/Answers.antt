@@ -15,9 +15,9 @@ returns g c = λ has host.
     (g.F.Functions.order_of c.args.functions.now) (g.F.Functions.orders_total c.args.functions.now) has in
     elim c.match-define.branch [
       | in-Ok w ↦ rw w.result-is (rw (← c.self.view_is)
-          (define_done _ host g.C.Cells.is_honest g.C.Cells.is_clean g.C.Cells.holding c.self.inside.replica c.define.new.self pending c.args.def.now _ known c.define.ensures.was_honest c.define.ensures.was_clean none
-          (λ honest clean. w.in-Ok.ensures.stays_clean honest clean) w.in-Ok.ensures.defines))
+          (define_done _ host g.C.Cells.is_honest g.C.Cells.is_clean g.C.Cells.holding c.self.inside.replica c.define.new.self pending c.args.def.now _ known c.define.ensures.device.was_honest c.define.ensures.device.was_clean none
+          (λ honest clean. w.in-Ok.ensures.device.stays_clean honest clean) w.in-Ok.ensures.defines))
       | in-Err w ↦ rw w.result-is (rw (← c.self.view_is)
-          (define_refused _ host g.C.Cells.is_honest g.C.Cells.is_clean g.C.Cells.holding c.self.inside.replica c.define.new.self pending c.args.def.now _ known c.define.ensures.was_honest c.define.ensures.was_clean none
-          w.in-Err.error w.of_definition.result (λ honest clean. w.in-Err.ensures.stays_clean honest clean) w.in-Err.ensures.defines w.of_definition.ensures.told))
+          (define_refused _ host g.C.Cells.is_honest g.C.Cells.is_clean g.C.Cells.holding c.self.inside.replica c.define.new.self pending c.args.def.now _ known c.define.ensures.device.was_honest c.define.ensures.device.was_clean none
+          w.in-Err.error w.of_definition.result (λ honest clean. w.in-Err.ensures.device.stays_clean honest clean) w.in-Err.ensures.defines w.of_definition.ensures.told))
     ]

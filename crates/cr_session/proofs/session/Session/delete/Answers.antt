@@ -18,19 +18,19 @@ changes_of_delete-requires-clause-key g c =
 
 pub returns-in-Ok-changes_of_delete-clause-performs : goal.returns-in-Ok-changes_of_delete-clause-performs
 returns-in-Ok-changes_of_delete-clause-performs g c =
-    after_look _ c.args.params.now _ g.C.Cells.is_honest g.C.Cells.is_clean g.C.Cells.holding c.args.self.now c.look_for_delete.new.self (r.Delete c.args.delete.now) c.look_for_delete.ensures.was_honest c.look_for_delete.ensures.was_clean (λ clean. (c.in-Ok.ensures.looks clean).same) c.add_changes.result c.add_changes.new.self c.in-Ok.ensures.stays_clean
+    after_look _ c.args.params.now _ g.C.Cells.is_honest g.C.Cells.is_clean g.C.Cells.holding c.args.self.now c.look_for_delete.new.self (r.Delete c.args.delete.now) c.look_for_delete.ensures.device.was_honest c.look_for_delete.ensures.device.was_clean (λ clean. (c.in-Ok.ensures.looks clean).same) c.add_changes.result c.add_changes.new.self c.in-Ok.ensures.device.stays_clean
     (deletes _ c.args.params.now _ g.C.Cells.is_honest g.C.Cells.is_clean g.C.Cells.holding c.look_for_delete.new.self c.in-Ok.snapshot c.args.delete.now (λ clean. shows_then (ShowsDelete _ c.args.params.now c.args.delete.now) _ _ _ (c.in-Ok.ensures.looks clean))
     (subst (λ k. HasRelation k c.args.delete.now.relation) (sym (catalog_of_names c.args.names c.in-Ok.snapshot c.in-Ok.ensures.names)) c.requires.suits) (passed_is_table c.args.delete.now.relation c.in_default.ensures) c.in_ok-check_replicated.ensures
     c.add_changes.new.self c.in-Ok-changes_of_delete.changes.items c.add_changes.result c.in-Ok-changes_of_delete.ensures c.add_changes.ensures.adds)
 
 pub returns-clause-performs : goal.returns-clause-performs
 returns-clause-performs g c =
-    after_look _ c.args.params.now _ g.C.Cells.is_honest g.C.Cells.is_clean g.C.Cells.holding c.args.self.now c.look_for_delete.new.self (r.Delete c.args.delete.now) c.look_for_delete.ensures.was_honest c.look_for_delete.ensures.was_clean (λ clean. (c.in-Ok.ensures.looks clean).same) _ c.look_for_delete.new.self c.in-Ok.ensures.stays_clean
+    after_look _ c.args.params.now _ g.C.Cells.is_honest g.C.Cells.is_clean g.C.Cells.holding c.args.self.now c.look_for_delete.new.self (r.Delete c.args.delete.now) c.look_for_delete.ensures.device.was_honest c.look_for_delete.ensures.device.was_clean (λ clean. (c.in-Ok.ensures.looks clean).same) _ c.look_for_delete.new.self c.in-Ok.ensures.device.stays_clean
     (delete_refused_rows _ c.args.params.now _ g.C.Cells.is_honest g.C.Cells.is_clean g.C.Cells.holding c.look_for_delete.new.self c.in-Ok.snapshot c.args.delete.now (λ clean. shows_then (ShowsDelete _ c.args.params.now c.args.delete.now) _ _ _ (c.in-Ok.ensures.looks clean))
     (subst (λ k. HasRelation k c.args.delete.now.relation) (sym (catalog_of_names c.args.names c.in-Ok.snapshot c.in-Ok.ensures.names)) c.requires.suits) (passed_is_table c.args.delete.now.relation c.in_default.ensures) c.in_ok-check_replicated.ensures
     c.in-Err-changes_of_delete.refusal c.in-Err-changes_of_delete.ensures)
 
 pub returns-in-Err-look_for_delete-clause-performs : goal.returns-in-Err-look_for_delete-clause-performs
 returns-in-Err-look_for_delete-clause-performs g c =
-    unseen _ c.args.params.now _ g.C.Cells.is_honest g.C.Cells.is_clean g.C.Cells.holding c.args.self.now c.look_for_delete.new.self (r.Delete c.args.delete.now) c.look_for_delete.ensures.was_honest c.look_for_delete.ensures.was_clean (λ clean. (c.in-Err-look_for_delete.ensures.looks clean).same)
-    c.in-Err-look_for_delete.error c.from.result c.from.ensures refl c.in-Err-look_for_delete.ensures.stays_clean (λ clean. (c.in-Err-look_for_delete.ensures.looks clean).looks)
+    unseen _ c.args.params.now _ g.C.Cells.is_honest g.C.Cells.is_clean g.C.Cells.holding c.args.self.now c.look_for_delete.new.self (r.Delete c.args.delete.now) c.look_for_delete.ensures.device.was_honest c.look_for_delete.ensures.device.was_clean (λ clean. (c.in-Err-look_for_delete.ensures.looks clean).same)
+    c.in-Err-look_for_delete.error c.from.result c.from.ensures refl c.in-Err-look_for_delete.ensures.device.stays_clean (λ clean. (c.in-Err-look_for_delete.ensures.looks clean).looks)

@@ -7,7 +7,7 @@ use Rattle.cr_session.proofs.session.Session.look.Goals as goal
 pub returns-in-Some-clause-looks : goal.returns-in-Some-clause-looks
 returns-in-Some-clause-looks g c = λ clean.
     looked_at _ c.args.params.now (standing g.C.Cells.holding c.args.self.now) (standing g.C.Cells.holding c.see_at.new.self) c.args.name.now c.args.terms.now c.in-Some.keys.items c.see_at.result
-    (retabled _ c.args.params.now _ _ _ c.args.name.now c.args.terms.now c.in-Some.keys.items (c.as_slice.ensures ∙ (c.requires.named (c.see_at.ensures.was_clean clean)).tables) (c.in_ok-keys.ensures c.in-Some.keys c.in-Some.is))
+    (retabled _ c.args.params.now _ _ _ c.args.name.now c.args.terms.now c.in-Some.keys.items (c.as_slice.ensures ∙ (c.requires.named (c.see_at.ensures.device.was_clean clean)).tables) (c.in_ok-keys.ensures c.in-Some.keys c.in-Some.is))
     (subst (λ (keys : List (List ℕ)). Looks (IsSeenAt (standing g.C.Cells.holding c.args.self.now) c.args.name.now keys) (standing g.C.Cells.holding c.args.self.now) (standing g.C.Cells.holding c.see_at.new.self) c.see_at.result)
     c.deref.ensures.value (c.see_at.ensures.sees clean))
 

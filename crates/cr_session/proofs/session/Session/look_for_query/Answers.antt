@@ -9,16 +9,16 @@ use Rattle.cr_session.proofs.session.Session.look_for_query.Goals as goal
 pub returns-in_default-clause-looks : goal.returns-in_default-clause-looks
 returns-in_default-clause-looks g c = λ clean.
     suffices (ShowsTables (standing g.C.Cells.holding c.args.self.now) (in_order (map name_of c.as_slice-in_default.result.now))) (ShowsQuery _ c.args.params.now c.args.query.now (standing g.C.Cells.holding c.args.self.now)) _ _ c.see_joined.result
-    (λ s l. query_joined _ c.args.params.now (g.C.Cells.holding c.args.self.now.0) (c.requires.sound (c.see_joined.ensures.was_clean clean)) c.args.self.now.1 s c.args.query.now c.as_slice-in_default.result.now c.as_slice-in_default.ensures l) (c.see_joined.ensures.looks clean)
+    (λ s l. query_joined _ c.args.params.now (g.C.Cells.holding c.args.self.now.0) (c.requires.sound (c.see_joined.ensures.device.was_clean clean)) c.args.self.now.1 s c.args.query.now c.as_slice-in_default.result.now c.as_slice-in_default.ensures l) (c.see_joined.ensures.looks clean)
 
 pub returns-then-joined-clause-looks : goal.returns-then-joined-clause-looks
 returns-then-joined-clause-looks g c = λ clean.
     suffices (ShowsTables (standing g.C.Cells.holding c.args.self.now) (in_order (map name_of c.as_slice-then-joined.result.now))) (ShowsQuery _ c.args.params.now c.args.query.now (standing g.C.Cells.holding c.args.self.now)) _ _ c.see_joined-then-joined.result
-    (λ s l. query_joined _ c.args.params.now (g.C.Cells.holding c.args.self.now.0) (c.requires.sound (c.see_joined-then-joined.ensures.was_clean clean)) c.args.self.now.1 s c.args.query.now c.as_slice-then-joined.result.now c.as_slice-then-joined.ensures l) (c.see_joined-then-joined.ensures.looks clean)
+    (λ s l. query_joined _ c.args.params.now (g.C.Cells.holding c.args.self.now.0) (c.requires.sound (c.see_joined-then-joined.ensures.device.was_clean clean)) c.args.self.now.1 s c.args.query.now c.as_slice-then-joined.result.now c.as_slice-then-joined.ensures l) (c.see_joined-then-joined.ensures.looks clean)
 
 pub returns-in-Some-clause-looks : goal.returns-in-Some-clause-looks
 returns-in-Some-clause-looks g c = λ clean.
-    let was = c.see_above.ensures.was_clean clean in
+    let was = c.see_above.ensures.device.was_clean clean in
     suffices (IsSeenAbove (standing g.C.Cells.holding c.args.self.now) c.in-Some.version) (ShowsQuery _ c.args.params.now c.args.query.now (standing g.C.Cells.holding c.args.self.now)) _ _ c.see_above.result
     (λ s l. query_above _ c.args.params.now (standing g.C.Cells.holding c.args.self.now) c.as_str-name.result.now c.as_slice-terms.result.now c.in-Some.version
     (renewed _ c.args.params.now _ _ c.as_str-name.result.now c.as_slice-terms.result.now c.in-Some.version (c.as_slice-tables.ensures ∙ (c.requires.named was).tables) (c.in_ok-version.ensures c.in-Some.version c.in-Some.is)) s l c.args.query.now c.joined-item.result
@@ -28,7 +28,7 @@ returns-in-Some-clause-looks g c = λ clean.
 
 pub returns-in-None-clause-looks : goal.returns-in-None-clause-looks
 returns-in-None-clause-looks g c = λ clean.
-    let was = c.look.ensures.was_clean clean in
+    let was = c.look.ensures.device.was_clean clean in
     suffices (IsLook _ c.args.params.now (standing g.C.Cells.holding c.args.self.now) c.as_str-name.result.now c.as_slice-terms.result.now) (ShowsQuery _ c.args.params.now c.args.query.now (standing g.C.Cells.holding c.args.self.now)) _ _ c.look.result
     (λ s l. query_looked _ c.args.params.now (g.C.Cells.holding c.args.self.now.0) (c.requires.sound was) c.args.self.now.1 s c.args.query.now c.joined-item.result c.as_str-name.result.now c.as_slice-terms.result.now
     (sym c.as_slice.ensures ∙ one_of c.as_slice.result.now c.joined-item.result c.in-len1.len_at_least c.in-len1.len_below c.joined-item.is) c.if-joined.false

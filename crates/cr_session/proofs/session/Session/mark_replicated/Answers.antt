@@ -20,12 +20,12 @@ returns g c = λ means params host.
     let none : is_some pending ≡ false = ap (λ (s : SessionOf g.row.C.Denot). is_some s.1) c.self.view_is ∙ sym c.in_transaction.ensures ∙ c.if-in_transaction.false in
     elim c.match-mark_crr.branch [
       | in-Ok w ↦ rw w.result-is (rw (← c.self.view_is) (outside means params host g.C.Cells.is_honest g.C.Cells.is_clean g.C.Cells.holding c.self.inside.replica c.mark_crr.new.self (r.MarkReplicated c.args.mark.now) _ pending none
-          (defined means params host g.C.Cells.is_honest g.C.Cells.is_clean g.C.Cells.holding c.self.inside.replica c.mark_crr.new.self _ _ c.mark_crr.ensures.was_honest c.mark_crr.ensures.was_clean c.in_ok-reply.reply (λ honest clean. w.in-Ok.ensures.stays_clean honest clean) w.in-Ok.ensures.defines
+          (defined means params host g.C.Cells.is_honest g.C.Cells.is_clean g.C.Cells.holding c.self.inside.replica c.mark_crr.new.self _ _ c.mark_crr.ensures.device.was_honest c.mark_crr.ensures.device.was_clean c.in_ok-reply.reply (λ honest clean. w.in-Ok.ensures.device.stays_clean honest clean) w.in-Ok.ensures.defines
           (λ clean. performs_marked means params host (g.C.Cells.holding c.self.inside.replica) c.args.mark.now c.in_ok-reply.reply c.as_str.result.now c.if-mark.false c.in_ok-reply.ensures c.in_default.ensures c.in_default-check_defaults.ensures c.as_str.ensures.value))))
       | in-Err-mark_crr+in-Rows-1 w ↦ rw w.result-is (rw (← c.self.view_is) (outside means params host g.C.Cells.is_honest g.C.Cells.is_clean g.C.Cells.holding c.self.inside.replica c.mark_crr.new.self (r.MarkReplicated c.args.mark.now) _ pending none
-          (not_defined means params host g.C.Cells.is_honest g.C.Cells.is_clean g.C.Cells.holding c.self.inside.replica c.mark_crr.new.self (r.MarkReplicated c.args.mark.now) (g.C.Cells.holding c.self.inside.replica) c.mark_crr.ensures.was_honest c.mark_crr.ensures.was_clean w.in-Err-mark_crr.error w.from.result w.from.ensures refl
-          (λ honest clean. w.in-Err-mark_crr.ensures.stays_clean honest clean) w.in-Err-mark_crr.ensures.defines)))
+          (not_defined means params host g.C.Cells.is_honest g.C.Cells.is_clean g.C.Cells.holding c.self.inside.replica c.mark_crr.new.self (r.MarkReplicated c.args.mark.now) (g.C.Cells.holding c.self.inside.replica) c.mark_crr.ensures.device.was_honest c.mark_crr.ensures.device.was_clean w.in-Err-mark_crr.error w.from.result w.from.ensures refl
+          (λ honest clean. w.in-Err-mark_crr.ensures.device.stays_clean honest clean) w.in-Err-mark_crr.ensures.defines)))
       | in-Err-mark_crr+in-Done-1 w ↦ rw w.result-is (rw (← c.self.view_is) (outside means params host g.C.Cells.is_honest g.C.Cells.is_clean g.C.Cells.holding c.self.inside.replica c.mark_crr.new.self (r.MarkReplicated c.args.mark.now) _ pending none
-          (not_defined means params host g.C.Cells.is_honest g.C.Cells.is_clean g.C.Cells.holding c.self.inside.replica c.mark_crr.new.self (r.MarkReplicated c.args.mark.now) (g.C.Cells.holding c.self.inside.replica) c.mark_crr.ensures.was_honest c.mark_crr.ensures.was_clean w.in-Err-mark_crr.error w.from.result w.from.ensures refl
-          (λ honest clean. w.in-Err-mark_crr.ensures.stays_clean honest clean) w.in-Err-mark_crr.ensures.defines)))
+          (not_defined means params host g.C.Cells.is_honest g.C.Cells.is_clean g.C.Cells.holding c.self.inside.replica c.mark_crr.new.self (r.MarkReplicated c.args.mark.now) (g.C.Cells.holding c.self.inside.replica) c.mark_crr.ensures.device.was_honest c.mark_crr.ensures.device.was_clean w.in-Err-mark_crr.error w.from.result w.from.ensures refl
+          (λ honest clean. w.in-Err-mark_crr.ensures.device.stays_clean honest clean) w.in-Err-mark_crr.ensures.defines)))
     ]

@@ -7,6 +7,18 @@ use Rattle.cr_session.specs.Sessions.{standing}
 use Rattle.cr_session.proofs.Hearing.{hears_quiet}
 use Rattle.cr_session.proofs.session.Session.perform.Goals as goal
 
+pub returns-in-Select-clause-performs : goal.returns-in-Select-clause-performs
+returns-in-Select-clause-performs g c = rw c.in-Select.is (c.select.ensures _)
+
+pub returns-in-MarkReplicated-clause-performs : goal.returns-in-MarkReplicated-clause-performs
+returns-in-MarkReplicated-clause-performs g c = rw c.in-MarkReplicated.is (c.mark_replicated.ensures _ _ _)
+
+pub returns-in-Create-clause-performs : goal.returns-in-Create-clause-performs
+returns-in-Create-clause-performs g c = rw c.in-Create.is (c.create.ensures _ _ _)
+
+pub returns-in-Alter-clause-performs : goal.returns-in-Alter-clause-performs
+returns-in-Alter-clause-performs g c = rw c.in-Alter.is (c.alter.ensures _ _ _)
+
 pub returns-in-Insert-clause-performs : goal.returns-in-Insert-clause-performs
 returns-in-Insert-clause-performs g c = rw c.in-Insert.is c.insert.ensures.performs
 

@@ -34,9 +34,9 @@ returns-in-Ok-clause-pulls g c =
     pull_taken (host_under (closures (g.G.Guarding.allows c.args.guard.now) (g.G.Guarding.refuses c.args.guard.now)) (g.G.Guarding.rules c.args.guard.now)) more first mark (honest g.C.Cells.is_honest) (clean g.C.Cells.is_clean) (standing g.C.Cells.holding) (honest g.D.Cells.is_honest) (clean g.D.Cells.is_clean) (standing g.D.Cells.holding)
     c.args.self.now c.args.peer.now c.args.self.now (stays_here _ _ _ c.args.self.now) c.changes_above.new.self
     (record {
-      was_honest = c.changes_above.ensures.was_honest;
-      was_clean = c.changes_above.ensures.was_clean;
-      lasts = λ honest_now was. c.in-Ok.ensures.stays_clean honest_now was;
+      was_honest = c.changes_above.ensures.device.was_honest;
+      was_clean = c.changes_above.ensures.device.was_clean;
+      lasts = λ honest_now was. c.in-Ok.ensures.device.stays_clean honest_now was;
       same = λ clean_now. stands_still g.D.Cells.holding c.args.peer.now c.changes_above.new.self (c.in-Ok.ensures.reads clean_now).same c.changes_above.ensures.pending;
     })
     (λ own theirs. ap (λ (site : List ℕ). at_once at (Some (site, pos 0))) (sym (c.site_id.ensures theirs)) ∙ unless_none _ _ (c.in_default.ensures (pos 0) own))

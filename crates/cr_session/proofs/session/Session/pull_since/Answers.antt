@@ -37,24 +37,24 @@ returns-clause-pulls g c =
     pull_taken (host_under (closures (g.G.Guarding.allows c.args.guard.now) (g.G.Guarding.refuses c.args.guard.now)) (g.G.Guarding.rules c.args.guard.now)) more mark mark (honest g.C.Cells.is_honest) (clean g.C.Cells.is_clean) (standing g.C.Cells.holding) (honest g.D.Cells.is_honest) (clean g.D.Cells.is_clean) (standing g.D.Cells.holding)
     c.args.self.now c.args.peer.now c.seen.new.self
     (record {
-      was_honest = c.seen.ensures.was_honest;
-      was_clean = c.seen.ensures.was_clean;
-      lasts = λ honest_now was. c.in-Ok.ensures.stays_clean honest_now was;
+      was_honest = c.seen.ensures.device.was_honest;
+      was_clean = c.seen.ensures.device.was_clean;
+      lasts = λ honest_now was. c.in-Ok.ensures.device.stays_clean honest_now was;
       same = λ clean_now. stands_still g.C.Cells.holding c.args.self.now c.seen.new.self (c.in-Ok.ensures.reads clean_now).same c.seen.ensures.pending;
     })
     c.changes_above.new.self
     (record {
-      was_honest = c.changes_above.ensures.was_honest;
-      was_clean = c.changes_above.ensures.was_clean;
-      lasts = λ honest_now was. c.in-Ok-changes_above.ensures.stays_clean honest_now was;
+      was_honest = c.changes_above.ensures.device.was_honest;
+      was_clean = c.changes_above.ensures.device.was_clean;
+      lasts = λ honest_now was. c.in-Ok-changes_above.ensures.device.stays_clean honest_now was;
       same = λ clean_now. stands_still g.D.Cells.holding c.args.peer.now c.changes_above.new.self (c.in-Ok-changes_above.ensures.reads clean_now).same c.changes_above.ensures.pending;
     })
     (λ own theirs. ap (λ (site : List ℕ). at_once at (Some (site, old.version))) (sym (c.site_id-site.ensures theirs)) ∙ unless_none _ _ (c.in_default.ensures old.version own))
     c.deref.result.now (Some (c.site_id-site.result, to_z w64 (of_z w64 c.db_version-version.result)))
     (λ own theirs. c.deref.ensures.value ∙ (c.in-Ok-changes_above.ensures.reads theirs).answers
-    ∙ ap (changes_above old) (to_z-of_z seen_fits ∙ (c.in-Ok.ensures.reads own).answers ∙ ap (seen_of (g.C.Cells.holding c.args.self.now.0).marks) (c.site_id-site.ensures (c.changes_above.ensures.was_clean theirs))))
+    ∙ ap (changes_above old) (to_z-of_z seen_fits ∙ (c.in-Ok.ensures.reads own).answers ∙ ap (seen_of (g.C.Cells.holding c.args.self.now.0).marks) (c.site_id-site.ensures (c.changes_above.ensures.device.was_clean theirs))))
     (λ theirs i. Some (
-      c.site_id-site.ensures (c.changes_above.ensures.was_clean theirs) i,
+      c.site_id-site.ensures (c.changes_above.ensures.device.was_clean theirs) i,
       (to_z-of_z fits ∙ c.db_version-version.ensures theirs ∙ ap (λ (h : Holding). h.version) (c.in-Ok-changes_above.ensures.reads theirs).same) i,
     ))
     c.take_all.result c.take_all.new.self c.take_all.ensures.takes

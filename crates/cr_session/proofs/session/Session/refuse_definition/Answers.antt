@@ -13,8 +13,8 @@ returns-in-Ok-accept g c = λ has host.
     let known = collations_are (g.F.Functions.function_of c.args.functions.now) (g.F.Functions.scalar c.args.functions.now) (g.F.Functions.step c.args.functions.now) (g.F.Functions.finish c.args.functions.now)
     (g.F.Functions.order_of c.args.functions.now) (g.F.Functions.orders_total c.args.functions.now) has in
     rw (← c.self.view_is)
-    (define_forbidden _ host g.C.Cells.is_honest g.C.Cells.is_clean g.C.Cells.holding c.self.inside.replica c.names.new.self pending c.args.def.now _ known c.names.ensures.was_honest c.names.ensures.was_clean some
-    (λ honest clean. c.in-Ok.ensures.stays_clean honest clean) (λ clean. (c.in-Ok.ensures.reads clean).same) c.as_slice.result.now (λ clean. c.as_slice.ensures ∙ (c.in-Ok.ensures.reads clean).answers.tables)
+    (define_forbidden _ host g.C.Cells.is_honest g.C.Cells.is_clean g.C.Cells.holding c.self.inside.replica c.names.new.self pending c.args.def.now _ known c.names.ensures.device.was_honest c.names.ensures.device.was_clean some
+    (λ honest clean. c.in-Ok.ensures.device.stays_clean honest clean) (λ clean. (c.in-Ok.ensures.reads clean).same) c.as_slice.result.now (λ clean. c.as_slice.ensures ∙ (c.in-Ok.ensures.reads clean).answers.tables)
     c.in-Ok-accept.ensures)
 
 pub returns : goal.returns
@@ -24,8 +24,8 @@ returns g c = λ has host.
     let known = collations_are (g.F.Functions.function_of c.args.functions.now) (g.F.Functions.scalar c.args.functions.now) (g.F.Functions.step c.args.functions.now) (g.F.Functions.finish c.args.functions.now)
     (g.F.Functions.order_of c.args.functions.now) (g.F.Functions.orders_total c.args.functions.now) has in
     rw (← c.self.view_is)
-    (define_forbidden_first _ host g.C.Cells.is_honest g.C.Cells.is_clean g.C.Cells.holding c.self.inside.replica c.names.new.self pending c.args.def.now _ known c.names.ensures.was_honest c.names.ensures.was_clean some
-    (λ honest clean. c.in-Ok.ensures.stays_clean honest clean) (λ clean. (c.in-Ok.ensures.reads clean).same) c.as_slice.result.now (λ clean. c.as_slice.ensures ∙ (c.in-Ok.ensures.reads clean).answers.tables)
+    (define_forbidden_first _ host g.C.Cells.is_honest g.C.Cells.is_clean g.C.Cells.holding c.self.inside.replica c.names.new.self pending c.args.def.now _ known c.names.ensures.device.was_honest c.names.ensures.device.was_clean some
+    (λ honest clean. c.in-Ok.ensures.device.stays_clean honest clean) (λ clean. (c.in-Ok.ensures.reads clean).same) c.as_slice.result.now (λ clean. c.as_slice.ensures ∙ (c.in-Ok.ensures.reads clean).answers.tables)
     c.in-Err-accept.error (sym c.is_early.ensures ∙ c.if-is_early.false) c.in-Err-accept.ensures.1)
 
 pub returns-then-is_early : goal.returns-then-is_early
@@ -35,6 +35,6 @@ returns-then-is_early g c = λ has host.
     let known = collations_are (g.F.Functions.function_of c.args.functions.now) (g.F.Functions.scalar c.args.functions.now) (g.F.Functions.step c.args.functions.now) (g.F.Functions.finish c.args.functions.now)
     (g.F.Functions.order_of c.args.functions.now) (g.F.Functions.orders_total c.args.functions.now) has in
     rw (← c.self.view_is)
-    (define_against _ host g.C.Cells.is_honest g.C.Cells.is_clean g.C.Cells.holding c.self.inside.replica c.names.new.self pending c.args.def.now _ known c.names.ensures.was_honest c.names.ensures.was_clean some
-    (λ honest clean. c.in-Ok.ensures.stays_clean honest clean) (λ clean. (c.in-Ok.ensures.reads clean).same) c.as_slice.result.now (λ clean. c.as_slice.ensures ∙ (c.in-Ok.ensures.reads clean).answers.tables)
+    (define_against _ host g.C.Cells.is_honest g.C.Cells.is_clean g.C.Cells.holding c.self.inside.replica c.names.new.self pending c.args.def.now _ known c.names.ensures.device.was_honest c.names.ensures.device.was_clean some
+    (λ honest clean. c.in-Ok.ensures.device.stays_clean honest clean) (λ clean. (c.in-Ok.ensures.reads clean).same) c.as_slice.result.now (λ clean. c.as_slice.ensures ∙ (c.in-Ok.ensures.reads clean).answers.tables)
     c.in-Err-accept.error c.of_definition.result (sym c.is_early.ensures ∙ c.if-is_early.true) c.in-Err-accept.ensures.1 c.of_definition.ensures.told)

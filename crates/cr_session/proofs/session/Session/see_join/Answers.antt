@@ -14,12 +14,12 @@ loop-joined-preserved g c =
     let i = c.loop-joined.joined-index in
     let j = c.joined-item.result in
     record {
-      was_honest = λ honest. c.loop-joined.invariant.was_honest (c.see_rows.ensures.was_honest honest);
-      stays_clean = λ honest clean. c.in-Ok.ensures.stays_clean honest (c.loop-joined.invariant.stays_clean (c.see_rows.ensures.was_honest honest) clean);
-      was_clean = λ clean. c.loop-joined.invariant.was_clean (c.see_rows.ensures.was_clean clean);
-      same = λ clean. (c.in-Ok.ensures.finds clean).same ∙ c.loop-joined.invariant.same (c.see_rows.ensures.was_clean clean);
+      was_honest = λ honest. c.loop-joined.invariant.was_honest (c.see_rows.ensures.device.was_honest honest);
+      stays_clean = λ honest clean. c.in-Ok.ensures.device.stays_clean honest (c.loop-joined.invariant.stays_clean (c.see_rows.ensures.device.was_honest honest) clean);
+      was_clean = λ clean. c.loop-joined.invariant.was_clean (c.see_rows.ensures.device.was_clean clean);
+      same = λ clean. (c.in-Ok.ensures.finds clean).same ∙ c.loop-joined.invariant.same (c.see_rows.ensures.device.was_clean clean);
       so_far = λ means sound is clean.
-          let was = c.see_rows.ensures.was_clean clean in
+          let was = c.see_rows.ensures.device.was_clean clean in
           one_more_as means c.args.params.now q (g.C.Cells.holding c.args.self.now.0) sound c.args.self.now.1 is i c.loop-joined.base c.loop-joined.partners.items c.loop-joined.seen.items
           (c.loop-joined.invariant.so_far means sound is was)
           (subst (λ (l : List Joined). i < length l) c.as_slice-joined-items.ensures c.loop-joined-test.true) j

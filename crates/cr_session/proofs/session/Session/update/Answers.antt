@@ -18,19 +18,19 @@ changes_of_update-requires-clause-key g c =
 
 pub returns-in-Ok-changes_of_update-clause-performs : goal.returns-in-Ok-changes_of_update-clause-performs
 returns-in-Ok-changes_of_update-clause-performs g c =
-    after_look _ c.args.params.now _ g.C.Cells.is_honest g.C.Cells.is_clean g.C.Cells.holding c.args.self.now c.look_for_update.new.self (r.Update c.args.update.now) c.look_for_update.ensures.was_honest c.look_for_update.ensures.was_clean (λ clean. (c.in-Ok.ensures.looks clean).same) c.add_changes.result c.add_changes.new.self c.in-Ok.ensures.stays_clean
+    after_look _ c.args.params.now _ g.C.Cells.is_honest g.C.Cells.is_clean g.C.Cells.holding c.args.self.now c.look_for_update.new.self (r.Update c.args.update.now) c.look_for_update.ensures.device.was_honest c.look_for_update.ensures.device.was_clean (λ clean. (c.in-Ok.ensures.looks clean).same) c.add_changes.result c.add_changes.new.self c.in-Ok.ensures.device.stays_clean
     (updates _ c.args.params.now _ g.C.Cells.is_honest g.C.Cells.is_clean g.C.Cells.holding c.look_for_update.new.self c.in-Ok.snapshot c.args.update.now (λ clean. shows_then (ShowsUpdate _ c.args.params.now c.args.update.now) _ _ _ (c.in-Ok.ensures.looks clean))
     (subst (λ k. HasRelation k c.args.update.now.relation) (sym (catalog_of_names c.args.names c.in-Ok.snapshot c.in-Ok.ensures.names)) c.requires.suits) (passed_is_table c.args.update.now.relation c.in_default.ensures) c.in_ok-check_replicated.ensures
     c.add_changes.new.self c.in-Ok-changes_of_update.changes.items c.add_changes.result c.in-Ok-changes_of_update.ensures c.add_changes.ensures.adds)
 
 pub returns-clause-performs : goal.returns-clause-performs
 returns-clause-performs g c =
-    after_look _ c.args.params.now _ g.C.Cells.is_honest g.C.Cells.is_clean g.C.Cells.holding c.args.self.now c.look_for_update.new.self (r.Update c.args.update.now) c.look_for_update.ensures.was_honest c.look_for_update.ensures.was_clean (λ clean. (c.in-Ok.ensures.looks clean).same) _ c.look_for_update.new.self c.in-Ok.ensures.stays_clean
+    after_look _ c.args.params.now _ g.C.Cells.is_honest g.C.Cells.is_clean g.C.Cells.holding c.args.self.now c.look_for_update.new.self (r.Update c.args.update.now) c.look_for_update.ensures.device.was_honest c.look_for_update.ensures.device.was_clean (λ clean. (c.in-Ok.ensures.looks clean).same) _ c.look_for_update.new.self c.in-Ok.ensures.device.stays_clean
     (update_refused_rows _ c.args.params.now _ g.C.Cells.is_honest g.C.Cells.is_clean g.C.Cells.holding c.look_for_update.new.self c.in-Ok.snapshot c.args.update.now (λ clean. shows_then (ShowsUpdate _ c.args.params.now c.args.update.now) _ _ _ (c.in-Ok.ensures.looks clean))
     (subst (λ k. HasRelation k c.args.update.now.relation) (sym (catalog_of_names c.args.names c.in-Ok.snapshot c.in-Ok.ensures.names)) c.requires.suits) (passed_is_table c.args.update.now.relation c.in_default.ensures) c.in_ok-check_replicated.ensures
     c.in-Err-changes_of_update.refusal c.in-Err-changes_of_update.ensures)
 
 pub returns-in-Err-look_for_update-clause-performs : goal.returns-in-Err-look_for_update-clause-performs
 returns-in-Err-look_for_update-clause-performs g c =
-    unseen _ c.args.params.now _ g.C.Cells.is_honest g.C.Cells.is_clean g.C.Cells.holding c.args.self.now c.look_for_update.new.self (r.Update c.args.update.now) c.look_for_update.ensures.was_honest c.look_for_update.ensures.was_clean (λ clean. (c.in-Err-look_for_update.ensures.looks clean).same)
-    c.in-Err-look_for_update.error c.from.result c.from.ensures refl c.in-Err-look_for_update.ensures.stays_clean (λ clean. (c.in-Err-look_for_update.ensures.looks clean).looks)
+    unseen _ c.args.params.now _ g.C.Cells.is_honest g.C.Cells.is_clean g.C.Cells.holding c.args.self.now c.look_for_update.new.self (r.Update c.args.update.now) c.look_for_update.ensures.device.was_honest c.look_for_update.ensures.device.was_clean (λ clean. (c.in-Err-look_for_update.ensures.looks clean).same)
+    c.in-Err-look_for_update.error c.from.result c.from.ensures refl c.in-Err-look_for_update.ensures.device.stays_clean (λ clean. (c.in-Err-look_for_update.ensures.looks clean).looks)

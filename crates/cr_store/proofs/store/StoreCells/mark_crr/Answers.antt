@@ -8,7 +8,7 @@ use Rattle.cr_store.specs.Kept.{IsClean, holding_of}
 use Rattle.cr_store.proofs.OrdinalLemmas.{ordinal_replicated}
 use Rattle.cr_store.proofs.StoreHolding.{tables_set}
 use Rattle.cr_store.proofs.StoreTables.{shows_tables}
-use Rattle.cr_store.proofs.store.Store.mark.Goals as goal
+use Rattle.cr_store.proofs.store.StoreCells.mark_crr.Goals as goal
 
 pub invariant_of-self : goal.invariant_of-self
 invariant_of-self g c =
