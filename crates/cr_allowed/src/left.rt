@@ -118,8 +118,8 @@ fn left_arms<G: Answering>(
     let mut lefts = Vec::new(alloc);
     for one in arms {
         let when = left(alloc, guard, sources, &one.when)?;
-        let then = left(alloc, guard, sources, &one.then)?;
-        lefts.push(arm(alloc, operand, when, then)?)?;
+        let then = left(alloc, guard, sources, &one.then);
+        lefts.push(then.and_then(|then| arm(alloc, operand, when, then))?)?;
     }
     Ok(Items::from_vec(lefts))
 }
@@ -175,8 +175,8 @@ fn parts_left<G: Answering>(
             Ok(Expr::Logic(*op, left, right))
         }
         Expr::Compare(op, _, first, second) => {
-            let first = left(alloc, guard, sources, first.get())?;
-            let second = left(alloc, guard, sources, second.get())?;
+            let first = left_boxed(alloc, guard, sources, first.get())?;
+            let second = left_boxed(alloc, guard, sources, second.get())?;
             comparison(alloc, *op, first, second)
         }
         Expr::In(is_negated, _, operand, items) => {

@@ -27,8 +27,8 @@ fn left_results<G: Answering>(
     let mut lefts = Vec::new(alloc);
     for column in results {
         let expr = left(alloc, guard, sources, &column.expr)?;
-        let collation = collation_of(alloc, &expr)?;
-        lefts.push(ResultColumn { expr, collation })?;
+        let collation = collation_of(alloc, &expr);
+        lefts.push(collation.map(|collation| ResultColumn { expr, collation })?)?;
     }
     Ok(Items::from_vec(lefts))
 }
@@ -68,8 +68,8 @@ fn left_groups<G: Answering>(
 {
     let mut lefts = Vec::new(alloc);
     for group in groups {
-        let expr = left(alloc, guard, sources, &group.expr)?;
         let collation = group.collation.copy(alloc)?;
+        let expr = left(alloc, guard, sources, &group.expr)?;
         lefts.push(GroupTerm { expr, collation })?;
     }
     Ok(Items::from_vec(lefts))
@@ -87,13 +87,14 @@ fn left_terms<G: Answering>(
     let mut lefts = Vec::new(alloc);
     for term in order {
         let expr = left(alloc, guard, sources, &term.expr)?;
-        let collation = collation_of(alloc, &expr)?;
-        lefts.push(OrderTerm {
-            result: term.result,
+        let (result, is_descending) = (term.result, term.is_descending);
+        let collation = collation_of(alloc, &expr);
+        lefts.push(collation.map(|collation| OrderTerm {
+            result,
             expr,
             collation,
-            is_descending: term.is_descending,
-        })?;
+            is_descending,
+        })?)?;
     }
     Ok(Items::from_vec(lefts))
 }
@@ -131,8 +132,8 @@ pub fn left_query<G: Answering>(
     let joined = left_tables(alloc, guard, sources, query.joined.as_slice())?;
     let filter = left_all(alloc, guard, sources, query.filter.as_slice())?;
     let groups = left_groups(alloc, guard, sources, query.groups.as_slice())?;
-    let having = left_having(alloc, guard, sources, &query.having)?;
     let order = left_terms(alloc, guard, sources, query.order.as_slice())?;
+    let having = left_having(alloc, guard, sources, &query.having)?;
     Ok(Query {
         is_distinct: query.is_distinct,
         results,

@@ -40,12 +40,12 @@ fn resolved_seen<F: Functions, G: Guarding>(
     resolved(alloc, &offer, &Asking { guard }, statement)
 }
 
-// The statement, where its parameters are as many as are given.
-fn fitting(resolved: Resolved, is_fit: bool) -> Result<Resolved, Refusal>
-    ensures { result ≡ cond is_fit (Ok resolved) (Err Parameters) }
+// A statement, where its parameters are as many as are given.
+fn fitting<T: Drop>(statement: T, is_fit: bool) -> Result<T, Refusal>
+    ensures { result ≡ cond is_fit (Ok statement) (Err Parameters) }
 {
     if is_fit {
-        Ok(resolved)
+        Ok(statement)
     } else {
         Err(Refusal::Parameters)
     }

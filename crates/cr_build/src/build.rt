@@ -64,8 +64,8 @@ pub fn arm(
 ) -> Result<When, AllocError>
     ensures { IfOk result (λ w. w ≡ arm_of operand.now when then) }
 {
-    let meeting = meeting_of_arm(alloc, operand, &when)?;
-    Ok(When {
+    let meeting = meeting_of_arm(alloc, operand, &when);
+    meeting.map(|meeting| When {
         meeting,
         when,
         then,

@@ -7,7 +7,9 @@ ghost use Rattle.cr_scalar.specs.Functions.{all_of, first_value, call_of};
 ghost use Rattle.cr_scalar.specs.Meaning.{Evaluates, and_then, bounded, byte_limit, of_host};
 ghost use Rattle.cr_scalar.specs.Aggregates.{aggregate_of};
 ghost use Rattle.cr_scalar.specs.Host.{orders};
-ghost use Rattle.cr_scalar.specs.Numbers.{truth, truth_value};
+ghost use Rattle.cr_scalar.specs.Compare.{compared};
+ghost use Rattle.cr_scalar.specs.Numbers.{arithmetic_of, truth, truth_value};
+ghost use Rattle.cr_scalar.specs.Texts.{cast_of, join_of, like_of};
 ghost use Rattle.cr_expr.specs.Setting.{setting};
 ghost use Rattle.cr_expr.specs.Eval.{eval_of, of_node, turned, told, logic_of, between_of, meaning, arm_of, each, equals, in_of, if_any, or_null, is_taken, taken, argument_rows};
 
@@ -22,7 +24,8 @@ use cr_scalar::number::{apply_unary, calculate, decides, is_true, join_truth, tr
 use cr_scalar::operand::Operand;
 use cr_scalar::text::{cast_value, join, like};
 use cr_term::expr::{Expr, When};
-use cr_term::operator::{Aggregate, BuiltIn, Comparison, Logic, Meeting};
+use cr_term::operator::{Aggregate, Arithmetic, BuiltIn, Comparison, Logic, Meeting};
+use cr_value::cast::CastTo;
 use cr_value::text::Text;
 use cr_value::value::Value;
 use sqlite_items::Boxed;
@@ -101,6 +104,63 @@ fn is_taken<F: Functions>(
     }
 }
 
+// An operand under a CAST.
+fn cast<'a>(alloc: Global, to: CastTo, operand: Operand<'_>) -> Result<Operand<'a>, EvalFault>
+    ensures { Evaluates (cast_of to operand.entry) result }
+{
+    cast_value(alloc, to, operand.get()).map(|value| Operand::made(value))
+}
+
+// An operator of two numbers.
+fn calculated<'a>(
+    op: Arithmetic,
+    left: Operand<'_>,
+    right: Operand<'_>,
+) -> Result<Operand<'a>, EvalFault>
+    ensures { result ≡ arithmetic_of op left.entry right.entry }
+{
+    calculate(op, left.get(), right.get()).map(|value| Operand::made(value))
+}
+
+// Two texts joined.
+fn joined<'a>(
+    alloc: Global,
+    left: Operand<'_>,
+    right: Operand<'_>,
+) -> Result<Operand<'a>, EvalFault>
+    ensures { Evaluates (join_of left.entry right.entry) result }
+{
+    join(alloc, left.get(), right.get()).map(|value| Operand::made(value))
+}
+
+// A text and a pattern.
+fn matched<'a>(
+    alloc: Global,
+    is_negated: bool,
+    text: Operand<'_>,
+    pattern: Operand<'_>,
+) -> Result<Operand<'a>, EvalFault>
+    ensures { Evaluates (like_of is_negated text.entry pattern.entry) result }
+{
+    like(alloc, is_negated, text.get(), pattern.get()).map(|value| Operand::made(value))
+}
+
+// A comparison of two values.
+fn compared<'a, F: Functions>(
+    alloc: Global,
+    functions: &F,
+    op: Comparison,
+    meeting: &Meeting,
+    left: Operand<'_>,
+    right: Operand<'_>,
+) -> Result<Operand<'a>, AllocError>
+    requires { F.is_faithful functions.now }
+    ensures { IfOk result (λ v. v ≡ truth_value (compared (orders (F.order_of functions.now)) op meeting.now left.entry right.entry)) }
+{
+    let holds = compare(alloc, functions, op, meeting, left.get(), right.get());
+    holds.map(|holds| Operand::made(truth_value(holds)))
+}
+
 /// The value of an expression over a row or a group: exactly what it means, with the first fault that is met from left to
 /// right. Places out of range mean NULL.
 #[cycle(eval)]
@@ -140,28 +200,27 @@ fn eval_node<'a, F: Functions>(
         Expr::Unary(op, operand) => apply_unary(*op, eval(alloc, operand.get(), given, functions)?),
         Expr::Cast(to, operand) => {
             let operand = eval(alloc, operand.get(), given, functions)?;
-            Ok(Operand::made(cast_value(alloc, *to, operand.get())?))
+            cast(alloc, *to, operand)
         }
         Expr::Arithmetic(op, left, right) => {
             let left = eval(alloc, left.get(), given, functions)?;
             let right = eval(alloc, right.get(), given, functions)?;
-            Ok(Operand::made(calculate(*op, left.get(), right.get())?))
+            calculated(*op, left, right)
         }
         Expr::Join(left, right) => {
             let left = eval(alloc, left.get(), given, functions)?;
             let right = eval(alloc, right.get(), given, functions)?;
-            Ok(Operand::made(join(alloc, left.get(), right.get())?))
+            joined(alloc, left, right)
         }
         Expr::Like(is_negated, text, pattern) => {
             let text = eval(alloc, text.get(), given, functions)?;
             let pattern = eval(alloc, pattern.get(), given, functions)?;
-            Ok(Operand::made(like(alloc, *is_negated, text.get(), pattern.get())?))
+            matched(alloc, *is_negated, text, pattern)
         }
         Expr::Compare(op, meeting, left, right) => {
             let left = eval(alloc, left.get(), given, functions)?;
             let right = eval(alloc, right.get(), given, functions)?;
-            let holds = compare(alloc, functions, *op, meeting, left.get(), right.get())?;
-            Ok(Operand::made(truth_value(holds)))
+            Ok(compared(alloc, functions, *op, meeting, left, right)?)
         }
         Expr::Logic(op, left, right) => {
             let left = eval_truth(alloc, left.get(), given, functions)?;

@@ -72,8 +72,8 @@ pub fn without_collates(alloc: Global, groups: &[GroupTerm]) -> Result<Items<Gro
 {
     let mut terms = Items::new(alloc);
     for group in groups {
-        let expr = copy(alloc, without_collate(&group.expr))?;
         let collation = group.collation.copy(alloc)?;
+        let expr = copy(alloc, without_collate(&group.expr))?;
         terms.push(GroupTerm { expr, collation })?;
     }
     Ok(terms)

@@ -50,8 +50,8 @@ fn result_columns(
     let mut columns = Items::new(alloc);
     for output in outputs {
         let expr = within(alloc, is_grouped, terms, &output.expr)?;
-        let collation = collation_of(alloc, &expr)?;
-        columns.push(ResultColumn { expr, collation })?;
+        let collation = collation_of(alloc, &expr);
+        columns.push(collation.map(|collation| ResultColumn { expr, collation })?)?;
     }
     Ok(columns)
 }

@@ -241,14 +241,12 @@ impl<F: Fn(Global, &mut Cursor<'_>, Limits, u8) -> Result<(Expr, u8), Fault>> Gr
     {
         tokens.expect(Mark::Open)?;
         let (operand, height) = self.argument(tokens)?;
+        let operand = Boxed::new(self.alloc, operand)?;
         prove!(height < self.limits.room);
         tokens.expect(Mark::As)?;
         let words = type_words(self.alloc, tokens)?;
         tokens.expect(Mark::Close)?;
-        Ok((
-            Expr::Cast(Boxed::new(self.alloc, operand)?, words),
-            height + 1,
-        ))
+        Ok((Expr::Cast(operand, words), height + 1))
     }
 
     /// The operand of a CASE, if there is one.

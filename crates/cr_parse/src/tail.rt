@@ -10,52 +10,14 @@ use crate::grammar::{Grammar, binding};
 use cr_tree::expr::{Binary, Expr, Unary};
 use cr_tree::limits::{LimitKind, Limits};
 use cr_tree::symbol::{Mark, Symbol};
-use cr_value::text::Text;
-use sqlite_items::{Boxed, Items};
-use std::alloc::{AllocError, Global};
+use sqlite_items::Boxed;
+use std::alloc::Global;
 
-fn tested(alloc: Global, op: Unary, left: Expr, height: u8) -> Result<(Expr, u8), AllocError>
+fn tested(op: Unary, left: Boxed<Expr>, height: u8) -> (Expr, u8)
     requires { height < 255 }
-    ensures { IfOk result (λ x. x ≡ spec.above (Expr.Unary op) (left, height)) }
+    ensures { result ≡ spec.above (Expr.Unary op) (left, height) }
 {
-    let left = Boxed::new(alloc, left)?;
-    Ok((Expr::Unary(op, left), height + 1))
-}
-
-fn binary(alloc: Global, op: Binary, left: Expr, right: Expr) -> Result<Expr, AllocError>
-    ensures { IfOk result (λ x. x ≡ Expr.Binary op left right) }
-{
-    let left = Boxed::new(alloc, left)?;
-    let right = Boxed::new(alloc, right)?;
-    Ok(Expr::Binary(op, left, right))
-}
-
-fn bounded(
-    alloc: Global,
-    negated: bool,
-    operand: Expr,
-    low: Expr,
-    high: Expr,
-) -> Result<Expr, AllocError>
-    ensures { IfOk result (λ x. x ≡ Expr.Between negated operand low high) }
-{
-    let operand = Boxed::new(alloc, operand)?;
-    let low = Boxed::new(alloc, low)?;
-    let high = Boxed::new(alloc, high)?;
-    Ok(Expr::Between(negated, operand, low, high))
-}
-
-fn member(alloc: Global, negated: bool, operand: Expr, all: Items<Expr>) -> Result<Expr, AllocError>
-    ensures { IfOk result (λ x. x ≡ Expr.In negated operand all) }
-{
-    let operand = Boxed::new(alloc, operand)?;
-    Ok(Expr::In(negated, operand, all))
-}
-
-fn collated(alloc: Global, operand: Expr, name: Text) -> Result<Expr, AllocError>
-    ensures { IfOk result (λ x. x ≡ Expr.Collate operand name) }
-{
-    Ok(Expr::Collate(Boxed::new(alloc, operand)?, name))
+    (Expr::Unary(op, left), height + 1)
 }
 
 // How tightly the right operand binds at least: operators group to the left.
@@ -97,7 +59,7 @@ impl<F: Fn(Global, &mut Cursor<'_>, Limits, u8) -> Result<(Expr, u8), Fault>> Gr
     fn operated(
         &self,
         tokens: &mut Cursor<'_>,
-        left: Expr,
+        left: Boxed<Expr>,
         height: u8,
         least: u8,
         op: Binary,
@@ -109,12 +71,18 @@ impl<F: Fn(Global, &mut Cursor<'_>, Limits, u8) -> Result<(Expr, u8), Fault>> Gr
     {
         prove!(height < self.limits.room);
         let (right, more) = self.below(tokens, least)?;
-        Ok((binary(self.alloc, op, left, right)?, height.max(more) + 1))
+        let right = Boxed::new(self.alloc, right)?;
+        Ok((Expr::Binary(op, left, right), height.max(more) + 1))
     }
 
     /// After IS.
     #[tactic(auto, unfolding(cr_tree::specs::Reading::is))]
-    fn is(&self, tokens: &mut Cursor<'_>, left: Expr, height: u8) -> Result<(Expr, u8), Fault>
+    fn is(
+        &self,
+        tokens: &mut Cursor<'_>,
+        left: Boxed<Expr>,
+        height: u8,
+    ) -> Result<(Expr, u8), Fault>
         requires nests { Nests self.now.limits (F.pre self.now.expr) (F.post self.now.expr) }
         requires left { height < self.now.limits.room }
         ensures reads { Gives (λ x. x) (spec.is self.now.limits (spec.rules_of self.now.limits) (left, height) tokens.old) result tokens.new }
@@ -134,7 +102,7 @@ impl<F: Fn(Global, &mut Cursor<'_>, Limits, u8) -> Result<(Expr, u8), Fault>> Gr
         &self,
         tokens: &mut Cursor<'_>,
         negated: bool,
-        left: Expr,
+        left: Boxed<Expr>,
         height: u8,
     ) -> Result<(Expr, u8), Fault>
         requires nests { Nests self.now.limits (F.pre self.now.expr) (F.post self.now.expr) }
@@ -144,10 +112,14 @@ impl<F: Fn(Global, &mut Cursor<'_>, Limits, u8) -> Result<(Expr, u8), Fault>> Gr
     {
         prove!(height < self.limits.room);
         let (low, first) = self.below(tokens, 5)?;
+        let low = Boxed::new(self.alloc, low)?;
         tokens.expect(Mark::And)?;
         let (high, second) = self.below(tokens, 5)?;
-        let tree = bounded(self.alloc, negated, left, low, high)?;
-        Ok((tree, height.max(first.max(second)) + 1))
+        let high = Boxed::new(self.alloc, high)?;
+        Ok((
+            Expr::Between(negated, left, low, high),
+            height.max(first.max(second)) + 1,
+        ))
     }
 
     /// After IN.
@@ -156,7 +128,7 @@ impl<F: Fn(Global, &mut Cursor<'_>, Limits, u8) -> Result<(Expr, u8), Fault>> Gr
         &self,
         tokens: &mut Cursor<'_>,
         negated: bool,
-        left: Expr,
+        left: Boxed<Expr>,
         height: u8,
     ) -> Result<(Expr, u8), Fault>
         requires nests { Nests self.now.limits (F.pre self.now.expr) (F.post self.now.expr) }
@@ -169,15 +141,17 @@ impl<F: Fn(Global, &mut Cursor<'_>, Limits, u8) -> Result<(Expr, u8), Fault>> Gr
         prove!(height < self.limits.room);
         let (all, more) = self.items(tokens)?;
         tokens.expect(Mark::Close)?;
-        Ok((
-            member(self.alloc, negated, left, all)?,
-            height.max(more) + 1,
-        ))
+        Ok((Expr::In(negated, left, all), height.max(more) + 1))
     }
 
     /// After NOT.
     #[tactic(auto, unfolding(cr_tree::specs::Reading::negated))]
-    fn negated(&self, tokens: &mut Cursor<'_>, left: Expr, height: u8) -> Result<(Expr, u8), Fault>
+    fn negated(
+        &self,
+        tokens: &mut Cursor<'_>,
+        left: Boxed<Expr>,
+        height: u8,
+    ) -> Result<(Expr, u8), Fault>
         requires nests { Nests self.now.limits (F.pre self.now.expr) (F.post self.now.expr) }
         requires left { height < self.now.limits.room }
         ensures reads { Gives (λ x. x) (spec.negated self.now.limits (spec.rules_of self.now.limits) (left, height) tokens.old) result tokens.new }
@@ -187,7 +161,7 @@ impl<F: Fn(Global, &mut Cursor<'_>, Limits, u8) -> Result<(Expr, u8), Fault>> Gr
         match tokens.peek() {
             Some(Symbol::Mark(Mark::Null)) => {
                 tokens.take();
-                Ok(tested(self.alloc, Unary::NotNull, left, height)?)
+                Ok(tested(Unary::NotNull, left, height))
             }
             Some(Symbol::Mark(Mark::Like)) => {
                 tokens.take();
@@ -223,6 +197,7 @@ impl<F: Fn(Global, &mut Cursor<'_>, Limits, u8) -> Result<(Expr, u8), Fault>> Gr
         ensures low { IfOk result (λ x. x.1 ≤ self.now.limits.room) }
     {
         prove!(height < self.limits.room);
+        let left = Boxed::new(self.alloc, left)?;
         match symbol {
             Symbol::Mark(Mark::Not) => {
                 tokens.take();
@@ -245,16 +220,16 @@ impl<F: Fn(Global, &mut Cursor<'_>, Limits, u8) -> Result<(Expr, u8), Fault>> Gr
             }
             Symbol::Mark(Mark::IsNull) => {
                 tokens.take();
-                Ok(tested(self.alloc, Unary::IsNull, left, height)?)
+                Ok(tested(Unary::IsNull, left, height))
             }
             Symbol::Mark(Mark::NotNull) => {
                 tokens.take();
-                Ok(tested(self.alloc, Unary::NotNull, left, height)?)
+                Ok(tested(Unary::NotNull, left, height))
             }
             Symbol::Mark(Mark::Collate) => {
                 tokens.take();
                 let name = tokens.name(self.alloc)?;
-                Ok((collated(self.alloc, left, name)?, height + 1))
+                Ok((Expr::Collate(left, name), height + 1))
             }
             symbol => {
                 let Some(op) = operator(symbol) else {

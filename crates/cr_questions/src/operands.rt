@@ -280,13 +280,11 @@ pub fn no_meeting(alloc: Global) -> Result<Meeting, AllocError>
 pub fn comparison(
     alloc: Global,
     op: Comparison,
-    left: Expr,
-    right: Expr,
+    left: Boxed<Expr>,
+    right: Boxed<Expr>,
 ) -> Result<Expr, AllocError>
     ensures { IfOk result (λ e. e ≡ comparison op left right) }
 {
-    let meeting = meeting(alloc, &left, &right)?;
-    let left = Boxed::new(alloc, left)?;
-    let right = Boxed::new(alloc, right)?;
+    let meeting = meeting(alloc, left.get(), right.get())?;
     Ok(Expr::Compare(op, meeting, left, right))
 }

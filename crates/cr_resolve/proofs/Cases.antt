@@ -16,7 +16,7 @@ use Rattle.cr_resolve.specs.Reading.{Read}
 use Rattle.cr_resolve.specs.Expressions.{Pair, arm_node, arm_collations}
 use Rattle.cr_resolve.specs.Told.{told, Refuses}
 use Rattle.cr_resolve.specs.Compares.{Meets}
-use Rattle.cr_resolve.specs.Cases.{ArmsMeet, MeetsArm, IsCase, case_made}
+use Rattle.cr_resolve.specs.Cases.{ArmMeets, ArmsMeet, MeetsArm, IsCase, case_made}
 use Rattle.cr_resolve.proofs.InSight.{rest_at}
 use Rattle.cr_resolve.proofs.Refusals.{ahead}
 
@@ -37,6 +37,15 @@ arm_meets known o x y arm r is same h = subst (λ (p : Option Expr). MeetsArm kn
 pub arm_alone : (known : Known) (o : Option Expr) (arm : Pair) (m : Meeting) → o ≡ None → m ≡ no_meeting → MeetsArm known o arm (Ok m)
 unfolding MeetsArm
 arm_alone known o arm m is h = subst (λ (p : Option Expr). MeetsArm known p arm (Ok m)) (sym is) (sym h, refl)
+
+pub arm_made : (known : Known) (x : Option Expr) (p : Pair) (m : Meeting) → MeetsArm known x p (Ok m) → ArmMeets known x p (Ok (record { meeting = m; when = p.when; then = p.gives }))
+unfolding MeetsArm ArmMeets
+arm_made known None p m h = (ap (λ (n : Meeting). record { meeting = n; when = p.when; then = p.gives }) h.0, h.1)
+arm_made known (Some x) p m h = (ap (λ (n : Meeting). record { meeting = n; when = p.when; then = p.gives }) h.0, h.1)
+
+pub arm_unmet : (known : Known) (x : Option Expr) (p : Pair) (f : Refusal) → MeetsArm known x p (Err f) → ArmMeets known x p (Err f)
+unfolding MeetsArm ArmMeets
+arm_unmet known x p f h = h
 
 -- ---- all arms
 
@@ -60,19 +69,17 @@ unfolding ArmsMeet
 no_arms known None = (refl, refl)
 no_arms known (Some x) = (refl, refl)
 
-pub one_more : (known : Known) (x : Option Expr) (ps : List Pair) (p : Pair) (ws : List When) (m : Meeting) → ArmsMeet known x ps (Ok ws) → MeetsArm known x p (Ok m)
-    → ArmsMeet known x (ps ++ p ∷ []) (Ok (ws ++ record { meeting = m; when = p.when; then = p.gives } ∷ []))
-unfolding ArmsMeet MeetsArm
-one_more known x ps p ws m h k =
-    let one : (o : Option Expr) → arm_node o p ≡ record { meeting = (arm_node o p).meeting; when = p.when; then = p.gives } = λ o. elim o as (λ (o : Option Expr). arm_node o p ≡ record { meeting = (arm_node o p).meeting; when = p.when; then = p.gives }) [ None ↦ refl | Some y ↦ refl ] in
-    let w : Meeting → When = λ n. record { meeting = n; when = p.when; then = p.gives } in (
-      map-append (arm_node x) ps (p ∷ []) ∙ ap (λ (vs : List When). vs ++ arm_node x p ∷ []) h.0 ∙ ap (λ (v : When). ws ++ v ∷ []) (one x) ∙ ap (λ (n : Meeting). ws ++ w n ∷ []) k.0,
-      split known x ps (p ∷ []) ∙ ap (λ (b : List Refusal). b ++ collations known (arm_collations x (p ∷ []))) h.1 ∙ k.1,
-    )
+pub one_more : (known : Known) (x : Option Expr) (ps : List Pair) (p : Pair) (ws : List When) (w : When) → ArmsMeet known x ps (Ok ws) → ArmMeets known x p (Ok w)
+    → ArmsMeet known x (ps ++ p ∷ []) (Ok (ws ++ w ∷ []))
+unfolding ArmsMeet ArmMeets
+one_more known x ps p ws w h k = (
+  map-append (arm_node x) ps (p ∷ []) ∙ ap (λ (vs : List When). vs ++ arm_node x p ∷ []) h.0 ∙ ap (λ (v : When). ws ++ v ∷ []) k.0,
+  split known x ps (p ∷ []) ∙ ap (λ (b : List Refusal). b ++ collations known (arm_collations x (p ∷ []))) h.1 ∙ k.1,
+)
 
-pub arm_refused : (known : Known) (x : Option Expr) (ps : List Pair) (p : Pair) (rest all : List Pair) (ws : List When) (f : Refusal) → ArmsMeet known x ps (Ok ws) → MeetsArm known x p (Err f)
+pub arm_refused : (known : Known) (x : Option Expr) (ps : List Pair) (p : Pair) (rest all : List Pair) (ws : List When) (f : Refusal) → ArmsMeet known x ps (Ok ws) → ArmMeets known x p (Err f)
     → all ≡ ps ++ p ∷ rest → ArmsMeet known x all (Err f)
-unfolding ArmsMeet MeetsArm
+unfolding ArmsMeet ArmMeets
 arm_refused known x ps p rest all ws f h k is =
     let here : collations known (arm_collations x all) ≡ collations known (arm_collations x (p ∷ [])) ++ collations known (arm_collations x rest) =
     ap (λ (qs : List Pair). collations known (arm_collations x qs)) is ∙ split known x ps (p ∷ rest) ∙ ap (λ (b : List Refusal). b ++ collations known (arm_collations x (p ∷ rest))) h.1 ∙ split known x (p ∷ []) rest in

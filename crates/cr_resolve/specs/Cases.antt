@@ -25,6 +25,11 @@ unfoldable pub MeetsArm : Known → Option Expr → Pair → Result Meeting Refu
 MeetsArm known x arm (Ok m) = ((arm_node x arm).meeting ≡ m) × (collations known (arm_collations x (arm ∷ [])) ≡ [])
 MeetsArm known x arm (Err f) = Refuses (collations known (arm_collations x (arm ∷ []))) f
 
+-- an arm, with how the operand meets it
+unfoldable pub ArmMeets : Known → Option Expr → Pair → Result When Refusal → Type 0
+ArmMeets known x arm (Ok w) = (arm_node x arm ≡ w) × (collations known (arm_collations x (arm ∷ [])) ≡ [])
+ArmMeets known x arm (Err f) = Refuses (collations known (arm_collations x (arm ∷ []))) f
+
 -- a CASE of arms that meet its operand
 abbrev pub case_made : Made (Option Expr) → List When → Bool → Made (Option Expr) → Read Expr
 case_made x arms misplaced other = record { bad = []; misplaced = (x.is_misplaced || misplaced) || other.is_misplaced; made = e.Case x.made arms other.made }

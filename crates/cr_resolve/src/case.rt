@@ -1,7 +1,7 @@
 //! What a CASE is, with what its parts are. The collations have to be there by which its operand is compared.
 
 ghost use Rattle.std.specs.Prelude.{◌≡◌, ◌∷◌, ◌++◌, [], OnOk};
-ghost use Rattle.cr_resolve.specs.Cases.{arms_read, MeetsArm, ArmsMeet, IsCase, case_made};
+ghost use Rattle.cr_resolve.specs.Cases.{arms_read, MeetsArm, ArmMeets, ArmsMeet, IsCase, case_made};
 ghost use Rattle.cr_resolve.specs.Reading.{fine, with_both};
 ghost use Rattle.cr_resolve.specs.Told.{told};
 
@@ -68,6 +68,24 @@ fn meet_arm<K: Naming>(
     }
 }
 
+// An arm, with how it meets the operand, if there is one.
+#[tactic(auto, using(crate::proofs::Cases::arm_made, crate::proofs::Cases::arm_unmet))]
+fn met<K: Naming>(
+    alloc: Global,
+    known: &K,
+    operand: &Option<Boxed<Expr>>,
+    arm: Pair,
+) -> Result<When, Refusal>
+    ensures { ArmMeets (K.known known.now) operand.now arm result }
+{
+    let meeting = meet_arm(alloc, known, operand, &arm);
+    meeting.map(|meeting| When {
+        meeting,
+        when: arm.when,
+        then: arm.gives,
+    })
+}
+
 // The arms, with how each meets the operand, if there is one.
 #[tactic(auto, using(crate::proofs::Cases::arms_memory, crate::proofs::Cases::no_arms, crate::proofs::Cases::one_more))]
 fn meet_arms<K: Naming>(
@@ -80,12 +98,7 @@ fn meet_arms<K: Naming>(
 {
     let mut arms = Items::new(alloc);
     for arm in pairs {
-        let meeting = meet_arm(alloc, known, operand, &arm)?;
-        arms.push(When {
-            meeting,
-            when: arm.when,
-            then: arm.gives,
-        })?;
+        arms.push(met(alloc, known, operand, arm)?)?;
     }
     Ok(arms)
 }

@@ -8,6 +8,7 @@ ghost use Rattle.cr_resolve.specs.Told.{told};
 
 use crate::known::check_collation;
 use crate::naming::Naming;
+use crate::node::boxed;
 use crate::reading::Made;
 use crate::refusal::Refusal;
 use cr_questions::operands::{meeting, meeting_item};
@@ -26,14 +27,11 @@ fn comparison(
 ) -> Result<Made<Expr>, AllocError>
     ensures { IfOk result (λ m. told m ≡ with_both (e.Compare op meeting) (told left) (told right)) }
 {
+    let is_misplaced = left.is_misplaced || right.is_misplaced;
+    let (left, right) = boxed(alloc, left.made, right.made)?;
     Ok(Made {
-        made: Expr::Compare(
-            op,
-            meeting,
-            Boxed::new(alloc, left.made)?,
-            Boxed::new(alloc, right.made)?,
-        ),
-        is_misplaced: left.is_misplaced || right.is_misplaced,
+        made: Expr::Compare(op, meeting, left, right),
+        is_misplaced,
     })
 }
 
@@ -69,8 +67,8 @@ pub fn compared<K: Naming>(
 ) -> Result<Made<Expr>, Refusal>
     ensures { Compares (K.known known.now) op left right result }
 {
-    let meeting = meet(alloc, known, &left.made, &right.made)?;
-    Ok(comparison(alloc, op, meeting, left, right)?)
+    let meeting = meet(alloc, known, &left.made, &right.made);
+    meeting.and_then(|meeting| Ok(comparison(alloc, op, meeting, left, right)?))
 }
 
 /// How an operand meets each item of IN.
@@ -121,8 +119,8 @@ pub fn among<K: Naming>(
 ) -> Result<Made<Expr>, Refusal>
     ensures { IsAmong (K.known known.now) is_negated operand items result }
 {
-    let meeting = meet_item(alloc, known, &operand.made)?;
-    Ok(membership(alloc, is_negated, meeting, operand, items)?)
+    let meeting = meet_item(alloc, known, &operand.made);
+    meeting.and_then(|meeting| Ok(membership(alloc, is_negated, meeting, operand, items)?))
 }
 
 // How an operand meets two bounds.

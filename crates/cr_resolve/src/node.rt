@@ -44,6 +44,17 @@ pub fn unary(alloc: Global, sign: Sign, operand: Made<Expr>) -> Result<Made<Expr
     })
 }
 
+// Two operands, each in a box.
+pub(crate) fn boxed(
+    alloc: Global,
+    left: Expr,
+    right: Expr,
+) -> Result<(Boxed<Expr>, Boxed<Expr>), AllocError>
+    ensures { IfOk result (λ both. both ≡ (left, right)) }
+{
+    Boxed::new(alloc, left).and_then(|left| Ok((left, Boxed::new(alloc, right)?)))
+}
+
 /// AND or OR of two operands. `AllocError` where memory runs out.
 pub fn logic(
     alloc: Global,
@@ -53,13 +64,11 @@ pub fn logic(
 ) -> Result<Made<Expr>, AllocError>
     ensures { IfOk result (λ m. told m ≡ with_both (e.Logic op) (told left) (told right)) }
 {
+    let is_misplaced = left.is_misplaced || right.is_misplaced;
+    let (left, right) = boxed(alloc, left.made, right.made)?;
     Ok(Made {
-        made: Expr::Logic(
-            op,
-            Boxed::new(alloc, left.made)?,
-            Boxed::new(alloc, right.made)?,
-        ),
-        is_misplaced: left.is_misplaced || right.is_misplaced,
+        made: Expr::Logic(op, left, right),
+        is_misplaced,
     })
 }
 
@@ -72,13 +81,11 @@ pub fn arithmetic(
 ) -> Result<Made<Expr>, AllocError>
     ensures { IfOk result (λ m. told m ≡ with_both (e.Arithmetic op) (told left) (told right)) }
 {
+    let is_misplaced = left.is_misplaced || right.is_misplaced;
+    let (left, right) = boxed(alloc, left.made, right.made)?;
     Ok(Made {
-        made: Expr::Arithmetic(
-            op,
-            Boxed::new(alloc, left.made)?,
-            Boxed::new(alloc, right.made)?,
-        ),
-        is_misplaced: left.is_misplaced || right.is_misplaced,
+        made: Expr::Arithmetic(op, left, right),
+        is_misplaced,
     })
 }
 
@@ -86,12 +93,11 @@ pub fn arithmetic(
 pub fn join(alloc: Global, left: Made<Expr>, right: Made<Expr>) -> Result<Made<Expr>, AllocError>
     ensures { IfOk result (λ m. told m ≡ with_both e.Join (told left) (told right)) }
 {
+    let is_misplaced = left.is_misplaced || right.is_misplaced;
+    let (left, right) = boxed(alloc, left.made, right.made)?;
     Ok(Made {
-        made: Expr::Join(
-            Boxed::new(alloc, left.made)?,
-            Boxed::new(alloc, right.made)?,
-        ),
-        is_misplaced: left.is_misplaced || right.is_misplaced,
+        made: Expr::Join(left, right),
+        is_misplaced,
     })
 }
 
@@ -104,13 +110,11 @@ pub fn like(
 ) -> Result<Made<Expr>, AllocError>
     ensures { IfOk result (λ m. told m ≡ with_both (e.Like is_negated) (told text) (told pattern)) }
 {
+    let is_misplaced = text.is_misplaced || pattern.is_misplaced;
+    let (text, pattern) = boxed(alloc, text.made, pattern.made)?;
     Ok(Made {
-        made: Expr::Like(
-            is_negated,
-            Boxed::new(alloc, text.made)?,
-            Boxed::new(alloc, pattern.made)?,
-        ),
-        is_misplaced: text.is_misplaced || pattern.is_misplaced,
+        made: Expr::Like(is_negated, text, pattern),
+        is_misplaced,
     })
 }
 
@@ -126,10 +130,12 @@ pub fn collate<K: Naming>(
 ) -> Result<Made<Expr>, Refusal>
     ensures { Reads (also (λ z. collation (K.known known.now) name.now) (with (λ y. e.Collate y name.now) (told operand))) result }
 {
+    let is_misplaced = operand.is_misplaced;
+    let operand = Boxed::new(alloc, operand.made)?;
     check_collation(alloc, known, name)?;
     Ok(Made {
-        made: Expr::Collate(Boxed::new(alloc, operand.made)?, name.copy(alloc)?),
-        is_misplaced: operand.is_misplaced,
+        made: Expr::Collate(operand, name.copy(alloc)?),
+        is_misplaced,
     })
 }
 
@@ -157,15 +163,27 @@ pub fn cast_target(alloc: Global, words: &[Text]) -> Result<Option<CastTo>, Allo
     }
 }
 
-/// An operand under a CAST. `AllocError` where memory runs out.
-pub fn cast(alloc: Global, operand: Made<Expr>, words: &[Text]) -> Result<Made<Expr>, AllocError>
-    ensures { IfOk result (λ m. told m ≡ with (cast_node (cast_target words.now)) (told operand)) }
+// An operand under a CAST to a type, or as it is where there is none.
+fn under_cast(
+    alloc: Global,
+    to: Option<CastTo>,
+    operand: Made<Expr>,
+) -> Result<Made<Expr>, AllocError>
+    ensures { IfOk result (λ m. told m ≡ with (cast_node to) (told operand)) }
 {
-    match cast_target(alloc, words)? {
+    match to {
         Some(to) => Ok(Made {
             made: Expr::Cast(to, Boxed::new(alloc, operand.made)?),
             is_misplaced: operand.is_misplaced,
         }),
         None => Ok(operand),
     }
+}
+
+/// An operand under a CAST. `AllocError` where memory runs out.
+pub fn cast(alloc: Global, operand: Made<Expr>, words: &[Text]) -> Result<Made<Expr>, AllocError>
+    ensures { IfOk result (λ m. told m ≡ with (cast_node (cast_target words.now)) (told operand)) }
+{
+    let target = cast_target(alloc, words);
+    target.and_then(|to| under_cast(alloc, to, operand))
 }

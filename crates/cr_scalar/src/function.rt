@@ -222,8 +222,7 @@ pub fn call_built_in<F: Functions>(
     requires { F.is_faithful functions.now }
     ensures { Evaluates (built_in (orders (F.order_of functions.now)) function.now args.now) result }
 {
-    let null = Value::Null;
-    let first = argument(args, 0, &null);
+    let first = argument(args, 0, &Value::Null);
     match function {
         BuiltIn::Abs => magnitude(first),
         BuiltIn::Coalesce | BuiltIn::IfNull => Ok(Value::Null),
@@ -233,7 +232,7 @@ pub fn call_built_in<F: Functions>(
         BuiltIn::Max(collation) => Ok(extreme(alloc, functions, collation, true, args)?),
         BuiltIn::Min(collation) => Ok(extreme(alloc, functions, collation, false, args)?),
         BuiltIn::NullIf(collation) => {
-            let second = argument(args, 1, &null);
+            let second = argument(args, 1, &Value::Null);
             Ok(null_if(alloc, functions, collation, first, second)?)
         }
         BuiltIn::TypeOf => Ok(type_of(alloc, first)?),

@@ -160,10 +160,10 @@ pub fn apply_unary<'a>(op: Unary, operand: Operand<'a>) -> Result<Operand<'a>, E
     let is_null = matches!(operand.get(), Value::Null);
     match op {
         Unary::Plus => Ok(operand),
-        Unary::Minus => Ok(Operand::made(negate(operand.get())?)),
+        Unary::Minus => negate(operand.get()).map(|value| Operand::made(value)),
         Unary::Not => {
-            let truth = truth(operand.get())?;
-            Ok(Operand::made(truth_value(truth.map(|t| !t))))
+            let truth = truth(operand.get());
+            truth.map(|truth| Operand::made(truth_value(truth.map(|t| !t))))
         }
         Unary::IsNull => Ok(Operand::made(truth_value(Some(is_null)))),
         Unary::NotNull => Ok(Operand::made(truth_value(Some(!is_null)))),

@@ -49,14 +49,16 @@ fn joined<K: Naming>(
     ensures { Reads (joined_by (K.known known.now) sources.now at is_left on.now source.now) result }
 {
     let on = expr_if_any(alloc, known, in_sight(sources, at, is_left), false, on)?;
-    let joined = Joined {
-        relation: copy_relation(alloc, &source.relation)?,
-        is_left,
-        on: terms_of(alloc, on.made)?,
-    };
+    let is_misplaced = on.is_misplaced;
+    let on = terms_of(alloc, on.made)?;
+    let relation = copy_relation(alloc, &source.relation)?;
     Ok(Made {
-        made: joined,
-        is_misplaced: on.is_misplaced,
+        made: Joined {
+            relation,
+            is_left,
+            on,
+        },
+        is_misplaced,
     })
 }
 

@@ -102,11 +102,11 @@ fn named(alloc: Global, expr: Expr, alias: &Option<Text>) -> Result<Items<Output
     ensures { IfOk result (λ os. os ≡ output expr alias.now ∷ []) }
 {
     let alias = match alias {
-        Some(alias) => Some(alias.copy(alloc)?),
-        None => None,
+        Some(alias) => alias.copy(alloc).map(Some),
+        None => Ok(None),
     };
     let mut outputs = Items::new(alloc);
-    outputs.push(Output { alias, expr })?;
+    outputs.push(alias.map(|alias| Output { alias, expr })?)?;
     Ok(outputs)
 }
 

@@ -197,8 +197,8 @@ fn placed_arms(
     let mut all = Vec::new(alloc);
     for one in arms {
         let when = placed(alloc, terms, &one.when)?;
-        let then = placed(alloc, terms, &one.then)?;
-        all.push(arm(alloc, operand, when, then)?)?;
+        let then = placed(alloc, terms, &one.then);
+        all.push(then.and_then(|then| arm(alloc, operand, when, then))?)?;
     }
     Ok(Items::from_vec(all))
 }
@@ -248,8 +248,8 @@ fn parts_placed(alloc: Global, terms: &[GroupTerm], expr: &Expr) -> Result<Expr,
             Ok(Expr::Logic(*op, left, right))
         }
         Expr::Compare(op, _, first, second) => {
-            let first = placed(alloc, terms, first.get())?;
-            let second = placed(alloc, terms, second.get())?;
+            let first = placed_boxed(alloc, terms, first.get())?;
+            let second = placed_boxed(alloc, terms, second.get())?;
             comparison(alloc, *op, first, second)
         }
         Expr::In(is_negated, _, operand, items) => {

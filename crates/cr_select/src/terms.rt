@@ -115,9 +115,9 @@ fn grouped<K: Naming>(
 ) -> Result<Made<GroupTerm>, Refusal>
     ensures { Groups (K.known known.now) term result }
 {
-    let collation = collation(alloc, known, &term.made.expr)?;
     let is_misplaced = has_aggregate(&term.made.expr) || term.is_misplaced;
-    Ok(Made {
+    let collation = collation(alloc, known, &term.made.expr);
+    collation.map(|collation| Made {
         made: GroupTerm {
             expr: term.made.expr,
             collation,
@@ -221,15 +221,17 @@ fn ordered<K: Naming>(
 ) -> Result<Made<OrderTerm>, Refusal>
     ensures { Orders (K.known known.now) is_descending term result }
 {
-    let collation = collation(alloc, known, &term.made.expr)?;
-    Ok(Made {
+    let result = term.made.result;
+    let is_misplaced = term.is_misplaced;
+    let collation = collation(alloc, known, &term.made.expr);
+    collation.map(|collation| Made {
         made: OrderTerm {
-            result: term.made.result,
+            result,
             expr: term.made.expr,
             collation,
             is_descending,
         },
-        is_misplaced: term.is_misplaced,
+        is_misplaced,
     })
 }
 

@@ -360,8 +360,7 @@ pub fn select(alloc: Global, tokens: &mut Cursor<'_>) -> Result<Select, Fault>
     let shown = all_shown(alloc, tokens)?;
     let (from, filter) = sources(alloc, tokens)?;
     let (group, having) = grouping(alloc, tokens)?;
-    let (order, limit) = ending(alloc, tokens)?;
-    Ok(Select {
+    ending(alloc, tokens).map(|(order, limit)| Select {
         distinct,
         shown,
         from,

@@ -123,15 +123,11 @@ fn read(alloc: Global, symbols: &[Symbol]) -> Result<Statement, ParseError>
     let mut cursor = Cursor::new(symbols);
     let outcome = any(alloc, &mut cursor);
     let place = symbols.len().saturating_sub(cursor.len());
-    match outcome {
-        Ok(tree) => {
-            if cursor.len() == 0 {
-                Ok(tree)
-            } else {
-                Err(ParseError::Syntax(place))
-            }
-        }
-        Err(fault) => Err(refusal(fault, place)),
+    let tree = outcome.map_err(|fault| refusal(fault, place));
+    if cursor.len() == 0 {
+        tree
+    } else {
+        tree.and(Err(ParseError::Syntax(place)))
     }
 }
 
