@@ -8,3 +8,4 @@ pub mod ColumnLemmas
 pub mod LawLemmas
 pub mod CallerLemmas
 pub mod NewLemmas
+pub mod PageLemmas

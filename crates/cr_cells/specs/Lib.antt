@@ -1,4 +1,5 @@
 pub mod Holding
+pub mod Pages
 pub mod Tables
 pub mod Marks
 pub mod Commit

@@ -6,6 +6,7 @@ mod cells;
 pub mod laws;
 pub mod marks;
 pub mod newly;
+pub mod page;
 pub mod plain;
 pub mod store;
 pub mod tables;

@@ -5,6 +5,7 @@ ghost use Rattle.cr_cells.specs.Holding.{empty_holding};
 
 use crate::cells::{cells_of, cells_of_table, since, take_changes};
 use crate::marks::{Mark, marks_after, seen_of};
+use crate::page::{Page, cells_after, cut};
 use crate::store::{Cells, CellsError, NewCells};
 use crate::tables::{add, copies, with_added, with_replicated};
 use cr_lattice::change::{Change, Site};
@@ -101,6 +102,17 @@ impl Cells for PlainCells {
 
     fn cells_of_table(&mut self, alloc: Global, table: &str) -> Result<Vec<Stamped>, CellsError> {
         Ok(cells_of_table(alloc, &self.cells, table)?)
+    }
+
+    fn page(
+        &mut self,
+        alloc: Global,
+        table: &str,
+        after: Option<&[u8]>,
+        limit: usize,
+    ) -> Result<Page, CellsError> {
+        let found = cells_after(alloc, &self.cells, table, after)?;
+        Ok(cut(alloc, found, limit)?)
     }
 
     fn commit(

@@ -1,12 +1,14 @@
 //! What a store of cells is.
 
-ghost use Rattle.std.specs.Prelude.{◌≡◌, ◌≤ℤ◌, pos, true, false, IfOk, MatchResult};
-ghost use Rattle.std.specs.Option.{ForSome};
+ghost use Rattle.std.specs.Prelude.{◌≡◌, ◌<◌, ◌≤ℤ◌, pos, true, false, IfOk, MatchResult};
+ghost use Rattle.std.specs.Option.{ForSome, option_copied};
 ghost use Rattle.cr_cells.specs.Tables.{IsNewTable, IsNewColumn, has_defaults, is_markable, with_replicated, with_table, with_added, AreWellFormed};
 ghost use Rattle.cr_cells.specs.Marks.{seen_of};
 ghost use Rattle.cr_cells.specs.Holding.{since, cells_of, cells_of_table, IsSound, empty_holding};
+ghost use Rattle.cr_cells.specs.Pages.{IsPage};
 ghost use Rattle.cr_cells.specs.Calls.{Reads, Defines, Commits, IsRefusal, is_want, StaysClean};
 
+use crate::page::Page;
 use cr_lattice::change::{Change, Site};
 use cr_lattice::stamped::Stamped;
 use cr_lattice::table::{ColumnDef, Table, TableDef};
@@ -165,6 +167,24 @@ pub trait Cells: Drop {
         ensures sound { is_clean self.new → IsSound (holding self.new) }
         ensures reads { is_clean self.new → Reads (holding self.old) (holding self.new) result
             (λ cells. cells.items ≡ cells_of_table (holding self.old).cells table.now) };
+
+    /// The cells of the first keys of a table above a key, or of its first ones of all, as many keys as are asked for, which
+    /// is one at least: by key, then as those of a row.
+    ///
+    /// # Errors
+    /// `Memory`, or `Store(Refused)`.
+    fn page(
+        &mut self,
+        alloc: Global,
+        table: &str,
+        after: Option<&[u8]>,
+        limit: usize,
+    ) -> Result<Page, CellsError>
+        requires { 0 < limit }
+        ensures device { StaysClean is_honest is_clean is_want self.old self.new result }
+        ensures sound { is_clean self.new → IsSound (holding self.new) }
+        ensures reads { is_clean self.new → Reads (holding self.old) (holding self.new) result
+            (IsPage (holding self.old).cells table.now (option_copied after.entry) limit) };
 
     /// Takes changes, each well formed for a replicated table, and with them the mark of a peer: its site, and its
     /// version, at least 0, up to which its changes were taken. Answers whether a kept change is another than before.

@@ -17,6 +17,7 @@ ghost use Rattle.cr_store.specs.Schema.{schema_of};
 ghost use Rattle.cr_file.specs.declared.FileFault.TheVariants.{NoSite};
 ghost use Rattle.cr_file.specs.Opening.{FailsInFile, FailsToMake, FailsToOpen, IsOfDatabase, IsStoreOf};
 
+use cr_cells::page::Page;
 use cr_cells::store::{Cells, CellsError};
 use cr_lattice::change::{Change, Site};
 use cr_lattice::stamped::Stamped;
@@ -99,6 +100,16 @@ impl Cells for FileCells {
 
     fn cells_of_table(&mut self, alloc: Global, table: &str) -> Result<Vec<Stamped>, CellsError> {
         self.store.cells_of_table(alloc, table)
+    }
+
+    fn page(
+        &mut self,
+        alloc: Global,
+        table: &str,
+        after: Option<&[u8]>,
+        limit: usize,
+    ) -> Result<Page, CellsError> {
+        self.store.page(alloc, table, after, limit)
     }
 
     fn commit(

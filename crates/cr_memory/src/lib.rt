@@ -6,6 +6,7 @@ ghost use Rattle.cr_memory.specs.Open.{IsOpen, always_honest};
 ghost use Rattle.cr_memory.specs.Wants.{as_want};
 ghost use Rattle.cr_cells.specs.declared.store.CellsError.TheVariants.{Memory};
 
+use cr_cells::page::Page;
 use cr_cells::store::{Cells, CellsError, NewCells};
 use cr_disk::MemoryFile;
 use cr_lattice::change::{Change, Site};
@@ -83,6 +84,16 @@ impl Cells for MemoryCells {
 
     fn cells_of_table(&mut self, alloc: Global, table: &str) -> Result<Vec<Stamped>, CellsError> {
         as_want(self.store.cells_of_table(alloc, table))
+    }
+
+    fn page(
+        &mut self,
+        alloc: Global,
+        table: &str,
+        after: Option<&[u8]>,
+        limit: usize,
+    ) -> Result<Page, CellsError> {
+        as_want(self.store.page(alloc, table, after, limit))
     }
 
     fn commit(

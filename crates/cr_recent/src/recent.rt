@@ -4,6 +4,7 @@ ghost use Rattle.std.specs.Prelude.{◌≡◌};
 
 use crate::keys::{by_stamp, cells_above};
 use crate::notes::Notes;
+use cr_cells::page::Page;
 use cr_cells::store::{Cells, CellsError};
 use cr_lattice::change::{Change, Site};
 use cr_lattice::stamped::Stamped;
@@ -103,6 +104,16 @@ impl<C: Cells> Cells for Recent<C> {
 
     fn cells_of_table(&mut self, alloc: Global, table: &str) -> Result<Vec<Stamped>, CellsError> {
         self.cells.cells_of_table(alloc, table)
+    }
+
+    fn page(
+        &mut self,
+        alloc: Global,
+        table: &str,
+        after: Option<&[u8]>,
+        limit: usize,
+    ) -> Result<Page, CellsError> {
+        self.cells.page(alloc, table, after, limit)
     }
 
     fn commit(

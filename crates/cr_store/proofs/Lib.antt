@@ -18,6 +18,7 @@ pub mod OrdinalLemmas
 pub mod PlanLemmas
 pub mod ReadBack
 pub mod ReadLemmas
+pub mod PageReads
 pub mod ReadRows
 pub mod ReadSets
 pub mod ReopenLemmas

@@ -87,7 +87,7 @@ module _ (ts : List Table) where
         subst (Has ss) (sym (row.2 ∙ ap (λ (r : Row). cell_of Second ts (sql.Null ∷ r)) of.2 ∙ cell_back Second ts sql.Null of.0 there)) of.1;
   }
 
-  shown : (params : Row) (id : ℤ) (ss : List Stamped) (x : Row) → Has (map (cell_row Second ts) ss) x → eval_all shows (params ∷ (Int id ∷ x) ∷ []) ≡ x
+  pub shown : (params : Row) (id : ℤ) (ss : List Stamped) (x : Row) → Has (map (cell_row Second ts) ss) x → eval_all shows (params ∷ (Int id ∷ x) ∷ []) ≡ x
   shown params id ss x k = let from = has_mapped (cell_row Second ts) ss x k in subst (λ z. eval_all shows (params ∷ (Int id ∷ z) ∷ []) ≡ z) (sym from.2) refl
 
   pub shows_since : (old new : State) (a b o d : List Row) (ss : List Stamped) (version : ℤ) (rows : List Row) → HasCells old.now ts a b o d ss → Shown select_since (Int version ∷ []) old new rows

@@ -60,12 +60,12 @@ one_way true = refl
 one_way false = refl
 
 -- SQL's = between a column's integer and a given one
-same_number : (m n : ℤ) → is_true (binary (Compare Eq Binary) (Int m) (unary ToNumeric (Int n))) ≡ is_eq (value_cmp (Int m) (Int n))
+pub same_number : (m n : ℤ) → is_true (binary (Compare Eq Binary) (Int m) (unary ToNumeric (Int n))) ≡ is_eq (value_cmp (Int m) (Int n))
 unfolding binary unary
 same_number m n = one_way (is_eq (value_cmp (Int m) (Int n)))
 
 -- the ordinal of a table that is there is that of no other name
-same_table : (ts : List Table) (x y : List ℕ) → has_table ts x ≡ true → is_eq (value_cmp (Int (ordinal ts x)) (Int (ordinal ts y))) ≡ same_bytes x y
+pub same_table : (ts : List Table) (x y : List ℕ) → has_table ts x ≡ true → is_eq (value_cmp (Int (ordinal ts x)) (Int (ordinal ts y))) ≡ same_bytes x y
 same_table ts x y there = same_int (ordinal ts x) (ordinal ts y) ∙ same_ordinal ts x y there
 
 module _ (ts : List Table) where

@@ -1,5 +1,5 @@
 -- What a call leaves where it ends well, and what its database holds with one table changed.
-use Rattle.std.proofs.Common.{◌≡◌, ℕ, List, Ok, Err, Result, OnOk, IfOk, IsTrue, Option, Some, None, arith, ◌∙◌}
+use Rattle.std.proofs.Common.{◌≡◌, ℕ, List, Ok, Err, Result, OnOk, IfOk, MatchResult, IsTrue, Option, Some, None, arith, ◌∙◌}
 use Rattle.sqlite.specs.Order.{Row}
 use Rattle.sqlite.specs.Effect.{Database}
 use Rattle.sqlite_schema.specs.declared.command.Returning.{Returning}
@@ -22,6 +22,10 @@ if_then (Err e) P Q f h = tt
 pub ok_from : {B E : Type 0} (r : Result B E) (P : B → Type 0) (Q : Type 0) → ((b : B) → P b → Q) → IfOk r P → OnOk r Q
 ok_from (Ok b) P Q f h = f b h
 ok_from (Err e) P Q f h = tt
+
+pub match_then : {B E : Type 0} (r : Result B E) (P Q : B → Type 0) (R : E → Type 0) → ((b : B) → P b → Q b) → MatchResult r P R → MatchResult r Q R
+match_then (Ok b) P Q R f h = f b h
+match_then (Err e) P Q R f h = h
 
 pub was_clean : (old new : State) → Survives old new (λ _. ⊥) → HasCleanDisk new → HasCleanDisk old
 was_clean old new s clean = omega (arith, s.clean, clean)

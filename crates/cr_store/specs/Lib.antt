@@ -13,3 +13,4 @@ pub mod StoredOrders
 pub mod Asking
 pub mod Laws
 pub mod Told
+pub mod Pages

@@ -13,6 +13,7 @@ mod migrating;
 mod opening;
 mod ordinals;
 mod outcome;
+mod pages;
 mod plan;
 mod planning;
 mod reads;

@@ -43,7 +43,7 @@ const TABLE: &str =
 
 // The cells that a query of the nine columns of `cr_cell2` shows. Each is made as its row is read, so that no list of
 // sqlite's rows, with copies of their own, stands beside that of the cells.
-fn ask_cells<S: Alter>(
+pub(crate) fn ask_cells<S: Alter>(
     conn: &mut Connection<S>,
     sql: &str,
     params: &[ValueRef<'_>],

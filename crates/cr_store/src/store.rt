@@ -20,12 +20,14 @@ use crate::format::Format;
 use crate::known::Known;
 use crate::opening::open_known;
 use crate::ordinals::next_ordinal;
+use crate::pages::page;
 use crate::reads::{cells_of, cells_of_table, since};
 use crate::records::crr_of;
 use crate::rows::refusal;
 use crate::shape::format_of;
 use crate::tables::{add_table, make, redefine, replicate};
 use cr_cells::marks::{Mark, seen_of};
+use cr_cells::page::Page;
 use cr_cells::store::{Cells, CellsError, StoreFault};
 use cr_cells::tables::{add, copies, table_named, with_added, with_column, with_replicated};
 use cr_lattice::change::{Change, Site};
@@ -310,6 +312,24 @@ impl<S: Alter + Drop> Cells for Store<S> {
     fn cells_of_table(&mut self, alloc: Global, table: &str) -> Result<Vec<Stamped>, CellsError> {
         let _ = self.conn.is_autocommit();
         cells_of_table(&mut self.conn, &self.known.tables, table, alloc)
+    }
+
+    fn page(
+        &mut self,
+        alloc: Global,
+        table: &str,
+        after: Option<&[u8]>,
+        limit: usize,
+    ) -> Result<Page, CellsError> {
+        let _ = self.conn.is_autocommit();
+        page(
+            &mut self.conn,
+            &self.known.tables,
+            table,
+            after,
+            limit,
+            alloc,
+        )
     }
 
     fn commit(

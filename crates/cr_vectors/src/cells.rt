@@ -1,5 +1,7 @@
 //! The calls of a store in turn, at any store, and at the plain one.
 
+ghost use Rattle.std.specs.Prelude.{◌<◌};
+
 use cr_cells::plain::PlainCells;
 use cr_cells::store::Cells;
 use cr_cells::tables::{check_all, has_defaults, is_markable, is_new_table};
@@ -7,6 +9,7 @@ use cr_lattice::change::{Change, Site};
 use cr_lattice::stamped::Stamped;
 use cr_lattice::table::TableDef;
 use cr_told::reading::{A, B, T, changes, definition, key};
+use cr_value::text::Bytes;
 use std::alloc::Global;
 use std::process::Abort;
 use std::test::Fail;
@@ -102,18 +105,47 @@ fn is_deletion(alloc: Global, cells: &[Stamped]) -> Result<bool, Fail> {
     }
 }
 
-/// Whether the deletion is the one cell, by its version, by its row and by its table.
+/// Whether the deletion is the one cell, by its version, by its row, by its table and by a page of that.
 pub(crate) fn has_deletion<C: Cells>(alloc: Global, cells: &mut C) -> Result<bool, Fail> {
     let since = cells.since(alloc, 1)?;
     let of_row = cells.cells_of(alloc, "t", key(alloc, 1)?.as_slice())?;
     let of_table = cells.cells_of_table(alloc, "t")?;
     let of_other = cells.cells_of_table(alloc, "u")?;
+    let page = cells.page(alloc, "t", None, 64)?;
     Ok(
         is_deletion(alloc, &since)?
             && is_deletion(alloc, &of_row)?
             && is_deletion(alloc, &of_table)?
+            && is_deletion(alloc, &page.cells)?
+            && page.bound.is_none()
             && of_other.is_empty(),
     )
+}
+
+/// The cells of a table page by page, of so many keys each.
+pub(crate) fn by_pages<C: Cells>(
+    alloc: Global,
+    cells: &mut C,
+    table: &str,
+    limit: usize,
+) -> Result<Vec<Stamped>, Fail>
+    requires { 0 < limit }
+{
+    let mut all = Vec::new(alloc);
+    let mut after: Option<Bytes> = None;
+    for _ in 0..u8::MAX {
+        let page = match &after {
+            Some(key) => cells.page(alloc, table, Some(key.as_slice()), limit)?,
+            None => cells.page(alloc, table, None, limit)?,
+        };
+        let mut more = page.cells;
+        all.append(&mut more)?;
+        match page.bound {
+            Some(key) => after = Some(key),
+            None => return Ok(all),
+        }
+    }
+    Err(Fail::from("more pages than there are keys"))
 }
 
 /// The calls in turn, with their answers, at a store of site A that holds nothing.

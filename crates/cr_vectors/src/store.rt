@@ -1,6 +1,6 @@
 //! The store over sqlite, in memory, in a file and in a file in memory: the same calls with the same answers as at the plain one.
 
-use crate::cells::{add_replicated, commit_from, has_deletion, meets_the_vectors};
+use crate::cells::{add_replicated, by_pages, commit_from, has_deletion, meets_the_vectors};
 use cr_cells::plain::PlainCells;
 use cr_cells::store::{Cells, CellsError, NewCells, StoreFault};
 use cr_lattice::change::{Change, Site};
@@ -172,6 +172,20 @@ fn hold_the_same<C: Cells, D: Cells>(alloc: Global, a: &mut C, b: &mut D) -> Res
     Ok(true)
 }
 
+// Whether the pages of both tables, of one key each, of two and of more than there are, have the cells of the tables.
+fn are_paged<C: Cells>(alloc: Global, cells: &mut C) -> Result<bool, Fail> {
+    for table in ["t", "u"] {
+        let whole = cells.cells_of_table(alloc, table)?;
+        if !are_same(&by_pages(alloc, cells, table, 1)?, &whole)
+            || !are_same(&by_pages(alloc, cells, table, 2)?, &whole)
+            || !are_same(&by_pages(alloc, cells, table, 64)?, &whole)
+        {
+            return Ok(false);
+        }
+    }
+    Ok(true)
+}
+
 // The same commit at both: whether they answer the same, and then hold the same.
 fn commit_to_both<C: Cells, D: Cells>(
     alloc: Global,
@@ -206,6 +220,7 @@ fn a_store_holds_what_the_plain_one_holds(rt: HostRuntime) -> Result<(), Fail> {
         );
     }
     assert!(rt; plain.db_version() > 20, "most commits change something");
+    assert!(rt; are_paged(alloc, &mut plain)? && are_paged(alloc, &mut store)?);
     let mut store = opened_again(alloc, store)?;
     assert!(rt;
         hold_the_same(alloc, &mut plain, &mut store)?,

@@ -1,6 +1,7 @@
 //! What statements ask of their store: a store that counts its calls.
 
 use crate::printing::print_reply;
+use cr_cells::page::Page;
 use cr_cells::plain::PlainCells;
 use cr_cells::store::{Cells, CellsError};
 use cr_guard::policy::Policy;
@@ -52,11 +53,12 @@ const STATEMENTS: [&str; 23] = [
     "ROLLBACK",
 ];
 
-/// How often a store was asked: for the cells of a row, for those of a whole table, for those of some version on, and to commit.
+/// How often a store was asked: for the cells of a row, for those of a whole table, for a page of a table, for those of some version on, and to commit.
 #[derive(Clone, Copy)]
 pub struct Asked {
     rows: u64,
     tables: u64,
+    pages: u64,
     newest: u64,
     commits: u64,
 }
@@ -64,6 +66,7 @@ pub struct Asked {
 const NOTHING: Asked = Asked {
     rows: 0,
     tables: 0,
+    pages: 0,
     newest: 0,
     commits: 0,
 };
@@ -81,6 +84,7 @@ impl CountingCells {
         self.asked.set(Asked {
             rows: asked.rows.saturating_add(more.rows),
             tables: asked.tables.saturating_add(more.tables),
+            pages: asked.pages.saturating_add(more.pages),
             newest: asked.newest.saturating_add(more.newest),
             commits: asked.commits.saturating_add(more.commits),
         });
@@ -145,6 +149,20 @@ impl Cells for CountingCells {
         self.cells.cells_of_table(alloc, table)
     }
 
+    fn page(
+        &mut self,
+        alloc: Global,
+        table: &str,
+        after: Option<&[u8]>,
+        limit: usize,
+    ) -> Result<Page, CellsError> {
+        self.count(Asked {
+            pages: 1,
+            ..NOTHING
+        });
+        self.cells.page(alloc, table, after, limit)
+    }
+
     fn commit(
         &mut self,
         alloc: Global,
@@ -186,8 +204,8 @@ fn ask<W: Write>(
     writeln!(out, "{text}")?;
     writeln!(
         out,
-        "rows {}, tables {}, newest {}, commits {}",
-        counts.rows, counts.tables, counts.newest, counts.commits
+        "rows {}, tables {}, pages {}, newest {}, commits {}",
+        counts.rows, counts.tables, counts.pages, counts.newest, counts.commits
     )?;
     print_reply(alloc, &outcome, out)
 }
