@@ -17,7 +17,7 @@ use cr_select::placed::or_bare;
 use cr_term::expr::Expr;
 use cr_term::query::{GroupTerm, OrderTerm};
 use cr_term::terms::without_collate;
-use sqlite_items::Items;
+use sqlite_items::{Boxed, Items};
 use std::alloc::{AllocError, Global};
 
 // ---- whether there are groups
@@ -94,11 +94,11 @@ fn or_results_bare(mut found: bool, terms: &[GroupTerm], outputs: &[Output]) -> 
 
 // Whether it was found, or a column stands bare in HAVING.
 #[tactic(auto, unfolding(cr_select::specs::Placed::or_bare), using(cr_select::proofs::Each::or_false))]
-fn or_having_bare(found: bool, terms: &[GroupTerm], having: &Option<Expr>) -> bool
+fn or_having_bare(found: bool, terms: &[GroupTerm], having: &Option<Boxed<Expr>>) -> bool
     ensures { result ≡ or_bare found (flat_map (bares (exprs_of terms.now)) (option_to_list having.now)) }
 {
     match having {
-        Some(having) => or_bare(found, terms, having),
+        Some(having) => or_bare(found, terms, having.get()),
         None => found,
     }
 }

@@ -18,7 +18,7 @@ use cr_select::same::same;
 use cr_term::expr::Expr;
 use cr_term::query::{GroupTerm, OrderTerm, Query, ResultColumn};
 use cr_tree::statement::Select;
-use sqlite_items::Items;
+use sqlite_items::{Boxed, Items};
 use std::alloc::{AllocError, Global};
 
 // An expression of a query, with the terms of groups put in where there are groups.
@@ -61,12 +61,12 @@ fn having_in(
     alloc: Global,
     is_grouped: bool,
     terms: &[GroupTerm],
-    having: &Option<Expr>,
+    having: &Option<Boxed<Expr>>,
 ) -> Result<Option<Expr>, AllocError>
     ensures { IfOk result (λ h. h ≡ option_map (within is_grouped terms.now) having.now) }
 {
     match having {
-        Some(having) => Ok(Some(within(alloc, is_grouped, terms, having)?)),
+        Some(having) => Ok(Some(within(alloc, is_grouped, terms, having.get())?)),
         None => Ok(None),
     }
 }

@@ -118,7 +118,9 @@ impl<C: Cells, M: Module> HostedSession<C, M> {
             Ok(resolved) => resolved,
             Err(refusal) => return Err(refusal),
         };
-        self.perform(alloc, functions, guard, names, &resolved, params)
+        let reply = self.perform(alloc, functions, guard, names, &resolved, params);
+        drop(resolved);
+        reply
     }
 
     /// Registers a table module under a name in whatever case, which is kept in ASCII lower case. From then on statements may

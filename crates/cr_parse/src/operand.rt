@@ -227,8 +227,7 @@ impl<F: Fn(Global, &mut Cursor<'_>, Limits, u8) -> Result<(Expr, u8), Fault>> Gr
         ensures low { IfOk result (λ x. x.1 ≤ self.now.limits.room) }
     {
         let inner = self.inside(tokens)?;
-        tokens.expect(Mark::Close)?;
-        Ok(inner)
+        tokens.expect(Mark::Close).map(|()| inner)
     }
 
     /// After CAST.

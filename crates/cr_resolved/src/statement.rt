@@ -70,5 +70,7 @@ pub fn resolved<K: Naming, G: Answering>(
         return Err(Refusal::OutOfProfile(Outside::Real));
     }
     let named = read(alloc, known, statement)?;
-    permitted(alloc, guard, &named)
+    let left = permitted(alloc, guard, &named);
+    drop(named);
+    left
 }

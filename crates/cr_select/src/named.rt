@@ -22,7 +22,7 @@ use cr_term::expr::Expr;
 use cr_term::query::{GroupTerm, Joined, OrderTerm};
 use cr_tree::expr::Expr as Tree;
 use cr_tree::statement::{Select, Term};
-use sqlite_items::Items;
+use sqlite_items::{Boxed, Items};
 use std::alloc::Global;
 
 /// A query whose names are read, before its groups are looked at.
@@ -30,9 +30,9 @@ use std::alloc::Global;
 pub struct Named {
     pub results: Items<Output>,
     pub joined: Items<Joined>,
-    pub filter: Option<Expr>,
+    pub filter: Option<Boxed<Expr>>,
     pub groups: Items<GroupTerm>,
-    pub having: Option<Expr>,
+    pub having: Option<Boxed<Expr>>,
     pub order: Items<OrderTerm>,
 }
 
@@ -149,14 +149,14 @@ fn check_distinct<K: Naming>(
 struct Front {
     results: Items<Output>,
     joined: Items<Joined>,
-    filter: Option<Expr>,
+    filter: Option<Boxed<Expr>>,
 }
 
 // What stands from GROUP BY on.
 #[derive(Drop)]
 struct Back {
     groups: Items<GroupTerm>,
-    having: Option<Expr>,
+    having: Option<Boxed<Expr>>,
     order: Items<OrderTerm>,
 }
 

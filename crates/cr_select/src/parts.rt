@@ -15,7 +15,7 @@ use cr_resolve::scope::Source;
 use cr_term::expr::Expr;
 use cr_term::terms::and_terms;
 use cr_tree::expr::Expr as Tree;
-use sqlite_items::Items;
+use sqlite_items::{Boxed, Items};
 use std::alloc::{AllocError, Global};
 
 /// An expression that need not be there, with the sources in sight, where aggregates may or may not stand.
@@ -28,15 +28,16 @@ pub fn expr_if_any<K: Naming>(
     sources: &[Source],
     may_aggregate: bool,
     tree: &Option<Tree>,
-) -> Result<Made<Option<Expr>>, Refusal>
+) -> Result<Made<Option<Boxed<Expr>>>, Refusal>
     ensures { Reads (if_any (option_map (expr (K.known known.now) sources.now may_aggregate) tree.now)) result }
 {
     match tree {
         Some(tree) => {
             let expr = expr(alloc, known, sources, may_aggregate, tree)?;
+            let is_misplaced = expr.is_misplaced;
             Ok(Made {
-                made: Some(expr.made),
-                is_misplaced: expr.is_misplaced,
+                made: Some(Boxed::new(alloc, expr.made)?),
+                is_misplaced,
             })
         }
         None => Ok(Made {
@@ -47,11 +48,11 @@ pub fn expr_if_any<K: Naming>(
 }
 
 /// The AND-terms of a condition, none without one. `AllocError` where memory runs out.
-pub fn terms_of(alloc: Global, condition: Option<Expr>) -> Result<Items<Expr>, AllocError>
+pub fn terms_of(alloc: Global, condition: Option<Boxed<Expr>>) -> Result<Items<Expr>, AllocError>
     ensures { IfOk result (λ ts. ts ≡ terms_of condition) }
 {
     match condition {
-        Some(condition) => and_terms(alloc, condition),
+        Some(condition) => and_terms(alloc, condition.into_inner()),
         None => Ok(Items::new(alloc)),
     }
 }

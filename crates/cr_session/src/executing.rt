@@ -53,7 +53,9 @@ impl<C: Cells> Session<C> {
             Ok(resolved) => resolved,
             Err(refusal) => return Err(refusal),
         };
-        self.perform(alloc, functions, guard, names, &resolved, params)
+        let reply = self.perform(alloc, functions, guard, names, &resolved, params);
+        drop(resolved);
+        reply
     }
 
     /// Runs a script: carries out its statements in order, up to the first that is refused. What was done before it stands.

@@ -54,7 +54,10 @@ fn check_allowed<F: Functions, G: Guarding>(
     ensures { Permits (known_by (F.function_of functions.now) (F.names_function functions.now) (F.order_of functions.now) snapshot.now) (asked (G.rules guard.now) (G.allows guard.now)) statement.now count result }
 {
     match allowed(alloc, functions, guard, snapshot, statement, count) {
-        Ok(_) => Ok(()),
+        Ok(resolved) => {
+            drop(resolved);
+            Ok(())
+        }
         Err(refusal) => Err(refusal),
     }
 }
