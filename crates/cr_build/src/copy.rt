@@ -137,16 +137,16 @@ pub fn copy(alloc: Global, expr: &Expr) -> Result<Expr, AllocError>
             Ok(Expr::Case(operand, arms, copy_if_any(alloc, otherwise)?))
         }
         Expr::BuiltIn(function, args) => {
-            let function = copy_built_in(alloc, function)?;
-            Ok(Expr::BuiltIn(function, copy_all(alloc, args.as_slice())?))
+            let args = copy_all(alloc, args.as_slice())?;
+            Ok(Expr::BuiltIn(copy_built_in(alloc, function)?, args))
         }
         Expr::Host(name, args) => {
             let name = name.copy(alloc)?;
             Ok(Expr::Host(name, copy_all(alloc, args.as_slice())?))
         }
         Expr::Aggregate(kind, args) => {
-            let kind = copy_aggregate(alloc, kind)?;
-            Ok(Expr::Aggregate(kind, copy_all(alloc, args.as_slice())?))
+            let args = copy_all(alloc, args.as_slice())?;
+            Ok(Expr::Aggregate(copy_aggregate(alloc, kind)?, args))
         }
     }
 }
@@ -187,12 +187,12 @@ fn copy_arms(alloc: Global, arms: &[When]) -> Result<Items<When>, AllocError>
     for arm in arms {
         let meeting = copy_meeting(alloc, &arm.meeting)?;
         let when = copy(alloc, &arm.when)?;
-        let then = copy(alloc, &arm.then)?;
-        copied.push(When {
+        let then = copy(alloc, &arm.then);
+        copied.push(then.map(|then| When {
             meeting,
             when,
             then,
-        })?;
+        })?)?;
     }
     Ok(Items::from_vec(copied))
 }

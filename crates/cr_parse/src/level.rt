@@ -40,15 +40,17 @@ impl<F: Fn(Global, &mut Cursor<'_>, Limits, u8) -> Result<(Expr, u8), Fault>> Gr
                 return Ok((tree, height));
             }
             if height >= self.limits.room {
+                drop(tree);
                 return Err(Fault::Limit(LimitKind::Depth));
             }
             (tree, height) = self.tail(tokens, symbol, tree, height)?;
             bound = binds;
         }
         match tokens.peek() {
-            Some(symbol) if least <= binding(symbol) && binding(symbol) <= bound => Err(
-                Fault::Limit(LimitKind::Depth),
-            ),
+            Some(symbol) if least <= binding(symbol) && binding(symbol) <= bound => {
+                drop(tree);
+                Err(Fault::Limit(LimitKind::Depth))
+            }
             _ => Ok((tree, height)),
         }
     }

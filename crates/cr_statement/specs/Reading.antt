@@ -101,7 +101,7 @@ mode = optional (λ t. is_some (grammar.mode_of t)) (one_of grammar.mode_of)
 unfoldable pub begin : Parser Statement
 begin = made (λ x. t.Begin x.0) (both (behind m.Begin mode) (eat m.Transaction))
 
-unfoldable pub ended : Mark → Statement → Parser Statement
+unfoldable pub ended : {A : Type 0} → Mark → A → Parser A
 ended x s = made (λ _. s) (behind x (eat m.Transaction))
 
 unfoldable pub transaction : Parser Statement

@@ -58,7 +58,7 @@ fn begin(tokens: &mut Cursor<'_>) -> Result<Statement, Fault>
 
 // A word, and perhaps TRANSACTION.
 #[tactic(auto, unfolding(crate::specs::Reading::ended))]
-fn ended(tokens: &mut Cursor<'_>, mark: Mark, statement: Statement) -> Result<Statement, Fault>
+fn ended<T: Drop>(tokens: &mut Cursor<'_>, mark: Mark, statement: T) -> Result<T, Fault>
     ensures { Tells (λ x. x) (reading.ended mark statement tokens.old) result tokens.new }
 {
     tokens.expect(mark)?;

@@ -1,4 +1,4 @@
-use Rattle.std.proofs.Common.{rules, ◌∙◌, ap, map}
+use Rattle.std.proofs.Common.{rules, refl, ◌∙◌, ap, map}
 use Rattle.cr_grouped.specs.Grouping.{ordered_in, shown_in}
 use Rattle.cr_grouped.proofs.Finishing.{query_made}
 use Rattle.cr_grouped.proofs.query.query_in.Goals as goal
@@ -24,3 +24,12 @@ returns c =
     c.as_slice-terms.ensures (c.in_ok-results.ensures ∙ ap (map (shown_in g ts)) c.as_slice.ensures) c.in_ok-having.ensures
     (c.in_ok-order.ensures ∙ (λ i. map (ordered_in q.distinct g ts (c.as_slice-2.ensures i)) (c.as_slice-3.ensures i)))
     c.in_ok-filter.ensures c.count_limit.ensures c.offset_of.ensures
+
+pub same-results : goal.same-results
+same-results c = refl
+
+pub same-groups : goal.same-groups
+same-groups c = refl
+
+pub same-order : goal.same-order
+same-order c = refl
