@@ -21,17 +21,17 @@ returns-in-Err-allowed-clause-carries g c = λ has names.
     refuses_allowed _ _ _ _ _ _ has _ names _ _ _ _ c.args.params.now _ _ c.args.statement.now c.in-Ok.names c.in-Err-allowed.refusal
     c.in-Ok.ensures.device.was_honest c.in-Ok.ensures.device.was_clean c.in-Ok.ensures.device.stays_clean c.in-Ok.ensures.names c.in-Err-allowed.ensures
 
-pub perform-requires-clause-suits : goal.perform-requires-clause-suits
-perform-requires-clause-suits g c =
+pub perform-reply-requires-clause-suits : goal.perform-reply-requires-clause-suits
+perform-reply-requires-clause-suits g c =
     resolved_suit (known_by (g.F.Functions.function_of c.args.functions.now) (g.F.Functions.names_function c.args.functions.now) (g.F.Functions.order_of c.args.functions.now) c.in-Ok.names)
     (asked (g.G.Guarding.rules c.args.guard.now) (g.G.Guarding.allows c.args.guard.now)) c.args.statement.now c.in-Ok-allowed.resolved c.requires.folded c.in-Ok-allowed.ensures.0
 
-pub perform-requires-clause-form : goal.perform-requires-clause-form
-perform-requires-clause-form g c =
+pub perform-reply-requires-clause-form : goal.perform-reply-requires-clause-form
+perform-reply-requires-clause-form g c =
     form_is (known_by (g.F.Functions.function_of c.args.functions.now) (g.F.Functions.names_function c.args.functions.now) (g.F.Functions.order_of c.args.functions.now) c.in-Ok.names)
     (asked (g.G.Guarding.rules c.args.guard.now) (g.G.Guarding.allows c.args.guard.now)) c.args.statement.now c.in-Ok-allowed.resolved (search rules) c.in-Ok-allowed.ensures.0
 
 pub returns-clause-carries : goal.returns-clause-carries
 returns-clause-carries g c = λ has names.
-    carries_performed _ _ _ _ _ _ has _ names _ _ _ _ c.args.params.now c.args.self.now c.names.new.self c.perform.new.self c.args.statement.now c.in-Ok.names c.in-Ok-allowed.resolved c.perform.result
-    c.in-Ok.ensures.names c.in-Ok-allowed.ensures c.perform.ensures.performs c.in-Ok.ensures.device.was_honest c.in-Ok.ensures.device.was_clean c.in-Ok.ensures.device.stays_clean
+    carries_performed _ _ _ _ _ _ has _ names _ _ _ _ c.args.params.now c.args.self.now c.names.new.self c.perform-reply.new.self c.args.statement.now c.in-Ok.names c.in-Ok-allowed.resolved c.perform-reply.result
+    c.in-Ok.ensures.names c.in-Ok-allowed.ensures c.perform-reply.ensures.performs c.in-Ok.ensures.device.was_honest c.in-Ok.ensures.device.was_clean c.in-Ok.ensures.device.stays_clean
