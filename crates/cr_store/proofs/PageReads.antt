@@ -1,5 +1,5 @@
 -- What the SELECTs of a page show.
-use Rattle.std.proofs.Common.{◌≡◌, ℕ, ℤ, pos, List, [], ◌∷◌, map, Bool, true, false, ◌&&◌, Option, Some, None, codes, refl, ap, ◌∙◌, is_gt, Ordering, Less, Equal, Greater}
+use Rattle.std.proofs.Common.{◌≡◌, ℕ, ℤ, pos, List, [], ◌∷◌, map, true, false, Option, Some, None, codes, refl, ap, ◌∙◌, is_gt, Ordering, Less, Equal, Greater}
 use Rattle.std.specs.Prelude.{filter}
 use Rattle.std.specs.Ordering.{is_lt, is_le, ordering_reverse}
 use Rattle.sqlite.specs.declared.types.Value.TheVariants.{Int, Blob}
@@ -13,7 +13,7 @@ use Rattle.sqlite_tied.specs.Compute.{everything}
 use Rattle.sqlite_value.specs.Order.{value_cmp}
 use Rattle.sqlite_value.proofs.OrderLemmas.{value_cmp-Blob, value_cmp-apart}
 use Rattle.sqlite_value.specs.declared.keys.Collation.TheVariants.{Binary}
-use Rattle.sqlite_sql.specs.Ops.{binary, is_true, from_truth}
+use Rattle.sqlite_sql.specs.Ops.{binary, is_true}
 use Rattle.sqlite_sql.specs.declared.ops.BinaryOp.TheVariants.{Compare}
 use Rattle.sqlite_sql.specs.declared.ops.CompareOp.TheVariants.{Gt, Le}
 use Rattle.cr_rows.specs.Rows.{SameRows}
@@ -23,15 +23,14 @@ use Rattle.cr_value.specs.Order.{bytes_cmp}
 use Rattle.cr_value.specs.OrderLaws.{bytes_total}
 use Rattle.cr_lattice.specs.declared.stamped.Stamped.{Stamped}
 use Rattle.cr_lattice.specs.declared.table.Table.{Table}
-use Rattle.cr_lattice.specs.Check.{same_bytes}
-use Rattle.cr_cells.specs.Pages.{above, up_to, between, is_at}
+use Rattle.cr_cells.specs.Pages.{above, between, is_at}
 use Rattle.cr_store.specs.declared.format.Format.TheVariants.{Second}
 use Rattle.cr_store.specs.Ordinals.{ordinal, IsNamed}
 use Rattle.cr_store.specs.Pages.{below}
 use Rattle.cr_store.specs.Rows.{cell_row}
 use Rattle.cr_store.specs.Schema.{store_schema}
 use Rattle.cr_store.specs.Shows.{HasCells}
-use Rattle.cr_store.proofs.RowTests.{same_number, same_table}
+use Rattle.cr_store.proofs.RowTests.{one_way, same_number, same_table}
 use Rattle.cr_store.proofs.TextLemmas.{equals_number, names, shows}
 use Rattle.cr_store.proofs.ReadLemmas.{as_cells, rows_kept, shown}
 
@@ -81,10 +80,6 @@ unfolding understood everything
 key_plain = (refl, refl)
 
 -- ---- how sqlite compares keys
-
-one_way : (b : Bool) → is_true (from_truth (Some b)) ≡ b
-one_way true = refl
-one_way false = refl
 
 turned : (o : Ordering) → is_gt (ordering_reverse o) ≡ is_lt o
 turned Less = refl

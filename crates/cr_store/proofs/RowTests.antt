@@ -55,7 +55,7 @@ three false q r t = refl
 pub same_int : (m n : ℤ) → is_eq (value_cmp (Int m) (Int n)) ≡ is_eq (int_cmp m n)
 same_int m n = ap is_eq (value_cmp-Int m n)
 
-one_way : (b : Bool) → is_true (from_truth (Some b)) ≡ b
+pub one_way : (b : Bool) → is_true (from_truth (Some b)) ≡ b
 one_way true = refl
 one_way false = refl
 

@@ -1,10 +1,9 @@
-use Rattle.std.proofs.Common.{filter, sym, subst, rules, w64, SFits}
+use Rattle.std.proofs.Common.{sym, subst, rules, w64, SFits}
 use Rattle.std.proofs.lemmas.Int.{to_z-of_z}
 use Rattle.std.specs.Option.{option_copied}
 use Rattle.sqlite.specs.Held.{state}
 use Rattle.sqlite.specs.Listing.{understood}
 use Rattle.sqlite.proofs.Callers.{IsPlain}
-use Rattle.cr_cells.specs.Pages.{between, is_at}
 use Rattle.cr_store.proofs.PageReads.{select_part, select_rest, part_plain, rest_plain, shows_part, shows_rest}
 use Rattle.cr_store.proofs.ReadLemmas.{same_cells, named_filter}
 use Rattle.cr_store.proofs.StoreLemmas.{if_then, ok_from, shown_open}

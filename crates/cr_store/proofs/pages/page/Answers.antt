@@ -1,5 +1,4 @@
 use Rattle.std.proofs.Common.{not, ap, sym, subst, rules, refl, ◌∙◌}
-use Rattle.sqlite.specs.Held.{state}
 use Rattle.cr_store.specs.Shows.{HasCells}
 use Rattle.cr_store.proofs.StoreLemmas.{match_then}
 use Rattle.cr_store.proofs.pages.page.Goals as goal

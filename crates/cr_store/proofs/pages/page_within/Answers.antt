@@ -1,7 +1,6 @@
-use Rattle.std.proofs.Common.{List, not, ap, sym, subst, rules, ◌∙◌, Option, Some}
+use Rattle.std.proofs.Common.{not, ap, sym, subst, rules, ◌∙◌, Option}
 use Rattle.std.specs.Prelude.{unwrap_or}
 use Rattle.std.specs.Option.{option_copied}
-use Rattle.sqlite.specs.Held.{state}
 use Rattle.cr_cells.specs.declared.page.Page.{Page}
 use Rattle.cr_cells.specs.Pages.{IsPage}
 use Rattle.cr_store.specs.Shows.{HasCells}
