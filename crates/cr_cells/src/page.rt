@@ -1,10 +1,10 @@
 //! Pages: the cells of the first keys of a table above a key.
 
-ghost use Rattle.std.specs.Prelude.{◌≡◌, ◌<◌, filter, map, IfOk};
+ghost use Rattle.std.specs.Prelude.{◌≡◌, ◌<◌, filter, map, Some, IfOk};
 ghost use Rattle.std.specs.Option.{option_copied};
 ghost use Rattle.std.specs.Ordering.{is_le};
 ghost use Rattle.cr_value.specs.Order.{bytes_cmp};
-ghost use Rattle.cr_cells.specs.Pages.{above, is_at, keys_of, IsCut};
+ghost use Rattle.cr_cells.specs.Pages.{above, between, is_at, keys_of, IsCut};
 
 use cr_lattice::stamped::Stamped;
 use cr_value::order::{cmp_bytes, same_bytes};
@@ -55,6 +55,53 @@ pub(crate) fn cells_after(
     Ok(out)
 }
 
+fn is_up_to(bound: &Bytes, cell: &Stamped) -> bool
+    ensures { result ≡ is_le (bytes_cmp cell.now.change.pk bound.now) }
+{
+    cmp_bytes(cell.change.pk.as_slice(), bound.as_slice()).is_le()
+}
+
+fn is_between(cell: &Stamped, table: &str, after: Option<&[u8]>, end: &Bytes) -> bool
+    ensures { result ≡ is_at table.now (between (option_copied after.entry) (Some end.now)) cell.now }
+{
+    is_after(cell, table, after) && is_up_to(end, cell)
+}
+
+/// Copies of the cells of a table whose keys are above the one key, up to the other.
+pub(crate) fn cells_between(
+    alloc: Global,
+    cells: &[Stamped],
+    table: &str,
+    after: Option<&[u8]>,
+    end: &Bytes,
+) -> Result<Vec<Stamped>, AllocError>
+    ensures { IfOk result (λ v. v.items ≡ filter (is_at table.now (between (option_copied after.entry) (Some end.now))) cells.now) }
+{
+    let mut out = Vec::new(alloc);
+    for cell in cells {
+        if is_between(cell, table, after, end) {
+            out.push(cell.copy(alloc)?)?;
+        }
+    }
+    Ok(out)
+}
+
+/// A key that is likely to lie behind the first keys of a table above a key, as many as are told, where the cells stand in order:
+/// that of a cell sixteen places further on for each of these keys. Nothing rests on it.
+pub(crate) fn likely_end<'a>(
+    cells: &'a [Stamped],
+    table: &str,
+    after: Option<&[u8]>,
+    limit: usize,
+) -> Option<&'a Bytes> {
+    let first = cells.iter().position(|cell| is_after(cell, table, after))?;
+    let place = first.saturating_add(limit.saturating_mul(16));
+    match cells.get(place) {
+        Some(cell) => Some(&cell.change.pk),
+        None => None,
+    }
+}
+
 // Copies of the cells' keys.
 fn copied_keys(alloc: Global, cells: &[Stamped]) -> Result<Vec<Bytes>, AllocError>
     ensures { IfOk result (λ keys. keys.items ≡ map (λ s. s.change.pk) cells.now) }
@@ -74,12 +121,6 @@ fn keys_of(alloc: Global, cells: &[Stamped]) -> Result<Vec<Bytes>, AllocError>
     keys.sort()?;
     keys.dedup();
     Ok(keys)
-}
-
-fn is_up_to(bound: &Bytes, cell: &Stamped) -> bool
-    ensures { result ≡ is_le (bytes_cmp cell.now.change.pk bound.now) }
-{
-    cmp_bytes(cell.change.pk.as_slice(), bound.as_slice()).is_le()
 }
 
 /// The cells of the first keys, as many keys as are asked for; all cells where they have no more.

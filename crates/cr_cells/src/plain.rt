@@ -5,7 +5,7 @@ ghost use Rattle.cr_cells.specs.Holding.{empty_holding};
 
 use crate::cells::{cells_of, cells_of_table, since, take_changes};
 use crate::marks::{Mark, marks_after, seen_of};
-use crate::page::{Page, cells_after, cut};
+use crate::page::{Page, cells_after, cells_between, cut, likely_end};
 use crate::store::{Cells, CellsError, NewCells};
 use crate::tables::{add, copies, with_added, with_replicated};
 use cr_lattice::change::{Change, Site};
@@ -111,6 +111,13 @@ impl Cells for PlainCells {
         after: Option<&[u8]>,
         limit: usize,
     ) -> Result<Page, CellsError> {
+        if let Some(end) = likely_end(&self.cells, table, after, limit) {
+            let near = cells_between(alloc, &self.cells, table, after, end)?;
+            let page = cut(alloc, near, limit)?;
+            if page.bound.is_some() {
+                return Ok(page);
+            }
+        }
         let found = cells_after(alloc, &self.cells, table, after)?;
         Ok(cut(alloc, found, limit)?)
     }

@@ -1,12 +1,16 @@
 -- What a replica holds at a moment. Source: this project's own.
-use Rattle.std.specs.Prelude.{◌≡◌, ℕ, pos, Bool, true, List, []}
+use Rattle.std.specs.Prelude.{◌≡◌, ◌≤◌, ℕ, pos, Bool, true, ◌&&◌, List, [], length, map, filter, Option, MatchOption}
 use Rattle.std.specs.Option.{is_none}
 use Rattle.std.specs.List.{list_all, flat_map}
 use Rattle.cr_lattice.specs.declared.change.Change.{Change}
 use Rattle.cr_lattice.specs.declared.table.Table.{Table}
 use Rattle.cr_lattice.specs.Keep.{keep}
+use Rattle.cr_lattice.specs.Check.{same_bytes}
 use Rattle.cr_lattice.specs.Profile.{profile_fault}
+use Rattle.cr_lattice.specs.Rows.{keys_in_order}
 use Rattle.cr_cells.specs.Holding.{Holding, changes_of, kept_of, cells_of, cells_of_table, since}
+use Rattle.cr_cells.specs.Pages.{between}
+use Rattle.cr_replica.specs.declared.page.KeptPage.{KeptPage}
 use Rattle.cr_replica.specs.declared.snapshot.Snapshot.{Snapshot}
 
 -- the tables, the site and the version that the replica holds, and no modules: those are a host's
@@ -47,6 +51,22 @@ changes_of_tables h tables = flat_map (λ table. changes_of (cells_of_table h.ce
 -- the same in the order of changes, each once
 abbrev pub kept_of_tables : Holding → List (List ℕ) → List Change
 kept_of_tables h tables = keep (changes_of_tables h tables)
+
+-- ---- a page of a table
+
+-- a change of the table whose key lies above the one key, up to the other
+abbrev pub is_between : List ℕ → Option (List ℕ) → Option (List ℕ) → Change → Bool
+is_between table after bound c = same_bytes c.table table && between after bound c.pk
+
+-- the keys of changes, by their bytes, each once
+abbrev pub keys_of : List Change → List (List ℕ)
+keys_of cs = keys_in_order (map (λ c. c.pk) cs)
+
+-- What is kept of the first keys of a table above a key, as many as are asked for, and the key up to which that is; without such a
+-- key it is all that is left.
+pub record IsKeptPage (h : Holding) (table : List ℕ) (after : Option (List ℕ)) (limit : ℕ) (page : KeptPage) : Type 0 where
+  pub kept : page.kept.items ≡ filter (is_between table after page.bound) (kept_of h)
+  pub keys : MatchOption page.bound (length (keys_of page.kept.items) ≤ limit) (λ bound. length (keys_of page.kept.items) ≡ limit)
 
 -- ---- whatever a store gave
 

@@ -3,6 +3,7 @@
 
 pub mod change_row;
 pub mod definition;
+pub mod page;
 pub mod replica;
 pub mod snapshot;
 mod sorting;

@@ -6,6 +6,7 @@ ghost use Rattle.cr_cells.specs.Holding.{changes_of};
 ghost use Rattle.cr_replica.specs.Snapshots.{changes_of_keys, changes_of_tables};
 
 use crate::definition::{DefineError, accept};
+use crate::page::KeptPage;
 use crate::snapshot::{Snapshot, are_in_profile, copied_changes};
 use crate::sorting::in_order;
 use cr_cells::marks::Mark;
@@ -205,7 +206,9 @@ impl<C: Cells> Replica<C> {
     ghost use Rattle.cr_replica.specs.Taking.{Stands, IsReady, Prepares, PreparesPull, CommitsAll, IsOffer};
     ghost use Rattle.cr_replica.specs.Showing.{Shows};
     ghost use Rattle.cr_lattice.specs.Keep.{keep};
-    ghost use Rattle.cr_replica.specs.Snapshots.{HasNamesOf, HasCellsOf, IsOfNames, IsWhole, kept_of_keys, kept_of_tables};
+    ghost use Rattle.std.specs.Option.{option_copied};
+    ghost use Rattle.std.specs.Prelude.{◌<◌};
+    ghost use Rattle.cr_replica.specs.Snapshots.{HasNamesOf, HasCellsOf, IsKeptPage, IsOfNames, IsWhole, kept_of_keys, kept_of_tables};
 
     /// A replica over the store, which may hold something already.
     pub fn new(cells: C) -> Replica<C>
@@ -523,6 +526,35 @@ impl<C: Cells> Replica<C> {
             Err(error) => return Err(error),
         };
         Ok(keep(changes)?)
+    }
+
+    /// What is kept of the first keys of a table above a key, or of its first ones of all, as many keys as are asked for, which is
+    /// one at least. Reads the cells of these keys, and of others not many more.
+    ///
+    /// # Errors
+    /// `Memory`, or `Store(Refused)`.
+    pub fn kept_page(
+        &mut self,
+        alloc: Global,
+        table: &str,
+        after: Option<&[u8]>,
+        limit: usize,
+    ) -> Result<KeptPage, CellsError>
+        requires { 0 < limit }
+        ensures device { StaysClean C.is_honest C.is_clean is_want self.old self.new result }
+        ensures sound { C.is_clean self.new → IsSound (C.holding self.new) }
+        ensures reads { C.is_clean self.new → Reads (C.holding self.old) (C.holding self.new) result
+            (IsKeptPage (C.holding self.old) table.now (option_copied after.entry) limit) }
+    {
+        let page = match self.cells.page(alloc, table, after, limit) {
+            Ok(page) => page,
+            Err(error) => return Err(error),
+        };
+        let kept = changes_of(alloc, page.cells)?;
+        Ok(KeptPage {
+            kept,
+            bound: page.bound,
+        })
     }
 
     /// The kept changes that are stamped above a version, by version, then by place.

@@ -1,39 +1,35 @@
 -- What is seen of some keys suffices for a statement whose WHERE tells them, and else what is seen of the tables that it names.
 use Rattle.std.proofs.Common.{◌≡◌, inl, inr, ℕ, true, false, List, [], ◌∷◌, Option, Some, Result, Ok, Err, refl, sym, ap, subst, ◌∙◌, ◌≤◌, ◌<◌, arith, find, get_or, length, map}
-use Rattle.std.specs.Prelude.{◌==◌, if◌then◌else◌}
+use Rattle.std.specs.Prelude.{◌==◌}
 use Rattle.std.proofs.lemmas.Bool.{eqb-true}
 use Rattle.cr_value.specs.declared.value.Value.{Value}
 use Rattle.cr_lattice.specs.declared.change.Change.{Change}
 use Rattle.cr_lattice.specs.declared.table.Table.{Table}
 use Rattle.cr_lattice.specs.declared.table.TableDef.{TableDef}
-use Rattle.cr_lattice.specs.Check.{same_bytes}
 use Rattle.cr_lattice.specs.Profile.{has_key}
 use Rattle.cr_lattice.specs.Rows.{rows}
-use Rattle.cr_cells.proofs.NewLemmas.{same_is}
 use Rattle.cr_cells.specs.declared.store.CellsError.{CellsError}
 use Rattle.cr_cells.specs.Holding.{Holding, IsSound}
-use Rattle.cr_cells.specs.Tables.{IsStored, has_defaults, is_named}
-use Rattle.cr_delta.proofs.Among.{Among, member_has}
+use Rattle.cr_cells.specs.Tables.{has_defaults, is_named}
+use Rattle.cr_delta.proofs.Among.{Among}
 use Rattle.cr_term.specs.declared.expr.Expr.{Expr}
 use Rattle.cr_term.specs.declared.query.Delete.{Delete}
 use Rattle.cr_term.specs.declared.query.Joined.{Joined}
 use Rattle.cr_term.specs.declared.query.Query.{Query}
 use Rattle.cr_term.specs.declared.query.Update.{Update}
 use Rattle.cr_scalar.specs.Host.{Host as Means}
-use Rattle.cr_query.specs.Query.{Row, answer}
+use Rattle.cr_query.specs.Query.{answer}
 use Rattle.cr_meaning.specs.View.{query}
 use Rattle.cr_meaning.specs.Meaning.{meaning}
 use Rattle.cr_replica.specs.declared.snapshot.Snapshot.{Snapshot}
-use Rattle.cr_snapshot.specs.Seen.{IsSeen, name_of, rows_listed, rows_seen}
+use Rattle.cr_snapshot.specs.Seen.{IsSeen, name_of}
 use Rattle.cr_snapshot.proofs.Standing.{named}
-use Rattle.cr_taken.specs.Taken.{AreKept, Replicates, replicated}
-use Rattle.cr_taken.proofs.Members.{found_member}
-use Rattle.cr_taken.proofs.Tables.{in_profile, kept_well_formed}
+use Rattle.cr_taken.specs.Taken.{Replicates, replicated}
 use Rattle.cr_touched.specs.Parts.{is_key_of, part}
 use Rattle.cr_touched.specs.Tables.{is_name_of}
 use Rattle.cr_touched.specs.Shown.{AreKeptOf}
 use Rattle.cr_world.specs.declared.refusal.Refusal.{Refusal}
-use Rattle.cr_world.specs.State.{State, changes_name, now, other_rows, row_of, rows_named, rows_or, tables_named}
+use Rattle.cr_world.specs.State.{State, now}
 use Rattle.cr_changed.specs.Changed.{Changes, IsRefused, Leads}
 use Rattle.cr_sought.specs.Laws.{of_keys}
 use Rattle.cr_sought.specs.Lists.{sought_keys}
@@ -41,16 +37,14 @@ use Rattle.cr_sought.specs.Sought.{assigns_key}
 use Rattle.cr_sought.specs.Writes.{delete_over, update_over}
 use Rattle.cr_sought.proofs.Answers.{answers_by_keys}
 use Rattle.cr_sought.proofs.Writes.{deletes_by_keys, updates_by_keys}
-use Rattle.cr_session.specs.Lookup.{IsLook, IsSeenAt, IsSought, Looks, ShowsDelete, ShowsQuery, ShowsTables, ShowsUpdate, in_order}
+use Rattle.cr_session.specs.Lookup.{IsFilteredLook, IsLook, IsQueryLook, IsSeenAt, IsSeenPassing, IsSought, Looks, ShowsDelete, ShowsQuery, ShowsTables, ShowsUpdate, in_order}
+use Rattle.cr_pushdown.specs.Passing.{passing}
+use Rattle.cr_pushdown.proofs.Answers.{answers_by_passing}
 use Rattle.cr_session.specs.Sessions.{state_of}
-use Rattle.cr_session.proofs.ByTable.{delete_of_table, found_passes, is_one_of, is_only, query_of_tables, update_of_table}
+use Rattle.cr_session.proofs.ByTable.{delete_of_table, is_one_of, is_only, query_of_tables, update_of_table}
 use Rattle.cr_session.proofs.OfTables.{now_unbeaten}
-use Rattle.cr_session.proofs.Seeing.{now_kept}
+use Rattle.cr_session.proofs.OneTable as one
 use Rattle.cr_session.proofs.Selecting.{tables_are}
-
--- the rows of what is no table of its own
-abbrev pub other_rows_seen : Snapshot → List ℕ → List Row
-other_rows_seen s name = if same_bytes changes_name name then map row_of s.cells else rows_listed s.modules name
 
 -- ---- the table of the name, and what shows of the keys
 
@@ -62,47 +56,25 @@ module _ (means : Means) (params : List Value) (h : Holding) (sound : IsSound h)
   abbrev def : TableDef
   def = is.def
 
-  name_is : def.name ≡ name
-  name_is = same_is def.name name (found_passes (is_named name) (replicated def) h.tables is.there)
-
-  there : Replicates h.tables def
-  there = subst (λ (x : List ℕ). find (is_named x) h.tables ≡ Some (replicated def)) (sym name_is) is.there
-
-  are : AreKept h.tables (now st)
-  are = now_kept h pending sound is.fit
-
-  keyed : has_key def ≡ true
-  keyed = (in_profile h.tables (now st) def are there).key
-
-  defaults : has_defaults def ≡ true
-  defaults = (member_has IsStored h.tables (replicated def) are.stored (found_member (is_named def.name) h.tables (replicated def) there)).defaults
-
-  kept_of_it : AreKeptOf def (now st)
-  kept_of_it = record { unbeaten = are.unbeaten; well_formed = kept_well_formed h.tables (now st) def are there }
+  abbrev name_is : def.name ≡ name
+  name_is = one.name_is h sound pending name is.fit def is.there
 
   kept_is : snap.kept ≡ of_keys def keys (now st)
   kept_is = at.kept ∙ (λ i. part (sym name_is i) (is_key_of keys) (now st))
 
-  -- ---- a query
+  abbrev keyed : has_key def ≡ true
+  keyed = one.keyed h sound pending name is.fit def is.there
 
-  rows_there : rows_named st name ≡ rows (now st) def
-  rows_there = ap (λ (o : Option Table). rows_or (now st) o (other_rows st name)) is.there
+  abbrev defaults : has_defaults def ≡ true
+  defaults = one.defaults h sound pending name is.fit def is.there
 
-  rows_here : rows_seen snap name ≡ rows (of_keys def keys (now st)) def
-  rows_here =
-      (λ i. rows_or (kept_is i) (find (is_named name) (at.named.tables i)) (other_rows_seen snap name))
-      ∙ ap (λ (o : Option Table). rows_or (of_keys def keys (now st)) o (other_rows_seen snap name)) is.there
+  abbrev kept_of_it : AreKeptOf def (now st)
+  kept_of_it = one.kept_of_it h sound pending name is.fit def is.there
 
   pub query_by_keys : (q : Query) (j : Joined) → q.joined ≡ j ∷ [] → j.is_left ≡ false → j.on ≡ [] → name_of j ≡ name → q.filter ≡ terms → ShowsQuery means params q st snap
-  query_by_keys q j one inner no_on named same = λ most limit.
-      let m = meaning most means params in
-      (λ i. answer m (query q) (tables_named st (map name_of (one i))))
-      ∙ (λ i. answer m (query q) (rows_named st (named i) ∷ []))
-      ∙ (λ i. answer m (query q) (rows_there i ∷ []))
-      ∙ answers_by_keys means params most def (now st) q j keys limit is.bytes keyed kept_of_it one inner no_on (ap (sought_keys def params) same ∙ is.told)
-      ∙ (λ i. answer m (query q) (sym rows_here i ∷ []))
-      ∙ (λ i. answer m (query q) (rows_seen snap (sym named i) ∷ []))
-      ∙ (λ i. answer m (query q) (map (λ j. rows_seen snap (name_of j)) (sym one i)))
+  query_by_keys q j only inner no_on named same =
+      one.query_of_one h sound pending name is.fit def is.there snap at.named (of_keys def keys (now st)) kept_is means params q j only named
+      (λ most limit. answers_by_keys means params most def (now st) q j keys limit is.bytes keyed kept_of_it only inner no_on (ap (sought_keys def params) same ∙ is.told))
 
   -- ---- writes
 
@@ -145,6 +117,21 @@ module _ (means : Means) (params : List Value) (h : Holding) (sound : IsSound h)
           (left (Err f) (subst (λ (t : TableDef). IsRefused means params t snap.site snap.kept (delete_over snap.kept d) f) (sym (same_def d.relation.definition same_name held)) l));
     }
 
+-- ---- the table of the name, and what shows of the rows that pass
+
+pub query_by_rows : (means : Means) (params : List Value) (h : Holding) (sound : IsSound h) (pending : Option (List Change)) (name : List ℕ) (terms : List Expr) (snap : Snapshot)
+    → IsSeenPassing means params (state_of h pending) name terms snap → (q : Query) (j : Joined) → q.joined ≡ j ∷ [] → j.is_left ≡ false → j.on ≡ [] → name_of j ≡ name → q.filter ≡ terms
+    → ShowsQuery means params q (state_of h pending) snap
+query_by_rows means params h sound pending name terms snap at q j only inner no_on named same =
+    let is = at.filtered in
+    let def = is.def in
+    let now_there = now (state_of h pending) in
+    let kept_is : snap.kept ≡ passing means params q.filter def now_there =
+    at.kept ∙ (λ i. passing means params (sym same i) (is.is i).definition now_there) in
+    one.query_of_one h sound pending name is.fit def is.there snap at.named (passing means params q.filter def now_there) kept_is means params q j only named
+    (λ most limit.
+    answers_by_passing means params most def now_there q j limit (one.keyed h sound pending name is.fit def is.there) (one.kept_of_it h sound pending name is.fit def is.there) only inner no_on)
+
 -- ---- all that shows there
 
 module _ (means : Means) (params : List Value) (st : State) (snap : Snapshot) (is : IsSeen st snap) where
@@ -183,6 +170,18 @@ pub looked_at : (means : Means) (params : List Value) (old new : State) (name : 
     → IsSought means params old.pending old.holding.tables name terms keys → Looks (IsSeenAt old name keys) old new result → Looks (IsLook means params old name terms) old new result
 looked_at means params old new name terms keys (Ok s) is l = record { same = l.same; looks = inr (keys, is, l.looks) }
 looked_at means params old new name terms keys (Err e) is l = record { same = l.same; looks = l.looks }
+
+-- what is seen by a query: of the keys that the terms tell
+pub looked_at_once : (means : Means) (params : List Value) (old new : State) (name : List ℕ) (terms : List Expr) (result : Result Snapshot CellsError)
+    → Looks (IsLook means params old name terms) old new result → Looks (IsQueryLook means params old name terms) old new result
+looked_at_once means params old new name terms (Ok s) l = record { same = l.same; looks = inl l.looks }
+looked_at_once means params old new name terms (Err e) l = record { same = l.same; looks = l.looks }
+
+-- of the rows that pass, or of the table
+pub looked_for_rows : (means : Means) (params : List Value) (old new : State) (name : List ℕ) (terms : List Expr) (result : Result Snapshot CellsError)
+    → Looks (IsFilteredLook means params old name terms) old new result → Looks (IsQueryLook means params old name terms) old new result
+looked_for_rows means params old new name terms (Ok s) l = record { same = l.same; looks = elim l.looks [ inl shows ↦ inl (inl shows) | inr rows ↦ inr rows ] }
+looked_for_rows means params old new name terms (Err e) l = record { same = l.same; looks = l.looks }
 
 -- what is seen of the table
 pub looked_in : (means : Means) (params : List Value) (old new : State) (name : List ℕ) (terms : List Expr) (result : Result Snapshot CellsError)
@@ -238,6 +237,10 @@ module _ (means : Means) (params : List Value) (h : Holding) (sound : IsSound h)
   pub query_looked : (q : Query) (j : Joined) (name : List ℕ) (terms : List Expr) → q.joined ≡ j ∷ [] → j.is_left ≡ false → j.on ≡ [] → name ≡ name_of j → terms ≡ q.filter → IsLook means params here name terms s → ShowsQuery means params q here s
   query_looked q j name terms one inner no_on named same (inl shows) = query_shown (name ∷ []) q (each_only q.joined j name one named) shows
   query_looked q j name terms one inner no_on named same (inr (keys, sought, at)) = query_by_keys means params h sound pending name terms keys sought s at q j one inner no_on (sym named) (sym same)
+
+  pub query_filtered : (q : Query) (j : Joined) (name : List ℕ) (terms : List Expr) → q.joined ≡ j ∷ [] → j.is_left ≡ false → j.on ≡ [] → name ≡ name_of j → terms ≡ q.filter → IsQueryLook means params here name terms s → ShowsQuery means params q here s
+  query_filtered q j name terms one inner no_on named same (inl look) = query_looked q j name terms one inner no_on named same look
+  query_filtered q j name terms one inner no_on named same (inr rows) = query_by_rows means params h sound pending name terms s rows q j one inner no_on (sym named) (sym same)
 
   pub update_looked : (u : Update) (name : List ℕ) (terms : List Expr) → name ≡ u.relation.definition.name → terms ≡ u.filter → assigns_key u ≡ false → Replicates h.tables u.relation.definition
       → IsLook means params here name terms s → ShowsUpdate means params u here s

@@ -11,6 +11,8 @@ pub mod Changing
 pub mod Bringing
 pub mod ByTable
 pub mod OfTables
+pub mod Passing
+pub mod OneTable
 pub mod ByKey
 pub mod Joins
 pub mod Committing

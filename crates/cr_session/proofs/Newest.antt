@@ -25,7 +25,7 @@ use Rattle.cr_world.specs.State.{State, changes_name, change_rows, module_of, mo
 use Rattle.cr_sought.specs.Bounds.{is_above, lower_bound}
 use Rattle.cr_sought.proofs.Answers.{answers_above}
 use Rattle.cr_session.specs.Lookup.{IsNewest, IsSeenAbove, ShowsQuery, version_place}
-use Rattle.cr_session.proofs.ByKey.{other_rows_seen}
+use Rattle.cr_session.proofs.OneTable.{other_rows_seen}
 
 -- ---- the rows above a version
 

@@ -3,6 +3,7 @@
 
 pub mod calls;
 mod executing;
+mod filtering;
 mod joining;
 mod listening;
 mod lookup;

@@ -32,7 +32,7 @@ impl<C: Cells> Session<C> {
     ghost use Rattle.cr_lattice.specs.Keep.{keep};
     ghost use Rattle.cr_replica.specs.Snapshots.{IsOfNames};
     ghost use Rattle.cr_snapshot.specs.Seen.{IsNamed, catalog_of};
-    ghost use Rattle.cr_session.specs.Lookup.{IsLook, IsNewest, IsSeenAbove, IsSeenAt, IsSought, Looks, ShowsDelete, ShowsQuery, ShowsUpdate};
+    ghost use Rattle.cr_session.specs.Lookup.{IsLook, IsNewest, IsQueryLook, IsSeenAbove, IsSeenAt, IsSought, Looks, ShowsDelete, ShowsQuery, ShowsUpdate};
     ghost use Rattle.cr_session.specs.Performing.{is_table, not_replicated};
     ghost use Rattle.cr_session.specs.Sessions.{standing};
     ghost use Rattle.cr_world.specs.Causes.{Free};
@@ -113,6 +113,36 @@ impl<C: Cells> Session<C> {
         }
     }
 
+    // What a query of the table of a name sees whose WHERE has these terms.
+    fn look_once<F: Functions>(
+        &mut self,
+        alloc: Global,
+        functions: &F,
+        names: Snapshot,
+        name: &str,
+        terms: &[Expr],
+        params: &[Value],
+    ) -> Result<Snapshot, CellsError>
+        requires functions { F.is_faithful functions.now }
+        requires sound { C.is_clean self.old.0 → IsSound (C.holding self.old.0) }
+        requires named { C.is_clean self.old.0 → IsNamed (standing C.holding self.old) names }
+        ensures device { StaysClean C.is_honest C.is_clean is_want self.old.0 self.new.0 result }
+        ensures looks { C.is_clean self.new.0
+            → Looks (IsQueryLook (⟦<F as Hosted>⟧.means functions.now) params.now (standing C.holding self.old) name.now terms.now) (standing C.holding self.old) (standing C.holding self.new) result }
+    {
+        match self.sought(
+            alloc,
+            functions,
+            names.tables.as_slice(),
+            name,
+            terms,
+            params,
+        )? {
+            Some(keys) => self.see_at(alloc, names, name, &keys),
+            None => self.look_filtered(alloc, functions, names, name, terms, params),
+        }
+    }
+
     // The version above which the terms of a query of the table of a name want changes to be stamped, where it is the table of
     // changes and they tell one.
     fn newest<F: Functions>(
@@ -159,7 +189,8 @@ impl<C: Cells> Session<C> {
     }
 
     /// What a query sees: of one table whose WHERE tells the keys of its rows, what is kept of these; of the table of changes alone,
-    /// whose WHERE tells a version, what is stamped above it; else what is kept of the tables that it names.
+    /// whose WHERE tells a version, what is stamped above it; of another table alone what is kept of the rows on which its quiet
+    /// terms are true; else what is kept of the tables that it names.
     pub(crate) fn look_for_query<F: Functions>(
         &mut self,
         alloc: Global,
@@ -168,6 +199,7 @@ impl<C: Cells> Session<C> {
         query: &Query,
         params: &[Value],
     ) -> Result<Snapshot, CellsError>
+        requires functions { F.is_faithful functions.now }
         requires sound { C.is_clean self.old.0 → IsSound (C.holding self.old.0) }
         requires named { C.is_clean self.old.0 → IsNamed (standing C.holding self.old) names }
         ensures device { StaysClean C.is_honest C.is_clean is_want self.old.0 self.new.0 result }
@@ -185,7 +217,7 @@ impl<C: Cells> Session<C> {
         let tables = names.tables.as_slice();
         match self.newest(alloc, functions, tables, name, terms, params)? {
             Some(version) => self.see_above(alloc, names, version),
-            None => self.look(alloc, functions, names, name, terms, params),
+            None => self.look_once(alloc, functions, names, name, terms, params),
         }
     }
 

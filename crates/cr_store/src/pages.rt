@@ -181,7 +181,8 @@ fn page_within<'a, S: Alter>(
     }
 }
 
-// How many cells so many keys have where each has one for each column outside the key, as a row that was inserted once.
+// How many cells so many keys have where each has one of the row itself and one for each column outside the key, as a row that was
+// inserted once.
 fn cells_of_keys(tables: &[Table], table: &str, limit: usize) -> i64 {
     let columns = match table_named(tables, table) {
         Some(table) => table
@@ -191,9 +192,9 @@ fn cells_of_keys(tables: &[Table], table: &str, limit: usize) -> i64 {
             .iter()
             .filter(|column| column.key.is_none())
             .count(),
-        None => 1,
+        None => 0,
     };
-    i64::try_from(limit.saturating_mul(columns.max(1))).unwrap_or(i64::MAX)
+    i64::try_from(limit.saturating_mul(columns.saturating_add(1))).unwrap_or(i64::MAX)
 }
 
 /// The cells of the first keys of a table above a key, as many keys as are asked for, in the order of changes. Reads the cells

@@ -50,7 +50,7 @@ dropped_front pk (c ∷ cs) = by (is_under pk c) (dropped_front pk cs) where
 
 -- ---- which keys stand there
 
-abbrev All : {X : Type 0} → (X → Type 0) → List X → Type 0
+abbrev pub All : {X : Type 0} → (X → Type 0) → List X → Type 0
 All P xs = AllByRecursion P xs
 
 -- no change stands below one before it
@@ -80,7 +80,7 @@ behind_sorted pk (c ∷ cs) sorted = by (is_under pk c) (behind_sorted pk cs (ta
   by true s = s
   by false s = sorted
 
-abbrev IsAbove : List ℕ → List ℕ → Type 0
+abbrev pub IsAbove : List ℕ → List ℕ → Type 0
 IsAbove pk k = bytes_cmp pk k ≡ Less
 
 -- k is neither below pk nor pk
@@ -105,7 +105,7 @@ all_above : (pk k : List ℕ) (cs : List Change) → IsAbove pk k → All (λ d.
 all_above pk k [] up low = tt
 all_above pk k (c ∷ cs) up low = (above_more pk k c.pk up low.0, all_above pk k cs up low.1)
 
-behind_above : (pk : List ℕ) (cs : List Change) → All (λ d. is_below pk d ≡ false) cs → Rises cs → All (λ d. IsAbove pk d.pk) (behind pk cs)
+pub behind_above : (pk : List ℕ) (cs : List Change) → All (λ d. is_below pk d ≡ false) cs → Rises cs → All (λ d. IsAbove pk d.pk) (behind pk cs)
 behind_above pk [] low up = tt
 behind_above pk (c ∷ cs) low up =
     elim (is_under pk c) as (λ b. is_under pk c ≡ b → All (λ d. IsAbove pk d.pk) (cond b (behind pk cs) (c ∷ cs))) [
@@ -113,7 +113,7 @@ behind_above pk (c ∷ cs) low up =
       | false ↦ λ e. (let first = above pk c.pk low.0 e in (first, all_above pk c.pk cs first up.0))
     ] refl
 
-front_under : (pk : List ℕ) (cs : List Change) → All (λ d. is_under pk d ≡ true) (front pk cs)
+pub front_under : (pk : List ℕ) (cs : List Change) → All (λ d. is_under pk d ≡ true) (front pk cs)
 front_under pk [] = tt
 front_under pk (c ∷ cs) =
     elim (is_under pk c) as (λ b. is_under pk c ≡ b → All (λ d. is_under pk d ≡ true) (cond b (c ∷ front pk cs) [])) [
@@ -126,10 +126,10 @@ equal_is Less e = absurd (let z : ⊥ = cc in z)
 equal_is Equal e = refl
 equal_is Greater e = absurd (let z : ⊥ = cc in z)
 
-key_is : (pk : List ℕ) (c : Change) → is_under pk c ≡ true → c.pk ≡ pk
+pub key_is : (pk : List ℕ) (c : Change) → is_under pk c ≡ true → c.pk ≡ pk
 key_is pk c e = bytes_exact c.pk pk (equal_is _ e)
 
-self_compared : (pk : List ℕ) → bytes_cmp pk pk ≡ Equal
+pub self_compared : (pk : List ℕ) → bytes_cmp pk pk ≡ Equal
 self_compared pk =
     elim (bytes_cmp pk pk) as (λ r. bytes_cmp pk pk ≡ r → bytes_cmp pk pk ≡ Equal) [
       | Less ↦ λ e. absurd (let z : Less ≡ Greater = sym e ∙ bytes_total.antisymm pk pk ∙ ap ordering_reverse e in cc)
@@ -183,7 +183,7 @@ keys_first table pk (c ∷ g) l under up =
 
 -- ---- the rows
 
-apart : (pk k : List ℕ) (c : Change) → is_under pk c ≡ true → IsAbove pk k → is_under k c ≡ false
+pub apart : (pk k : List ℕ) (c : Change) → is_under pk c ≡ true → IsAbove pk k → is_under k c ≡ false
 apart pk k c under up = ap (λ p. is_eq (bytes_cmp p k)) (key_is pk c under) ∙ ap is_eq up
 
 none_under : (pk k : List ℕ) (g l : List Change) → All (λ d. is_under pk d ≡ true) g → IsAbove pk k → filter (is_under k) (g ++ l) ≡ filter (is_under k) l
@@ -191,7 +191,7 @@ none_under pk k [] l under up = refl
 none_under pk k (c ∷ g) l under up =
     ap (λ b. cond b (c ∷ filter (is_under k) (g ++ l)) (filter (is_under k) (g ++ l))) (apart pk k c under.0 up) ∙ none_under pk k g l under.1 up
 
-no_longer : (pk k : List ℕ) → IsAbove pk k → is_eq (bytes_cmp k pk) ≡ false
+pub no_longer : (pk k : List ℕ) → IsAbove pk k → is_eq (bytes_cmp k pk) ≡ false
 no_longer pk k up = ap is_eq (bytes_total.antisymm k pk ∙ ap ordering_reverse up)
 
 no_more : (pk : List ℕ) (l : List Change) → All (λ d. IsAbove pk d.pk) l → filter (is_under pk) l ≡ []
@@ -204,18 +204,18 @@ all_under pk (c ∷ g) l under up =
     ap (λ b. cond b (c ∷ filter (is_under pk) (g ++ l)) (filter (is_under pk) (g ++ l))) under.0 ∙ ap (λ (ds : List Change). c ∷ ds) (all_under pk g l under.1 up)
 
 module _ (def : TableDef) where
-  row_later : (pk k : List ℕ) (g l : List Change) → All (λ d. is_under pk d ≡ true) g → IsAbove pk k → row (g ++ l) def k ≡ row l def k
+  pub row_later : (pk k : List ℕ) (g l : List Change) → All (λ d. is_under pk d ≡ true) g → IsAbove pk k → row (g ++ l) def k ≡ row l def k
   row_later pk k g l under up =
       sym (row-under (g ++ l) def k) ∙ ap (λ (cs : List Change). row cs def k) (none_under pk k g l under up) ∙ row-under l def k
 
-  row_first : (pk : List ℕ) (g l : List Change) → All (λ d. is_under pk d ≡ true) g → All (λ d. IsAbove pk d.pk) l → row (g ++ l) def pk ≡ row g def pk
+  pub row_first : (pk : List ℕ) (g l : List Change) → All (λ d. is_under pk d ≡ true) g → All (λ d. IsAbove pk d.pk) l → row (g ++ l) def pk ≡ row g def pk
   row_first pk g l under up = sym (row-under (g ++ l) def pk) ∙ ap (λ (cs : List Change). row cs def pk) (all_under pk g l under up)
 
   rows_later : (pk : List ℕ) (g l : List Change) (ks : List (List ℕ)) → All (λ d. is_under pk d ≡ true) g → All (IsAbove pk) ks → map (row (g ++ l) def) ks ≡ map (row l def) ks
   rows_later pk g l [] under up = refl
   rows_later pk g l (k ∷ ks) under up = λ i. row_later pk k g l under up.0 i ∷ rows_later pk g l ks under up.1 i
 
-  rows_of_parts : (pk : List ℕ) (g l : List Change) → All (λ d. is_under pk d ≡ true) g → All (λ d. IsAbove pk d.pk) l
+  pub rows_of_parts : (pk : List ℕ) (g l : List Change) → All (λ d. is_under pk d ≡ true) g → All (λ d. IsAbove pk d.pk) l
       → rows (g ++ l) def ≡ cond (is_shown def.name g) (row g def pk ∷ rows l def) (rows l def)
   unfolding rows alive_keys
   rows_of_parts pk g l under up =

@@ -1,6 +1,6 @@
 //! The rows that kept changes show, one key after another.
 
-ghost use Rattle.std.specs.Prelude.{◌≡◌, ◌-◌, false, length, slice_index_or, IfOk, OnOk, IsTrue};
+ghost use Rattle.std.specs.Prelude.{◌≡◌, ◌-◌, false, length, slice_index_or, IfOk, OnErr, OnOk, IsTrue};
 ghost use Rattle.std.specs.List.Sorted.{IsSortedBy};
 ghost use Rattle.cr_value.specs.declared.value.Value.TheVariants.{Null};
 ghost use Rattle.cr_lattice.specs.Rows.{cell, has_lesser_key, rows};
@@ -48,8 +48,8 @@ pub(crate) fn are_by_key(changes: &[Change]) -> bool
     ).is_lt())
 }
 
-// How many changes at the front are of the first key.
-fn group_length(changes: &[Change]) -> usize
+/// How many changes at the front are of the first key.
+pub fn group_length(changes: &[Change]) -> usize
     ensures { result ≡ length (first_group changes.now) }
 {
     let Some(first) = changes.first() else {
@@ -182,7 +182,8 @@ impl Shown<'_> {
     /// Want of memory; then the reading stands where it stood.
     pub fn advance(&mut self, alloc: Global) -> Result<(), AllocError>
         requires { is_at_end self.old ≡ false }
-        ensures { OnOk result (self.new ≡ rest_of self.old) }
+        ensures goes_on { OnOk result (self.new ≡ rest_of self.old) }
+        ensures stands { OnErr result (self.new ≡ self.old) }
     {
         *self = read_shown(alloc, self.def, self.later)?;
         Ok(())

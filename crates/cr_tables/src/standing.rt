@@ -1,6 +1,6 @@
 //! Where a reading of a table stands.
 
-ghost use Rattle.std.specs.Prelude.{◌≡◌, false, length, IfOk, OnOk};
+ghost use Rattle.std.specs.Prelude.{◌≡◌, false, length, IfOk, OnErr, OnOk};
 ghost use Rattle.cr_lattice.specs.Rows.{rows};
 ghost use Rattle.cr_module.specs.Lawful.{first_row, head_value, is_at_end, rest_of, value_at};
 ghost use Rattle.cr_tables.specs.Views.{rows_before};
@@ -99,7 +99,8 @@ impl Standing<'_> {
     /// Want of memory; then the reading stands where it stood.
     pub fn advance(&mut self, alloc: Global) -> Result<(), AllocError>
         requires { is_at_end (rows_before self.old) ≡ false }
-        ensures { OnOk result (rows_before self.new ≡ rest_of (rows_before self.old)) }
+        ensures goes_on { OnOk result (rows_before self.new ≡ rest_of (rows_before self.old)) }
+        ensures stands { OnErr result (rows_before self.new ≡ rows_before self.old) }
     {
         match self {
             Standing::Shown(shown) => shown.advance(alloc)?,

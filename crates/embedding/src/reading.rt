@@ -27,7 +27,7 @@ const TABLES: [&str; 6] = [
     "INSERT INTO u VALUES(1, 2), (2, 3)",
 ];
 
-const STATEMENTS: [&str; 23] = [
+const STATEMENTS: [&str; 24] = [
     "SELECT name FROM t WHERE id = 2",
     "SELECT name FROM t WHERE 2 = id AND name = 'x'",
     "SELECT name FROM t WHERE id > 2",
@@ -49,6 +49,7 @@ const STATEMENTS: [&str; 23] = [
     "INSERT INTO t VALUES(4, 'e')",
     "SELECT name FROM t WHERE id = 4",
     "SELECT name FROM t WHERE id IN (3, 4)",
+    "SELECT name FROM t WHERE name > 'd'",
     "DELETE FROM t WHERE id = 4",
     "ROLLBACK",
 ];

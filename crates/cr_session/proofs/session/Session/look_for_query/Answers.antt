@@ -1,8 +1,8 @@
 use Rattle.std.proofs.Common.{rules, ◌∙◌, ℤ, sym, subst, map, w64, to_z-of_z}
 use Rattle.cr_snapshot.specs.Seen.{name_of}
-use Rattle.cr_session.specs.Lookup.{IsLook, IsSeenAbove, Looks, ShowsQuery, ShowsTables, in_order}
+use Rattle.cr_session.specs.Lookup.{IsQueryLook, IsSeenAbove, Looks, ShowsQuery, ShowsTables, in_order}
 use Rattle.cr_session.specs.Sessions.{standing}
-use Rattle.cr_session.proofs.ByKey.{empty_is, one_of, query_joined, query_looked, suffices}
+use Rattle.cr_session.proofs.ByKey.{empty_is, one_of, query_joined, query_filtered, suffices}
 use Rattle.cr_session.proofs.Newest.{query_above, renewed}
 use Rattle.cr_session.proofs.session.Session.look_for_query.Goals as goal
 
@@ -28,9 +28,9 @@ returns-in-Some-clause-looks g c = λ clean.
 
 pub returns-in-None-clause-looks : goal.returns-in-None-clause-looks
 returns-in-None-clause-looks g c = λ clean.
-    let was = c.look.ensures.device.was_clean clean in
-    suffices (IsLook _ c.args.params.now (standing g.C.Cells.holding c.args.self.now) c.as_str-name.result.now c.as_slice-terms.result.now) (ShowsQuery _ c.args.params.now c.args.query.now (standing g.C.Cells.holding c.args.self.now)) _ _ c.look.result
-    (λ s l. query_looked _ c.args.params.now (g.C.Cells.holding c.args.self.now.0) (c.requires.sound was) c.args.self.now.1 s c.args.query.now c.joined-item.result c.as_str-name.result.now c.as_slice-terms.result.now
+    let was = c.look_once.ensures.device.was_clean clean in
+    suffices (IsQueryLook _ c.args.params.now (standing g.C.Cells.holding c.args.self.now) c.as_str-name.result.now c.as_slice-terms.result.now) (ShowsQuery _ c.args.params.now c.args.query.now (standing g.C.Cells.holding c.args.self.now)) _ _ c.look_once.result
+    (λ s l. query_filtered _ c.args.params.now (g.C.Cells.holding c.args.self.now.0) (c.requires.sound was) c.args.self.now.1 s c.args.query.now c.joined-item.result c.as_str-name.result.now c.as_slice-terms.result.now
     (sym c.as_slice.ensures ∙ one_of c.as_slice.result.now c.joined-item.result c.in-len1.len_at_least c.in-len1.len_below c.joined-item.is) c.if-joined.false
     (sym c.as_slice-else-joined.ensures ∙ empty_is c.as_slice-else-joined.result.now (sym c.is_empty.ensures ∙ c.if-not-is_empty.false)) c.as_str-name.ensures.value c.as_slice-terms.ensures l)
-    (c.look.ensures.looks clean)
+    (c.look_once.ensures.looks clean)

@@ -13,5 +13,8 @@ pub returns : goal.returns
 returns c =
     let self = c.self.inside in
     let some = ap is_at_end c.self.view_is ∙ c.requires in
-    c.drop.view_is ∙ c.in_ok-self-inside.ensures ∙ sym (rest_is self.def.now self.group.now self.later.now self.key.items c.self.invariant some)
-    ∙ ap (λ (rows : List (List Value)). rest_of rows) c.self.view_is
+    record {
+      goes_on = c.drop.view_is ∙ c.in_ok-self-inside.ensures ∙ sym (rest_is self.def.now self.group.now self.later.now self.key.items c.self.invariant some)
+          ∙ ap (λ (rows : List (List Value)). rest_of rows) c.self.view_is;
+      stands = tt;
+    }

@@ -7,4 +7,7 @@ use Rattle.cr_tables.proofs.standing.Standing.advance.Goals as goal
 
 pub returns-in-Made : goal.returns-in-Made
 returns-in-Made c =
-    rest_from c.in-Made.field-0.items c.in-Made.at ∙ ap (λ (s : Standing). rest_of (rows_before s)) (sym c.in-Made.is)
+    record {
+      goes_on = rest_from c.in-Made.field-0.items c.in-Made.at ∙ ap (λ (s : Standing). rest_of (rows_before s)) (sym c.in-Made.is);
+      stands = tt;
+    }

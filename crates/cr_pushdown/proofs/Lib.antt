@@ -1,0 +1,4 @@
+pub mod Answers
+pub mod Groups
+pub mod Orders
+pub mod Pages
