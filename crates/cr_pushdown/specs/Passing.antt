@@ -1,5 +1,4 @@
--- The rows of a table on which no quiet term of a WHERE is known to be anything but true, and what is kept of their keys. Source:
--- this project's own.
+-- The rows of a table on which each quiet term of a WHERE is true, and what is kept of their keys. Source: this project's own.
 use Rattle.std.specs.Prelude.{ℕ, Bool, not, ◌&&◌, List, map}
 use Rattle.std.specs.List.{list_any}
 use Rattle.cr_value.specs.declared.value.Value.{Value}
