@@ -1,4 +1,3 @@
 pub mod Answers
-pub mod Groups
 pub mod Orders
 pub mod Pages

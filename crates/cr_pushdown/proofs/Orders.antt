@@ -119,20 +119,6 @@ pub none_stays : (xs : List Change) → filter (λ c. false) xs ≡ []
 none_stays [] = refl
 none_stays (x ∷ xs) = none_stays xs
 
--- what stands behind others stands as it stood
-filter_all : (P : Change → Type 0) (q : Change → Bool) (cs : List Change) → All P cs → All P (filter q cs)
-filter_all P q [] all = tt
-filter_all P q (c ∷ cs) all =
-    elim (q c) as (λ b. All P (cond b (c ∷ filter q cs) (filter q cs))) [ true ↦ (all.0, filter_all P q cs all.1) | false ↦ filter_all P q cs all.1 ]
-
-pub rises_in : (q : Change → Bool) (cs : List Change) → Rises cs → Rises (filter q cs)
-rises_in q [] up = tt
-rises_in q (c ∷ cs) up =
-    elim (q c) as (λ b. Rises (cond b (c ∷ filter q cs) (filter q cs))) [
-      | true ↦ (filter_all (λ d. is_below c.pk d ≡ false) q cs up.0, rises_in q cs up.1)
-      | false ↦ rises_in q cs up.1
-    ]
-
 -- ---- parts that lie one behind another
 
 -- what passes p lies before what passes q, and r is either
@@ -141,45 +127,36 @@ pub record LieBehind (p q r : List ℕ → Bool) : Type 0 where
   pub either : (k : List ℕ) → r k ≡ (p k || q k)
 
 module _ (p q r : List ℕ → Bool) (lie : LieBehind p q r) where
-  abbrev by_key : (List ℕ → Bool) → Change → Bool
-  by_key t c = t c.pk
-
   -- behind one that passes q none passes p
-  none_before : (k : List ℕ) → q k ≡ true → (cs : List Change) → All (λ d. is_below k d ≡ false) cs → filter (by_key p) cs ≡ []
+  none_before : (k : List ℕ) → q k ≡ true → (ks : List (List ℕ)) → All (λ l. bytes_cmp k l ≡ Less) ks → filter p ks ≡ []
   none_before k here [] up = refl
-  none_before k here (c ∷ cs) up =
-      elim (p c.pk) as (λ b. p c.pk ≡ b → cond b (c ∷ filter (by_key p) cs) (filter (by_key p) cs) ≡ []) [
-        | true ↦ λ e. absurd (let z : true ≡ false = sym (lie.before k c.pk here e) ∙ up.0 in cc)
-        | false ↦ λ e. none_before k here cs up.1
+  none_before k here (l ∷ ks) up =
+      elim (p l) as (λ b. p l ≡ b → cond b (l ∷ filter p ks) (filter p ks) ≡ []) [
+        | true ↦ λ e. absurd (let z : true ≡ false = sym (lie.before k l here e) ∙ lt_turned k l (ap is_lt up.0) in cc)
+        | false ↦ λ e. none_before k here ks up.1
       ] refl
 
-  pub one_behind : (cs : List Change) → Rises cs → filter (by_key p) cs ++ filter (by_key q) cs ≡ filter (by_key r) cs
+  pub one_behind : (ks : List (List ℕ)) → IsStrictlySortedBy bytes_cmp ks → filter p ks ++ filter q ks ≡ filter r ks
+  unfolding IsStrictlySortedBy
   one_behind [] up = refl
-  one_behind (c ∷ cs) up =
-      let rest = one_behind cs up.1 in
-      elim (p c.pk) as (λ b. p c.pk ≡ b → cond b (c ∷ filter (by_key p) cs) (filter (by_key p) cs) ++ cond (q c.pk) (c ∷ filter (by_key q) cs) (filter (by_key q) cs) ≡ cond (b || q c.pk) (c ∷ filter (by_key r) cs) (filter (by_key r) cs)) [
+  one_behind (k ∷ ks) up =
+      let rest = one_behind ks up.1 in
+      elim (p k) as (λ b. p k ≡ b → cond b (k ∷ filter p ks) (filter p ks) ++ cond (q k) (k ∷ filter q ks) (filter q ks) ≡ cond (b || q k) (k ∷ filter r ks) (filter r ks)) [
         | true ↦ λ e.
-            elim (q c.pk) as (λ b. q c.pk ≡ b → c ∷ (filter (by_key p) cs ++ cond b (c ∷ filter (by_key q) cs) (filter (by_key q) cs)) ≡ c ∷ filter (by_key r) cs) [
-              | true ↦ λ f. absurd (let z : true ≡ false = sym (lie.before c.pk c.pk f e) ∙ ap is_lt (self_compared c.pk) in cc)
-              | false ↦ λ f. ap (λ (ds : List Change). c ∷ ds) rest
+            elim (q k) as (λ b. q k ≡ b → k ∷ (filter p ks ++ cond b (k ∷ filter q ks) (filter q ks)) ≡ k ∷ filter r ks) [
+              | true ↦ λ f. absurd (let z : true ≡ false = sym (lie.before k k f e) ∙ ap is_lt (self_compared k) in cc)
+              | false ↦ λ f. ap (λ (ls : List (List ℕ)). k ∷ ls) rest
             ] refl
         | false ↦ λ e.
-            elim (q c.pk) as (λ b. q c.pk ≡ b → filter (by_key p) cs ++ cond b (c ∷ filter (by_key q) cs) (filter (by_key q) cs) ≡ cond b (c ∷ filter (by_key r) cs) (filter (by_key r) cs)) [
+            elim (q k) as (λ b. q k ≡ b → filter p ks ++ cond b (k ∷ filter q ks) (filter q ks) ≡ cond b (k ∷ filter r ks) (filter r ks)) [
               | true ↦ λ f.
-                  let none = none_before c.pk f cs up.0 in
-                  ap (λ (ds : List Change). ds ++ (c ∷ filter (by_key q) cs)) none
-                  ∙ ap (λ (ds : List Change). c ∷ ds) (sym (ap (λ (ds : List Change). ds ++ filter (by_key q) cs) none) ∙ rest)
+                  let none = none_before k f ks up.0 in
+                  ap (λ (ls : List (List ℕ)). ls ++ (k ∷ filter q ks)) none
+                  ∙ ap (λ (ls : List (List ℕ)). k ∷ ls) (sym (ap (λ (ls : List (List ℕ)). ls ++ filter q ks) none) ∙ rest)
               | false ↦ λ f. rest
             ] refl
       ] refl
-      ∙ ap (λ b. cond b (c ∷ filter (by_key r) cs) (filter (by_key r) cs)) (sym (lie.either c.pk))
-
-not_twice : (b : Bool) → not (not b) ≡ b
-not_twice true = refl
-not_twice false = refl
-
-le_is : (l a : List ℕ) → not (is_lt (bytes_cmp a l)) ≡ is_le (bytes_cmp l a)
-le_is l a = ap not (sym (not_le l a)) ∙ not_twice (is_le (bytes_cmp l a))
+      ∙ ap (λ b. cond b (k ∷ filter r ks) (filter r ks)) (sym (lie.either k))
 
 le_lt : (l a k : List ℕ) → is_le (bytes_cmp l a) ≡ true → is_lt (bytes_cmp a k) ≡ true → is_lt (bytes_cmp l k) ≡ true
 le_lt l a k low high =
@@ -188,43 +165,6 @@ le_lt l a k low high =
       | Equal ↦ λ e f. subst (λ (x : List ℕ). is_lt (bytes_cmp x k) ≡ true) (sym (bytes_exact l a e)) high
       | Greater ↦ λ e f. absurd cc
     ] refl low
-
--- what is not above a key lies below what is
-pub below_next : (after : Option (List ℕ)) (k l : List ℕ) → above after k ≡ true → not (above after l) ≡ true → is_lt (bytes_cmp l k) ≡ true
-below_next None k l over under = absurd cc
-below_next (Some a) k l over under = le_lt l a k (sym (le_is l a) ∙ under) over
-
-either_way : (x y : Bool) → (x ≡ false → y ≡ true) → y ≡ (not x || (x && y))
-either_way true y f = refl
-either_way false y f = f refl
-
--- up to a key, and from there up to another above it
-pub up_to_next : (after : Option (List ℕ)) (b : List ℕ) → above after b ≡ true → LieBehind (λ k. not (above after k)) (between after (Some b)) (λ k. not (above (Some b) k))
-up_to_next after b over = record {
-  before = λ k l in_q in_p. below_next after k l (and_true (above after k) (is_le (bytes_cmp k b)) in_q).0 in_p;
-  either = λ k. le_is k b ∙ either_way (above after k) (is_le (bytes_cmp k b)) (under after k over);
-} where
-  by : (k : List ℕ) (x : Bool) → is_le (bytes_cmp k b) ≡ x → is_lt (bytes_cmp b k) ≡ not x
-  by k x e = sym (not_le k b) ∙ ap not e
-
-  under : (after : Option (List ℕ)) (k : List ℕ) → above after b ≡ true → above after k ≡ false → is_le (bytes_cmp k b) ≡ true
-  under None k up out = absurd cc
-  under (Some a) k up out =
-      elim (is_le (bytes_cmp k b)) as (λ x. is_le (bytes_cmp k b) ≡ x → x ≡ true) [
-        | true ↦ λ e. refl
-        | false ↦ λ e. absurd (let z : true ≡ false = sym (ap is_lt (bytes_total.trans a b k (lt_is _ up) (lt_is _ (by k false e)))) ∙ out in cc)
-      ] refl
-
-all_the_rest : (x : Bool) → true ≡ (not x || (x && true))
-all_the_rest true = refl
-all_the_rest false = refl
-
--- up to a key, and all the rest
-pub up_to_end : (after : Option (List ℕ)) → LieBehind (λ k. not (above after k)) (between after None) (λ k. true)
-up_to_end after = record {
-  before = λ k l in_q in_p. below_next after k l (and_true (above after k) true in_q).0 in_p;
-  either = λ k. all_the_rest (above after k);
-}
 
 -- ---- what lies above the end of a page
 
@@ -237,3 +177,18 @@ further (Some a) b k over up = ap is_lt (bytes_total.trans a b k (lt_is _ over) 
 pub reached : (after : Option (List ℕ)) (k b : List ℕ) → above after k ≡ true → is_le (bytes_cmp k b) ≡ true → above after b ≡ true
 reached None k b over low = refl
 reached (Some a) k b over low = lt_le a k b over low
+
+in_two : (a l : Bool) → (not l ≡ true → a ≡ true) → a ≡ ((a && l) || not l)
+in_two true true f = refl
+in_two true false f = refl
+in_two false true f = refl
+in_two false false f = f refl
+
+-- a page, and what is left behind its end
+pub page_lies : (after : Option (List ℕ)) (b : List ℕ) → above after b ≡ true → LieBehind (between after (Some b)) (above (Some b)) (above after)
+page_lies after b over = record {
+  before = λ k l in_rest in_page. le_lt l b k (and_true (above after l) (is_le (bytes_cmp l b)) in_page).1 in_rest;
+  either = λ k.
+      in_two (above after k) (is_le (bytes_cmp k b)) (λ e. further after b k over (sym (not_le k b) ∙ e))
+      ∙ ap (λ x. (above after k && is_le (bytes_cmp k b)) || x) (not_le k b);
+}

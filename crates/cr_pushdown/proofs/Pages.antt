@@ -1,8 +1,8 @@
--- What passes of a table is what passes of its pages, one behind another.
-use Rattle.std.proofs.Common.{◌≡◌, ◌∙◌, ℕ, ◌<◌, ◌≤◌, arith, Bool, true, false, ◌&&◌, not, cond, List, [], ◌∷◌, ◌++◌, length, Option, Some, None, refl, sym, ap, subst}
+-- The rows that pass of a table are those of its pages, one behind another.
+use Rattle.std.proofs.Common.{◌≡◌, ◌∙◌, ℕ, ◌<◌, ◌≤◌, arith, Bool, true, false, ◌&&◌, cond, List, [], ◌∷◌, ◌++◌, append-nil, length, map, Option, Some, None, refl, sym, ap, subst}
 use Rattle.std.specs.Prelude.{filter, MatchOption}
 use Rattle.std.specs.Option.{ForSome, is_none}
-use Rattle.std.specs.List.Sorted.{IsSortedBy}
+use Rattle.std.proofs.lemmas.List.{map-append}
 use Rattle.std.proofs.lemmas.List.Kept.{IsStrictlySortedBy-filter}
 use Rattle.std.specs.Ordering.{is_le, is_lt}
 use Rattle.cr_value.specs.declared.value.Value.{Value}
@@ -13,7 +13,7 @@ use Rattle.cr_lattice.specs.declared.table.TableDef.{TableDef}
 use Rattle.cr_lattice.specs.Change.{change_cmp}
 use Rattle.cr_lattice.specs.Check.{same_bytes}
 use Rattle.cr_lattice.specs.Keep.{join, keep}
-use Rattle.cr_lattice.specs.Rows.{has_lesser_key}
+use Rattle.cr_lattice.specs.Rows.{alive_keys, row, rows}
 use Rattle.cr_lattice.proofs.Filters.{filter-filter}
 use Rattle.cr_lattice.proofs.KeepLaws.{join_keeps_second, sorted-keep}
 use Rattle.cr_lattice.proofs.Tested.{and_false, and_true}
@@ -22,12 +22,13 @@ use Rattle.cr_replica.specs.Snapshots.{is_between, keys_of}
 use Rattle.cr_term.specs.declared.expr.Expr.{Expr}
 use Rattle.cr_scalar.specs.Host.{Host}
 use Rattle.cr_touched.specs.Parts.{is_at, part}
-use Rattle.cr_touched.proofs.Parts.{keep_part, parts_are_joined}
+use Rattle.cr_touched.proofs.Parts.{filter-append, keep_part, parts_are_joined, rows_part, sorted_keys}
 use Rattle.cr_tables.proofs.Walks.{All, Rises}
-use Rattle.cr_pushdown.specs.Passing.{is_of, is_passing, passing}
-use Rattle.cr_pushdown.specs.Scan.{is_behind, is_left}
-use Rattle.cr_pushdown.proofs.Answers.{filters_swap, parts_pass}
-use Rattle.cr_pushdown.proofs.Orders.{AreOf, LieBehind, all_stay, none_stays, further, not_le, one_behind, reached, rises_of, sorted_of}
+use Rattle.cr_query.specs.Query.{Row}
+use Rattle.cr_pushdown.specs.Passing.{passes, passing}
+use Rattle.cr_pushdown.specs.declared.scan.Scan.{Scan}
+use Rattle.cr_pushdown.specs.Scan.{IsFrom, is_behind, is_left, is_of, rows_left}
+use Rattle.cr_pushdown.proofs.Orders.{AreOf, LieBehind, all_stay, not_le, one_behind, page_lies, reached, rises_of}
 
 -- ---- parts
 
@@ -78,38 +79,15 @@ kept_of_one def cs =
     again : (cs : List Change) → filter (is_of def) (filter (is_of def) cs) ≡ filter (is_of def) cs
     again cs = filter-filter (is_of def) (is_of def) cs ∙ (λ i. filter (λ c. both (is_of def c) i) cs)
 
-turn : (l o u : Bool) → (l && (o && (l && u))) ≡ (o && (l && u))
-turn true o u = refl
-turn false o u = sym (and_false o)
+again : (x o : Bool) → (x && (o && x)) ≡ (o && x)
+again true o = refl
+again false o = sym (and_false o)
 
-part_left : (def : TableDef) (after bound : Option (List ℕ)) (own : List Change) → part def.name (between after bound) (filter (is_left after) own) ≡ part def.name (between after bound) own
+part_behind : (def : TableDef) (b : List ℕ) (later : List Change) → part def.name (above (Some b)) (filter (is_behind (Some b)) later) ≡ part def.name (above (Some b)) later
 unfolding part
-part_left def after bound own =
-    filter-filter (is_at def.name (between after bound)) (is_left after) own
-    ∙ (λ i. filter (λ c. turn (is_left after c) (is_of def c) (up_to bound c.pk) i) own)
-
-once_more : (s p q : Bool) → (q ≡ true → p ≡ true) → ((s && q) && (s && p)) ≡ (s && q)
-once_more true p true f = f refl
-once_more true p false f = refl
-once_more false p q f = refl
-
--- a part of a part that it contains
-part_again : (def : TableDef) (p q : List ℕ → Bool) → ((k : List ℕ) → q k ≡ true → p k ≡ true) → (cs : List Change) → part def.name p (part def.name q cs) ≡ part def.name q cs
-unfolding part
-part_again def p q f cs =
-    filter-filter (is_at def.name p) (is_at def.name q) cs
-    ∙ (λ i. filter (λ c. once_more (is_of def c) (p c.pk) (q c.pk) (f c.pk) i) cs)
-
--- of a list of one table a part is told by the keys alone
-by_keys : (def : TableDef) (p : List ℕ → Bool) (cs : List Change) → part def.name every cs ≡ cs → part def.name p cs ≡ filter (λ c. p c.pk) cs
-unfolding part
-by_keys def p cs own =
-    sym (filter-filter (λ c. p c.pk) (is_of def) cs) ∙ ap (filter (λ c. p c.pk)) (sym (part_whole def cs) ∙ own)
-
-two_parts : (def : TableDef) (p q r : List ℕ → Bool) → LieBehind p q r → (cs : List Change) → Rises cs → part def.name every cs ≡ cs
-    → part def.name p cs ++ part def.name q cs ≡ part def.name r cs
-two_parts def p q r lie cs up own =
-    (λ i. by_keys def p cs own i ++ by_keys def q cs own i) ∙ one_behind p q r lie cs up ∙ sym (by_keys def r cs own)
+part_behind def b later =
+    filter-filter (is_at def.name (above (Some b))) (is_behind (Some b)) later
+    ∙ (λ i. filter (λ c. (ap (λ x. x && (is_of def c && is_lt (bytes_cmp b c.pk))) (not_le c.pk b) ∙ again (is_lt (bytes_cmp b c.pk)) (is_of def c)) i) later)
 
 -- ---- a page
 
@@ -143,9 +121,6 @@ module _ (def : TableDef) (after bound : Option (List ℕ)) where
       let of = is ∙ page_part kept in
       ap keep of ∙ sym (keep_part def.name p kept) ∙ ap (part def.name p) whole ∙ sym of
 
-  pub page_sorted : (kept more all : List Change) → all ≡ part def.name p (join kept more) → IsSortedBy has_lesser_key all
-  page_sorted kept more all is = sorted_of all (subst Rises (sym is) (part_rises def.name p (kept ++ more)))
-
 -- a page of some keys ends above the key before it
 pub ends_above : (def : TableDef) (after bound : Option (List ℕ)) (limit : ℕ) (kept page : List Change) → 0 < limit → page ≡ filter (is_between def.name after bound) kept
     → MatchOption bound (length (keys_of page) ≤ limit) (λ b. length (keys_of page) ≡ limit) → ForSome bound (λ b. above after b ≡ true)
@@ -162,26 +137,24 @@ ends_above def after (Some b) limit kept page some is keys =
 
 -- ---- one page behind another
 
+all_keys : (ks : List (List ℕ)) → filter every ks ≡ ks
+all_keys [] = refl
+all_keys (k ∷ ks) = ap (λ (ls : List (List ℕ)). k ∷ ls) (all_keys ks)
+
 module _ (host : Host) (params : List Value) (terms : List Expr) (def : TableDef) where
-  abbrev of : List Change → List Change
+  abbrev of : List Change → List Row
   of = passing host params terms def
 
-  -- of the further changes above a key the page looks at those of all
-  pub same_page : (kept own later : List Change) (after bound : Option (List ℕ)) → later ≡ filter (is_left after) own
-      → part def.name (between after bound) (of (join kept later)) ≡ part def.name (between after bound) (of (join kept own))
-  same_page kept own later after bound is =
-      let q = between after bound in
-      sym (parts_pass host params terms def q (join kept later))
-      ∙ ap of (sym (parts_are_joined def.name q kept later) ∙ ap (join (part def.name q kept)) (ap (part def.name q) is ∙ inside) ∙ parts_are_joined def.name q kept own)
-      ∙ parts_pass host params terms def q (join kept own)
-    where
-      inside : part def.name (between after bound) (filter (is_left after) own) ≡ part def.name (between after bound) own
-      inside = part_left def after bound own
+  -- the rows that pass of those of some keys
+  abbrev of_keys : List Change → List (List ℕ) → List Row
+  of_keys cs ks = filter (passes host params terms) (map (row cs def) ks)
 
-  -- what passes is of the table
-  whole : (cs : List Change) → part def.name every (of cs) ≡ of cs
-  unfolding passing
-  whole cs = part_again def every (is_passing host params terms def cs) (λ k e. refl) cs
+  of_part : (p : List ℕ → Bool) (cs : List Change) → of (part def.name p cs) ≡ of_keys cs (filter p (alive_keys cs def.name))
+  of_part p cs = ap (filter (passes host params terms)) (rows_part def p cs)
+
+  whole : (cs : List Change) → of (part def.name every cs) ≡ of cs
+  unfolding rows
+  whole cs = of_part every cs ∙ ap (of_keys cs) (all_keys (alive_keys cs def.name))
 
   -- what is kept of the table's own changes serves for all
   pub own_joined : (kept changes : List Change) → of (join kept (keep (filter (is_of def) changes))) ≡ of (join kept changes)
@@ -192,61 +165,71 @@ module _ (host : Host) (params : List Value) (terms : List Expr) (def : TableDef
       ∙ ap (join (part def.name every kept)) (part_whole def own ∙ kept_of_one def changes ∙ ap keep (sym (part_whole def changes)))
       ∙ join_keeps_second (part def.name every kept) (part def.name every changes)
       ∙ parts_are_joined def.name every kept changes in
-      sym (whole (join kept own)) ∙ sym (parts_pass host params terms def every (join kept own)) ∙ ap of parts
-      ∙ parts_pass host params terms def every (join kept changes) ∙ whole (join kept changes)
+      sym (whole (join kept own)) ∙ ap of parts ∙ whole (join kept changes)
 
-  -- what passes stands by its keys
-  pub passing_rises : (a b : List Change) → Rises (of (join a b))
-  unfolding passing
-  passing_rises a b = part_rises def.name (is_passing host params terms def (join a b)) (a ++ b)
+  -- two parts, one behind the other
+  pub goes_on : (cs : List Change) (p q r : List ℕ → Bool) → LieBehind p q r → of (part def.name p cs) ++ of (part def.name q cs) ≡ of (part def.name r cs)
+  goes_on cs p q r lie =
+      let ks = alive_keys cs def.name in
+      (λ i. of_part p cs i ++ of_part q cs i)
+      ∙ sym (filter-append (passes host params terms) (map (row cs def) (filter p ks)) (map (row cs def) (filter q ks)))
+      ∙ ap (filter (passes host params terms)) (sym (map-append (row cs def) (filter p ks) (filter q ks)))
+      ∙ ap (of_keys cs) (one_behind p q r lie ks (sorted_keys def.name every cs))
+      ∙ sym (of_part r cs)
 
-  -- two parts of what passes, one behind the other
-  pub goes_on : (a b : List Change) (p q r : List ℕ → Bool) → LieBehind p q r
-      → part def.name p (of (join a b)) ++ part def.name q (of (join a b)) ≡ part def.name r (of (join a b))
-  goes_on a b p q r lie = two_parts def p q r lie (of (join a b)) (passing_rises a b) (whole (join a b))
+  -- behind the end of a page the further changes behind it serve for all
+  behind_end : (kept later : List Change) (b : List ℕ) → part def.name (above (Some b)) (join kept (filter (is_behind (Some b)) later)) ≡ part def.name (above (Some b)) (join kept later)
+  behind_end kept later b =
+      let q = above (Some b) in
+      sym (parts_are_joined def.name q kept (filter (is_behind (Some b)) later))
+      ∙ ap (join (part def.name q kept)) (part_behind def b later)
+      ∙ parts_are_joined def.name q kept later
 
-  pub ends : (a b : List Change) (p q : List ℕ → Bool) → LieBehind p q (λ k. true)
-      → part def.name p (of (join a b)) ++ part def.name q (of (join a b)) ≡ of (join a b)
-  ends a b p q lie = goes_on a b p q (λ k. true) lie ∙ whole (join a b)
+  -- the rows of a page, and those that are left behind it
+  pub page_read : (kept later : List Change) (after bound : Option (List ℕ)) (rest : List Change) (is_last : Bool) (page : List Row) → ForSome bound (λ b. above after b ≡ true)
+      → rest ≡ filter (is_behind bound) later → is_last ≡ is_none bound → page ≡ of (part def.name (between after bound) (join kept later))
+      → page ++ cond is_last [] (of (part def.name (above bound) (join kept rest))) ≡ of (part def.name (above after) (join kept later))
+  page_read kept later after None rest is_last page over is last are =
+      (λ i. are i ++ cond (last i) [] (of (part def.name (above None) (join kept rest))))
+      ∙ append-nil (of (part def.name (between after None) (join kept later)))
+      ∙ (λ i. of (part def.name (λ k. and_so (above after k) i) (join kept later)))
+  page_read kept later after (Some b) rest is_last page over is last are =
+      (λ i. are i ++ cond (last i) [] (of (part def.name (above (Some b)) (join kept (is i)))))
+      ∙ ap (λ (cs : List Change). of (part def.name (between after (Some b)) (join kept later)) ++ of cs) (behind_end kept later b)
+      ∙ goes_on (join kept later) (between after (Some b)) (above (Some b)) (above after) (page_lies after b (over b refl))
+
+  -- before the first page all is left
+  pub all_left : (cs : List Change) → of (part def.name (above None) cs) ≡ of cs
+  all_left cs = whole cs
+
+  -- at its beginning
+  pub begins_whole : (kept changes own : List Change) (scan : Scan) → own ≡ keep (filter (is_of def) changes) → IsFrom def own scan → rows_left host params terms kept scan ≡ of (join kept changes)
+  begins_whole kept changes own scan is from =
+      ap (λ b. cond b [] (passing host params terms scan.def.now (part scan.def.now.name (above scan.after) (join kept scan.later.now)))) from.left
+      ∙ (λ i. passing host params terms (from.table i) (part (from.table i).name (above (from.after i)) (join kept ((from.later ∙ is) i))))
+      ∙ all_left (join kept (keep (filter (is_of def) changes)))
+      ∙ own_joined kept changes
 
 -- ---- the further changes that are left
 
-left_above : (l x : Bool) → (x ≡ true → l ≡ true) → (l && x) ≡ x
-left_above true x f = refl
-left_above false true f = f refl
-left_above false false f = refl
+both : (b : Bool) → (b && b) ≡ b
+both true = refl
+both false = refl
 
-pub left_next : (own later : List Change) (after : Option (List ℕ)) (b : List ℕ) → above after b ≡ true → later ≡ filter (is_left after) own
-    → filter (is_behind (Some b)) later ≡ filter (is_left (Some b)) own
-left_next own later after b over is =
-    ap (filter (is_behind (Some b))) is
-    ∙ filter-filter (is_behind (Some b)) (is_left after) own
-    ∙ (λ i. filter (λ c. (ap (λ x. above after c.pk && x) (not_le c.pk b) ∙ left_above (above after c.pk) (is_lt (bytes_cmp b c.pk)) (further after b c.pk over)) i) own)
+-- they lie behind its end
+pub left_behind : (bound : Option (List ℕ)) (later : List Change) → filter (is_left bound) (filter (is_behind bound) later) ≡ filter (is_behind bound) later
+left_behind None later = all_stay (filter (is_behind None) later)
+left_behind (Some b) later =
+    filter-filter (is_left (Some b)) (is_behind (Some b)) later
+    ∙ (λ i. filter (λ c. (ap (λ x. x && is_lt (bytes_cmp b c.pk)) (not_le c.pk b) ∙ both (is_lt (bytes_cmp b c.pk)) ∙ sym (not_le c.pk b)) i) later)
 
 pub of_next : (def : TableDef) (bound : Option (List ℕ)) (later : List Change) → filter (is_of def) later ≡ later → filter (is_of def) (filter (is_behind bound) later) ≡ filter (is_behind bound) later
-of_next def bound later of = filters_swap (is_of def) (is_behind bound) (is_of def) (λ c e. refl) later ∙ ap (filter (is_behind bound)) of
-
-pub left_again : (own later : List Change) (after : Option (List ℕ)) → later ≡ filter (is_left after) own → filter (is_left after) later ≡ later
-left_again own later after is =
-    ap (filter (is_left after)) is ∙ filter-filter (is_left after) (is_left after) own ∙ (λ i. filter (λ c. both (is_left after c) i) own) ∙ sym is
+of_next def bound later of =
+    filter-filter (is_of def) (is_behind bound) later
+    ∙ (λ i. filter (λ c. either_first (is_behind bound c) (is_of def c) i) later)
+    ∙ sym (filter-filter (is_behind bound) (is_of def) later)
+    ∙ ap (filter (is_behind bound)) of
   where
-    both : (b : Bool) → (b && b) ≡ b
-    both true = refl
-    both false = refl
-
--- before the first page all is left
-pub all_left : (own : List Change) → own ≡ filter (is_left None) own
-all_left own = sym (all_stay own)
-
--- and nothing passed
-pub none_passed : (def : TableDef) (cs : List Change) → part def.name (λ k. not (above None k)) cs ≡ []
-unfolding part
-none_passed def cs = (λ i. filter (λ c. and_false (is_of def c) i) cs) ∙ none_stays cs
-
-pub none_is : {A : Type 0} (o : Option A) → is_none o ≡ true → o ≡ None
-none_is None e = refl
-none_is (Some x) e = absurd cc
-
-pub some_of : {A : Type 0} (o : Option A) → is_none o ≡ false → (x : A) × (o ≡ Some x)
-some_of None e = absurd cc
-some_of (Some x) e = (x, refl)
+    either_first : (a b : Bool) → (a && b) ≡ (b && a)
+    either_first true b = sym (and_so b)
+    either_first false b = sym (and_false b)

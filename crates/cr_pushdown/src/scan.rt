@@ -1,26 +1,28 @@
-//! What is kept of the rows of a table on which the quiet terms of a WHERE are true, read page by page.
+//! The rows of a table on which the quiet terms of a WHERE are true, read page by page.
 
 ghost use Rattle.std.specs.Prelude.{◌≡◌, filter, true, IfOk};
 ghost use Rattle.std.specs.List.Sorted.{IsSortedBy};
 ghost use Rattle.std.specs.Option.{option_copied};
 ghost use Rattle.cr_lattice.specs.Keep.{join, keep};
-ghost use Rattle.cr_lattice.specs.Rows.{has_lesser_key};
+ghost use Rattle.cr_lattice.specs.Rows.{has_lesser_key, rows};
 ghost use Rattle.cr_cells.specs.Calls.{Reads, is_want, StaysClean};
 ghost use Rattle.cr_cells.specs.Holding.{kept_of};
 ghost use Rattle.cr_cells.specs.Pages.{up_to};
-ghost use Rattle.cr_pushdown.specs.Passing.{is_of, passing};
-ghost use Rattle.cr_pushdown.specs.Scan.{is_behind, is_left, IsStep};
+ghost use Rattle.cr_pushdown.specs.Passing.{passing};
+ghost use Rattle.cr_pushdown.specs.Scan.{is_behind, is_of};
 
-use crate::passing::{of_table, passing};
+use crate::passing::passing;
 use cr_cells::store::{Cells, CellsError, StoreFault};
 use cr_expr::given::Hosted;
 use cr_host::functions::Functions;
 use cr_lattice::change::Change;
 use cr_lattice::merge::{keep, merge};
-use cr_lattice::table::TableDef;
+use cr_lattice::table::{Items, Row, TableDef};
+use cr_module::rows::rows_of_table;
 use cr_replica::replica::Replica;
+use cr_tables::kept::Kept;
 use cr_term::expr::Expr;
-use cr_value::order::cmp_bytes;
+use cr_value::order::{cmp_bytes, same_bytes};
 use cr_value::text::Bytes;
 use cr_value::value::Value;
 use std::alloc::{AllocError, Global};
@@ -29,14 +31,17 @@ use std::alloc::{AllocError, Global};
 const PAGE_KEYS: usize = 64;
 
 /// More pages than a store can have.
-const MOST_PAGES: u64 = u64::MAX;
+pub const MOST_PAGES: u64 = u64::MAX;
 
-// What passes of a page, the key at which it ends if any is left behind it, and further changes behind it.
+/// A reading of a table, page by page: of what is kept, and with it of further changes.
 #[derive(Drop)]
-struct Step<'a> {
-    passing: Vec<Change>,
-    bound: Option<Bytes>,
+pub struct Scan<'a> {
+    def: &'a TableDef,
+    // The key behind which the next page begins, if it isn't the first.
+    after: Option<Bytes>,
+    // The further changes behind that key, all of the table.
     later: &'a [Change],
+    is_at_end: bool,
 }
 
 fn lent(after: &Option<Bytes>) -> Option<&[u8]>
@@ -67,6 +72,28 @@ fn split<'a>(changes: &'a [Change], bound: &Option<Bytes>) -> (&'a [Change], &'a
     }
 }
 
+fn is_of(def: &TableDef, change: &Change) -> bool
+    ensures { result ≡ is_of def.now change.now }
+{
+    same_bytes(
+        change.table.as_str().as_bytes(),
+        def.name.as_str().as_bytes(),
+    )
+}
+
+// Copies of those changes that are of a table.
+fn of_table(alloc: Global, def: &TableDef, changes: &[Change]) -> Result<Vec<Change>, AllocError>
+    ensures { IfOk result (λ v. v.items ≡ filter (is_of def.now) changes.now) }
+{
+    let mut out = Vec::new(alloc);
+    for change in changes {
+        if is_of(def, change) {
+            out.push(change.copy(alloc)?)?;
+        }
+    }
+    Ok(out)
+}
+
 // What is kept, and with it further changes.
 fn joined(alloc: Global, kept: Vec<Change>, more: &[Change]) -> Result<Vec<Change>, AllocError>
     ensures { keep kept.items ≡ kept.items → IfOk result (λ v. v.items ≡ join kept.items more.now) }
@@ -77,58 +104,116 @@ fn joined(alloc: Global, kept: Vec<Change>, more: &[Change]) -> Result<Vec<Chang
     merge(alloc, &kept, more)
 }
 
-// What is kept of a list of changes of one table.
-fn own_changes(alloc: Global, def: &TableDef, changes: &[Change]) -> Result<Vec<Change>, AllocError>
+/// What is kept of those changes that are of a table. Fails for want of memory alone.
+pub fn own_changes(
+    alloc: Global,
+    def: &TableDef,
+    changes: &[Change],
+) -> Result<Vec<Change>, AllocError>
     ensures kept { IfOk result (λ v. v.items ≡ keep (filter (is_of def.now) changes.now)) }
     ensures sorted { IfOk result (λ v. IsSortedBy has_lesser_key v.items) }
+    ensures of { IfOk result (λ v. filter (is_of def.now) v.items ≡ v.items) }
 {
     let own = of_table(alloc, def, changes)?;
     let kept = keep(own)?;
     Ok(kept)
 }
 
-// Reads a page behind a key, and with it further changes whose keys lie behind that key.
-fn read_step<'a, C: Cells, F: Functions>(
-    alloc: Global,
-    replica: &mut Replica<C>,
-    functions: &F,
-    def: &TableDef,
-    after: &Option<Bytes>,
-    more: &'a [Change],
-    terms: &[Expr],
-    params: &[Value],
-) -> Result<Step<'a>, CellsError>
-    requires functions { F.is_faithful functions.now }
-    requires sorted { IsSortedBy has_lesser_key more.now }
-    ensures device { StaysClean C.is_honest C.is_clean is_want replica.old replica.new result }
-    ensures reads { C.is_clean replica.new → filter (is_of def.now) more.now ≡ more.now → filter (is_left after.now) more.now ≡ more.now
-        → Reads (C.holding replica.old) (C.holding replica.new) result
-        (IsStep (⟦<F as Hosted>⟧.means functions.now) params.now terms.now def.now (kept_of (C.holding replica.old)) after.now more.now) }
-    ensures later { IfOk result (λ step. step.later.now ≡ filter (is_behind step.bound) more.now) }
-    ensures sorted { IfOk result (λ step. IsSortedBy has_lesser_key step.later.now) }
+// The rows that changes show of a table.
+fn rows_shown(alloc: Global, def: &TableDef, changes: &[Change]) -> Result<Vec<Row>, AllocError>
+    ensures { IfOk result (λ v. v.items ≡ rows changes.now def.now) }
 {
-    let page = match replica.kept_page(alloc, def.name.as_str(), lent(after), PAGE_KEYS) {
-        Ok(page) => page,
-        Err(error) => return Err(error),
+    let mut kept = Kept {
+        changes,
+        definition: def,
     };
-    let (now, later) = split(more, &page.bound);
-    let kept = joined(alloc, page.kept, now)?;
-    let passing = passing(alloc, functions, def, &kept, terms, params)?;
-    Ok(Step {
-        passing,
-        bound: page.bound,
-        later,
-    })
+    match rows_of_table(alloc, &mut kept, 0) {
+        Ok(rows) => Ok(rows.into_vec()),
+        Err(_) => Err(AllocError),
+    }
 }
 
-/// What shows of a table's rows on which each quiet term is true: of what is kept, and with it of further changes, as those of an open
-/// transaction, in any order and of any tables. Reads the table page by page, so that beside what passes a page is held.
+impl<'a> Scan<'a> {
+    ghost use Rattle.std.specs.Prelude.{◌≡◌, ◌++◌, filter, true, false, None, IfOk};
+    ghost use Rattle.std.specs.List.Sorted.{IsSortedBy};
+    ghost use Rattle.cr_lattice.specs.Rows.{has_lesser_key};
+    ghost use Rattle.cr_cells.specs.Calls.{Reads, is_want, StaysClean};
+    ghost use Rattle.cr_cells.specs.Holding.{kept_of};
+    ghost use Rattle.cr_pushdown.specs.Scan.{is_of, rows_left, IsFrom, Stands};
+
+    /// A reading of a table from its first page on: of what is kept, and with it of what is kept of further changes of the table.
+    pub fn new(def: &'a TableDef, own: &'a [Change]) -> Scan<'a>
+        requires sorted { IsSortedBy has_lesser_key own.now }
+        requires of { filter (is_of def.now) own.now ≡ own.now }
+        ensures stands { Stands result }
+        ensures begins { IsFrom def.now own.now result }
+    {
+        Scan {
+            def,
+            after: None,
+            later: own,
+            is_at_end: false,
+        }
+    }
+
+    /// Whether no page is left.
+    pub fn is_at_end(&self) -> bool
+        ensures { result ≡ self.now.is_at_end }
+    {
+        self.is_at_end
+    }
+
+    /// The rows of the next page, one being left, on which each quiet term is true.
+    ///
+    /// `params` are the parameters' values, from number 1 on.
+    ///
+    /// # Errors
+    /// `Memory`, or `Store(Refused)`; then the reading is over.
+    pub fn next_page<C: Cells, F: Functions>(
+        &mut self,
+        alloc: Global,
+        replica: &mut Replica<C>,
+        functions: &F,
+        terms: &[Expr],
+        params: &[Value],
+    ) -> Result<Vec<Row>, CellsError>
+        requires functions { F.is_faithful functions.now }
+        requires stands { Stands self.old }
+        requires left { self.old.is_at_end ≡ false }
+        ensures device { StaysClean C.is_honest C.is_clean is_want replica.old replica.new result }
+        ensures reads { C.is_clean replica.new → Reads (C.holding replica.old) (C.holding replica.new) result
+            (λ page. page.items ++ rows_left (⟦<F as Hosted>⟧.means functions.now) params.now terms.now (kept_of (C.holding replica.old)) self.new
+            ≡ rows_left (⟦<F as Hosted>⟧.means functions.now) params.now terms.now (kept_of (C.holding replica.old)) self.old) }
+        ensures stands { IfOk result (λ page. Stands self.new) }
+    {
+        let page = match replica.kept_page(
+            alloc,
+            self.def.name.as_str(),
+            lent(&self.after),
+            PAGE_KEYS,
+        ) {
+            Ok(page) => page,
+            Err(error) => return Err(error),
+        };
+        let (now, later) = split(self.later, &page.bound);
+        let kept = joined(alloc, page.kept, now)?;
+        let shown = rows_shown(alloc, self.def, &kept)?;
+        let rows = passing(alloc, functions, shown, terms, params)?;
+        self.later = later;
+        self.is_at_end = page.bound.is_none();
+        self.after = page.bound;
+        Ok(rows)
+    }
+}
+
+/// The rows of a table on which each quiet term is true: of what is kept, and with it of further changes, as those of an open
+/// transaction, in any order and of any tables. Reads the table page by page, so that beside these rows a page is held.
 ///
 /// `params` are the parameters' values, from number 1 on.
 ///
 /// # Errors
 /// `Memory`, or `Store(Refused)`.
-pub fn passing_of_table<C: Cells, F: Functions>(
+pub fn passing_rows<C: Cells, F: Functions>(
     alloc: Global,
     replica: &mut Replica<C>,
     functions: &F,
@@ -136,31 +221,26 @@ pub fn passing_of_table<C: Cells, F: Functions>(
     changes: &[Change],
     terms: &[Expr],
     params: &[Value],
-) -> Result<Vec<Change>, CellsError>
+) -> Result<Items<Row>, CellsError>
     requires functions { F.is_faithful functions.now }
     ensures device { StaysClean C.is_honest C.is_clean is_want replica.old replica.new result }
     ensures reads { C.is_clean replica.new → Reads (C.holding replica.old) (C.holding replica.new) result
-        (λ v. v.items ≡ passing (⟦<F as Hosted>⟧.means functions.now) params.now terms.now def.now (join (kept_of (C.holding replica.old)) changes.now)) }
+        (λ rows. rows ≡ passing (⟦<F as Hosted>⟧.means functions.now) params.now terms.now def.now (join (kept_of (C.holding replica.old)) changes.now)) }
 {
     let own = own_changes(alloc, def, changes)?;
+    let mut scan = Scan::new(def, &own);
     let mut out = Vec::new(alloc);
-    let mut after = None;
-    let mut later = own.as_slice();
     for _ in 0..MOST_PAGES {
-        let mut step = match read_step(
-            alloc, replica, functions, def, &after, later, terms, params,
-        ) {
-            Ok(step) => step,
+        if scan.is_at_end() {
+            return Ok(Items::new(out));
+        }
+        let mut page = match scan.next_page(alloc, replica, functions, terms, params) {
+            Ok(page) => page,
             Err(error) => return Err(error),
         };
-        match out.append(&mut step.passing) {
+        match out.append(&mut page) {
             Ok(()) => {}
             Err(_) => return Err(CellsError::Memory),
-        }
-        later = step.later;
-        after = step.bound;
-        if after.is_none() {
-            return Ok(out);
         }
     }
     Err(CellsError::Store(StoreFault::Refused))

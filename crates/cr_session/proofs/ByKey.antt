@@ -7,7 +7,6 @@ use Rattle.cr_lattice.specs.declared.change.Change.{Change}
 use Rattle.cr_lattice.specs.declared.table.Table.{Table}
 use Rattle.cr_lattice.specs.declared.table.TableDef.{TableDef}
 use Rattle.cr_lattice.specs.Profile.{has_key}
-use Rattle.cr_lattice.specs.Rows.{rows}
 use Rattle.cr_cells.specs.declared.store.CellsError.{CellsError}
 use Rattle.cr_cells.specs.Holding.{Holding, IsSound}
 use Rattle.cr_cells.specs.Tables.{has_defaults, is_named}
@@ -37,9 +36,7 @@ use Rattle.cr_sought.specs.Sought.{assigns_key}
 use Rattle.cr_sought.specs.Writes.{delete_over, update_over}
 use Rattle.cr_sought.proofs.Answers.{answers_by_keys}
 use Rattle.cr_sought.proofs.Writes.{deletes_by_keys, updates_by_keys}
-use Rattle.cr_session.specs.Lookup.{IsFilteredLook, IsLook, IsQueryLook, IsSeenAt, IsSeenPassing, IsSought, Looks, ShowsDelete, ShowsQuery, ShowsTables, ShowsUpdate, in_order}
-use Rattle.cr_pushdown.specs.Passing.{passing}
-use Rattle.cr_pushdown.proofs.Answers.{answers_by_passing}
+use Rattle.cr_session.specs.Lookup.{IsLook, IsSeenAt, IsSought, Looks, ShowsDelete, ShowsQuery, ShowsTables, ShowsUpdate, in_order}
 use Rattle.cr_session.specs.Sessions.{state_of}
 use Rattle.cr_session.proofs.ByTable.{delete_of_table, is_one_of, is_only, query_of_tables, update_of_table}
 use Rattle.cr_session.proofs.OfTables.{now_unbeaten}
@@ -117,21 +114,6 @@ module _ (means : Means) (params : List Value) (h : Holding) (sound : IsSound h)
           (left (Err f) (subst (λ (t : TableDef). IsRefused means params t snap.site snap.kept (delete_over snap.kept d) f) (sym (same_def d.relation.definition same_name held)) l));
     }
 
--- ---- the table of the name, and what shows of the rows that pass
-
-pub query_by_rows : (means : Means) (params : List Value) (h : Holding) (sound : IsSound h) (pending : Option (List Change)) (name : List ℕ) (terms : List Expr) (snap : Snapshot)
-    → IsSeenPassing means params (state_of h pending) name terms snap → (q : Query) (j : Joined) → q.joined ≡ j ∷ [] → j.is_left ≡ false → j.on ≡ [] → name_of j ≡ name → q.filter ≡ terms
-    → ShowsQuery means params q (state_of h pending) snap
-query_by_rows means params h sound pending name terms snap at q j only inner no_on named same =
-    let is = at.filtered in
-    let def = is.def in
-    let now_there = now (state_of h pending) in
-    let kept_is : snap.kept ≡ passing means params q.filter def now_there =
-    at.kept ∙ (λ i. passing means params (sym same i) (is.is i).definition now_there) in
-    one.query_of_one h sound pending name is.fit def is.there snap at.named (passing means params q.filter def now_there) kept_is means params q j only named
-    (λ most limit.
-    answers_by_passing means params most def now_there q j limit (one.keyed h sound pending name is.fit def is.there) (one.kept_of_it h sound pending name is.fit def is.there) only inner no_on)
-
 -- ---- all that shows there
 
 module _ (means : Means) (params : List Value) (st : State) (snap : Snapshot) (is : IsSeen st snap) where
@@ -170,18 +152,6 @@ pub looked_at : (means : Means) (params : List Value) (old new : State) (name : 
     → IsSought means params old.pending old.holding.tables name terms keys → Looks (IsSeenAt old name keys) old new result → Looks (IsLook means params old name terms) old new result
 looked_at means params old new name terms keys (Ok s) is l = record { same = l.same; looks = inr (keys, is, l.looks) }
 looked_at means params old new name terms keys (Err e) is l = record { same = l.same; looks = l.looks }
-
--- what is seen by a query: of the keys that the terms tell
-pub looked_at_once : (means : Means) (params : List Value) (old new : State) (name : List ℕ) (terms : List Expr) (result : Result Snapshot CellsError)
-    → Looks (IsLook means params old name terms) old new result → Looks (IsQueryLook means params old name terms) old new result
-looked_at_once means params old new name terms (Ok s) l = record { same = l.same; looks = inl l.looks }
-looked_at_once means params old new name terms (Err e) l = record { same = l.same; looks = l.looks }
-
--- of the rows that pass, or of the table
-pub looked_for_rows : (means : Means) (params : List Value) (old new : State) (name : List ℕ) (terms : List Expr) (result : Result Snapshot CellsError)
-    → Looks (IsFilteredLook means params old name terms) old new result → Looks (IsQueryLook means params old name terms) old new result
-looked_for_rows means params old new name terms (Ok s) l = record { same = l.same; looks = elim l.looks [ inl shows ↦ inl (inl shows) | inr rows ↦ inr rows ] }
-looked_for_rows means params old new name terms (Err e) l = record { same = l.same; looks = l.looks }
 
 -- what is seen of the table
 pub looked_in : (means : Means) (params : List Value) (old new : State) (name : List ℕ) (terms : List Expr) (result : Result Snapshot CellsError)
@@ -237,10 +207,6 @@ module _ (means : Means) (params : List Value) (h : Holding) (sound : IsSound h)
   pub query_looked : (q : Query) (j : Joined) (name : List ℕ) (terms : List Expr) → q.joined ≡ j ∷ [] → j.is_left ≡ false → j.on ≡ [] → name ≡ name_of j → terms ≡ q.filter → IsLook means params here name terms s → ShowsQuery means params q here s
   query_looked q j name terms one inner no_on named same (inl shows) = query_shown (name ∷ []) q (each_only q.joined j name one named) shows
   query_looked q j name terms one inner no_on named same (inr (keys, sought, at)) = query_by_keys means params h sound pending name terms keys sought s at q j one inner no_on (sym named) (sym same)
-
-  pub query_filtered : (q : Query) (j : Joined) (name : List ℕ) (terms : List Expr) → q.joined ≡ j ∷ [] → j.is_left ≡ false → j.on ≡ [] → name ≡ name_of j → terms ≡ q.filter → IsQueryLook means params here name terms s → ShowsQuery means params q here s
-  query_filtered q j name terms one inner no_on named same (inl look) = query_looked q j name terms one inner no_on named same look
-  query_filtered q j name terms one inner no_on named same (inr rows) = query_by_rows means params h sound pending name terms s rows q j one inner no_on (sym named) (sym same)
 
   pub update_looked : (u : Update) (name : List ℕ) (terms : List Expr) → name ≡ u.relation.definition.name → terms ≡ u.filter → assigns_key u ≡ false → Replicates h.tables u.relation.definition
       → IsLook means params here name terms s → ShowsUpdate means params u here s

@@ -1,6 +1,6 @@
 -- What is found of the tables of a join one after another suffices for its query.
 use Rattle.std.proofs.Common.{◌≡◌, inl, inr, ℕ, zero, suc, ◌+◌, ◌<◌, ◌≤◌, zero-add, add-one, arith, Bool, true, false, List, [], ◌∷◌, ◌++◌, append_assoc, append-nil, length, take, drop, drop-cons, get_or, map, find, Option, Some, Result, Ok, Err, refl, sym, ap, subst, ◌∙◌}
-use Rattle.std.specs.Prelude.{if◌then◌else◌}
+use Rattle.std.specs.Prelude.{filter, if◌then◌else◌}
 use Rattle.std.specs.List.{AllByRecursion}
 use Rattle.std.proofs.lemmas.List.{drop_all, length-map, take-append-drop, take_more}
 use Rattle.cr_value.specs.declared.value.Value.{Value}
@@ -29,8 +29,7 @@ use Rattle.cr_taken.specs.Taken.{AreKept, Replicates}
 use Rattle.cr_taken.proofs.Tables.{in_profile, kept_well_formed}
 use Rattle.cr_touched.specs.Parts.{is_key_of, part}
 use Rattle.cr_touched.specs.Shown.{AreKeptOf}
-use Rattle.cr_touched.specs.Tables.{of_tables}
-use Rattle.cr_touched.proofs.Tables.{they_show_their_rows}
+use Rattle.cr_pushdown.specs.Passing.{passes, passing}
 use Rattle.cr_world.specs.State.{State, now, rows_named, rows_or, other_rows, table_rows, tables_named}
 use Rattle.cr_sought.specs.declared.joined.Partner.{Partner}
 use Rattle.cr_sought.specs.Lists.{listed_keys}
@@ -41,7 +40,7 @@ use Rattle.cr_sought.proofs.Lists.{joins_by_list}
 use Rattle.cr_session.specs.Joining.{Finds, IsFound, IsFoundIn, IsJoinOf, IsTableOf, IsTold, Suffice}
 use Rattle.cr_session.specs.Lookup.{in_order}
 use Rattle.cr_session.specs.Sessions.{state_of}
-use Rattle.cr_session.proofs.ByTable.{found_passes, is_only}
+use Rattle.cr_session.proofs.ByTable.{found_passes}
 use Rattle.cr_session.proofs.Seeing.{now_kept}
 
 -- ---- one after another
@@ -63,16 +62,27 @@ all_hold P xs i past all = subst (AllByRecursion P) (take_past xs i past) all
 
 -- ---- the rows of one table
 
+-- every row passes where there is no term
+every_passes : (means : Means) (params : List Value) (rs : List Row) → filter (passes means params []) rs ≡ rs
+every_passes means params [] = refl
+every_passes means params (r ∷ rs) = ap (λ (xs : List Row). r ∷ xs) (every_passes means params rs)
+
 -- all rows of the table of the name
-pub found_whole : (params : List Value) (st : State) (q : Query) (j : Joined) (base : ℕ) (ps : List Partner) (tables : List Table) (name : List ℕ) (t : Table)
-    → name ≡ name_of j → find (is_named name) tables ≡ Some t → (found : List Row) → found ≡ table_rows (of_tables (name ∷ []) (now st)) t
+pub found_whole : (means : Means) (params : List Value) (st : State) (q : Query) (j : Joined) (base : ℕ) (ps : List Partner) (tables : List Table) (name : List ℕ) (t : Table)
+    → name ≡ name_of j → find (is_named name) tables ≡ Some t → t.is_replicated ≡ true → (found : List Row) → found ≡ passing means params [] t.definition (now st)
     → IsFoundIn params st tables q j base ps found
-found_whole params st q j base ps tables name t named there found is u other =
+found_whole means params st q j base ps tables name t named there is_replicated found is u other =
     let both : Some t ≡ Some u = sym there ∙ ap (λ (n : List ℕ). find (is_named n) tables) named ∙ other in
     let same : t ≡ u = cc in
-    let of_name : t.definition.name ≡ name = same_is t.definition.name name (found_passes (is_named name) t tables there) in
-    let shown = they_show_their_rows (name ∷ []) t.definition (now st) (is_only name t.definition.name (sym of_name)) in
-    inl (is ∙ ap (λ (rs : List Row). if t.is_replicated then rs else []) shown ∙ ap (table_rows (now st)) same)
+    inl (is ∙ every_passes means params (rows (now st) t.definition) ∙ sym (ap (λ (b : Bool). if b then rows (now st) t.definition else []) is_replicated) ∙ ap (table_rows (now st)) same)
+
+-- a table that is not replicated shows none
+pub found_none : (params : List Value) (st : State) (q : Query) (j : Joined) (base : ℕ) (ps : List Partner) (tables : List Table) (name : List ℕ) (t : Table)
+    → name ≡ name_of j → find (is_named name) tables ≡ Some t → t.is_replicated ≡ false → (found : List Row) → found ≡ [] → IsFoundIn params st tables q j base ps found
+found_none params st q j base ps tables name t named there not_replicated found is u other =
+    let both : Some t ≡ Some u = sym there ∙ ap (λ (n : List ℕ). find (is_named n) tables) named ∙ other in
+    let same : t ≡ u = cc in
+    inl (is ∙ sym (ap (λ (b : Bool). if b then rows (now st) t.definition else []) not_replicated) ∙ ap (table_rows (now st)) same)
 
 -- those of the keys that are told
 pub found_by_keys : (params : List Value) (st : State) (q : Query) (j : Joined) (base : ℕ) (ps : List Partner) (tables : List Table) (name : List ℕ) (t : Table)

@@ -12,6 +12,7 @@ pub mod Bringing
 pub mod ByTable
 pub mod OfTables
 pub mod Passing
+pub mod Scanning
 pub mod OneTable
 pub mod ByKey
 pub mod Joins

@@ -1,19 +1,14 @@
--- What is seen of the rows of a table on which the quiet terms of a WHERE are true.
+-- What is found in what shows of the tables.
 use Rattle.std.proofs.Common.{◌≡◌, List, [], Option, Some, None, Result, Ok, Err, append-nil, sym, ap, subst, ◌∙◌}
 use Rattle.std.specs.Prelude.{MatchResult, option_map}
 use Rattle.std.specs.Option.{option_map_or}
-use Rattle.cr_value.specs.declared.value.Value.{Value}
 use Rattle.cr_lattice.specs.declared.change.Change.{Change}
-use Rattle.cr_lattice.specs.declared.table.TableDef.{TableDef}
 use Rattle.cr_lattice.specs.Keep.{join, keep}
 use Rattle.cr_cells.specs.declared.store.CellsError.{CellsError}
 use Rattle.cr_cells.specs.Calls.{IsRefusal, Reads}
 use Rattle.cr_cells.specs.Holding.{Holding, IsSound, kept_of}
-use Rattle.cr_term.specs.declared.expr.Expr.{Expr}
-use Rattle.cr_scalar.specs.Host.{Host as Means}
-use Rattle.cr_pushdown.specs.Passing.{passing}
 use Rattle.cr_world.specs.State.{now}
-use Rattle.cr_session.specs.Lookup.{SeesPassing}
+use Rattle.cr_session.specs.Joining.{Finds}
 use Rattle.cr_session.specs.Sessions.{SessionOf, standing, state_of}
 use Rattle.cr_session.proofs.Seeing.{now_inside, now_outside}
 
@@ -22,17 +17,19 @@ now_with : {T : Type 0} (h : Holding) → IsSound h → (o : Option (T × List C
 now_with h sound None = now_outside h ∙ sym (ap keep (append-nil (kept_of h)) ∙ sound.kept)
 now_with h sound (Some p) = now_inside h p.1
 
-module _ {C P T : Type 0} (changes : T → List Change) (holding : C → Holding) (self : SessionOf C) (before after : C) (pending : Option (P × List Change))
-    (is : (before, option_map (λ p. p.1) pending) ≡ self) (means : Means) (params : List Value) (terms : List Expr) (def : TableDef) where
-  pub passing_seen : (more : List Change) (result : Result T CellsError) → IsSound (holding before) → more ≡ option_map_or (λ p. p.1) pending []
-      → Reads (holding before) (holding after) result (λ v. changes v ≡ passing means params terms def (join (kept_of (holding before)) more))
-      → SeesPassing changes means params terms def (standing holding self) (standing holding (after, option_map (λ p. p.1) pending)) result
-  passing_seen more result sound with_more reads =
-      subst (λ (s : SessionOf C). SeesPassing changes means params terms def (standing holding s) (standing holding (after, option_map (λ p. p.1) pending)) result) is
-      (record { same = ap (λ (x : Holding). state_of x (option_map (λ p. p.1) pending)) reads.same; sees = by result reads.answers })
+module _ {C P T : Type 0} (IsOf : List Change → T → Type 0) (holding : C → Holding) (self : SessionOf C) (before after : C) (pending : Option (P × List Change))
+    (is : (before, option_map (λ p. p.1) pending) ≡ self) where
+  pub found_there : (more : List Change) (result : Result T CellsError) → IsSound (holding before) → more ≡ option_map_or (λ p. p.1) pending []
+      → Reads (holding before) (holding after) result (IsOf (join (kept_of (holding before)) more))
+      → Finds (IsOf (now (standing holding self))) (standing holding self) (standing holding (after, option_map (λ p. p.1) pending)) result
+  found_there more result sound with_more reads =
+      subst (λ (s : SessionOf C). Finds (IsOf (now (standing holding s))) (standing holding s) (standing holding (after, option_map (λ p. p.1) pending)) result) is
+      (record { same = ap (λ (x : Holding). state_of x (option_map (λ p. p.1) pending)) reads.same; finds = by result reads.answers })
     where
-      by : (result : Result T CellsError) → MatchResult result (λ v. changes v ≡ passing means params terms def (join (kept_of (holding before)) more)) IsRefusal
-          → MatchResult result (λ v. changes v ≡ passing means params terms def (now (state_of (holding before) (option_map (λ p. p.1) pending)))) IsRefusal
-      by (Ok v) e = e ∙ ap (λ (ms : List Change). passing means params terms def (join (kept_of (holding before)) ms)) with_more
-          ∙ ap (passing means params terms def) (sym (now_with (holding before) sound pending))
+      there : join (kept_of (holding before)) more ≡ now (state_of (holding before) (option_map (λ p. p.1) pending))
+      there = ap (λ (ms : List Change). join (kept_of (holding before)) ms) with_more ∙ sym (now_with (holding before) sound pending)
+
+      by : (result : Result T CellsError) → MatchResult result (IsOf (join (kept_of (holding before)) more)) IsRefusal
+          → MatchResult result (IsOf (now (state_of (holding before) (option_map (λ p. p.1) pending)))) IsRefusal
+      by (Ok x) found = subst (λ (cs : List Change). IsOf cs x) there found
       by (Err f) refused = refused

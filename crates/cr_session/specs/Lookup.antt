@@ -26,7 +26,6 @@ use Rattle.cr_snapshot.specs.Seen.{IsNamed, IsSeen}
 use Rattle.cr_taken.specs.Taken.{replicated}
 use Rattle.cr_touched.specs.Parts.{is_key_of, part}
 use Rattle.cr_touched.specs.Tables.{is_name_of, of_tables}
-use Rattle.cr_pushdown.specs.Passing.{passing}
 use Rattle.cr_language.specs.Sql.{view}
 use Rattle.cr_world.specs.declared.refusal.Refusal.{Refusal}
 use Rattle.cr_world.specs.State.{State, changes_name, now}
@@ -82,36 +81,6 @@ pub record IsSeenAt (st : State) (name : List ℕ) (keys : List (List ℕ)) (s :
 abbrev pub IsLook : Means → List Value → State → List ℕ → List Expr → Snapshot → Type 0
 IsLook means params st name terms s =
     ShowsTables st (name ∷ []) s ⊎ ((keys : List (List ℕ)) × IsSought means params st.pending st.holding.tables name terms keys × IsSeenAt st name keys s)
-
--- ---- rows that pass
-
--- a reading leaves a session where it stands, and gives what shows there of the rows of a table on which each quiet term is true
-pub record SeesPassing {T : Type 0} (changes : T → List Change) (means : Means) (params : List Value) (terms : List Expr) (def : TableDef) (old new : State) (result : Result T CellsError) : Type 0 where
-  pub same : new ≡ old
-  pub sees : MatchResult result (λ kept. changes kept ≡ passing means params terms def (now old)) IsRefusal
-
--- The replicated table of a name, where the changes of the open transaction are well formed for the tables.
-pub record IsFiltered (pending : Option (List Change)) (tables : List Table) (name : List ℕ) (t : Table) : Type 0 where
-  pub fit : ForSome pending (AreWellFormed tables)
-  pub def : TableDef
-  pub there : find (is_named name) tables ≡ Some (replicated def)
-  pub is : t ≡ replicated def
-
--- The snapshot has the names of a session that stands there, and of the rows of a replicated table on which each quiet term is true
--- what shows there.
-pub record IsSeenPassing (means : Means) (params : List Value) (st : State) (name : List ℕ) (terms : List Expr) (s : Snapshot) : Type 0 where
-  pub named : IsNamed st s
-  pub table : Table
-  pub filtered : IsFiltered st.pending st.holding.tables name table
-  pub kept : s.kept ≡ passing means params terms table.definition (now st)
-
--- It has what shows there of the table of the name, or of the rows that pass.
-abbrev pub IsFilteredLook : Means → List Value → State → List ℕ → List Expr → Snapshot → Type 0
-IsFilteredLook means params st name terms s = ShowsTables st (name ∷ []) s ⊎ IsSeenPassing means params st name terms s
-
--- It has that, or what shows there of the keys that the terms tell.
-abbrev pub IsQueryLook : Means → List Value → State → List ℕ → List Expr → Snapshot → Type 0
-IsQueryLook means params st name terms s = IsLook means params st name terms s ⊎ IsSeenPassing means params st name terms s
 
 -- ---- what is new
 

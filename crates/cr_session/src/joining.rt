@@ -21,7 +21,7 @@ use cr_sought::joined::{
 };
 use cr_sought::listed::listed_keys;
 use cr_term::query::{Joined, Query};
-use cr_value::text::{Bytes, Text};
+use cr_value::text::Bytes;
 use cr_value::value::Value;
 use std::alloc::{AllocError, Global};
 
@@ -134,12 +134,11 @@ fn push(seen: &mut Vec<Items<Row>>, rows: Items<Row>) -> Result<(), AllocError>
 }
 
 impl<C: Cells> Session<C> {
-    ghost use Rattle.std.specs.Prelude.{◌≡◌, ◌∷◌, [], IsTrue};
+    ghost use Rattle.std.specs.Prelude.{◌≡◌, IsTrue};
     ghost use Rattle.cr_cells.specs.Calls.{is_want, StaysClean};
     ghost use Rattle.cr_cells.specs.Holding.{IsSound};
     ghost use Rattle.cr_scalar.specs.Host.{Host as Means};
     ghost use Rattle.cr_touched.specs.Parts.{is_key_of, part};
-    ghost use Rattle.cr_touched.specs.Tables.{of_tables};
     ghost use Rattle.cr_world.specs.State.{now, table_rows};
     ghost use Rattle.cr_session.specs.Joining.{Finds, IsFoundIn, IsJoinOf, Suffice};
     ghost use Rattle.cr_session.specs.Sessions.{standing};
@@ -181,32 +180,11 @@ impl<C: Cells> Session<C> {
         Ok(table_rows(alloc, &kept, table)?)
     }
 
-    // The rows that show of a table.
-    fn see_rows_of_table(
-        &mut self,
-        alloc: Global,
-        table: &Table,
-        name: &str,
-    ) -> Result<Items<Row>, CellsError>
-        requires sound { C.is_clean self.old.0 → IsSound (C.holding self.old.0) }
-        ensures device { StaysClean C.is_honest C.is_clean is_want self.old.0 self.new.0 result }
-        ensures finds { C.is_clean self.new.0
-            → Finds (λ rows. rows ≡ table_rows (of_tables (name.now ∷ []) (now (standing C.holding self.old))) table.now) (standing C.holding self.old) (standing C.holding self.new) result }
-    {
-        // a first step that cannot fail, from which the proof of the looks below sets out
-        let _ = self.pending.is_some();
-        let name = Text::from_str(alloc, name)?;
-        let kept = match self.see_changes(alloc, &[name]) {
-            Ok(kept) => kept,
-            Err(error) => return Err(error),
-        };
-        Ok(table_rows(alloc, &kept, table)?)
-    }
-
     // The rows that show of a table that is joined, or those whose keys the terms of the query tell beside these partners.
-    fn see_rows(
+    fn see_rows<F: Functions>(
         &mut self,
         alloc: Global,
+        functions: &F,
         tables: &[Table],
         query: &Query,
         joined: &Joined,
@@ -214,6 +192,7 @@ impl<C: Cells> Session<C> {
         partners: &[Partner],
         params: &[Value],
     ) -> Result<Items<Row>, CellsError>
+        requires functions { F.is_faithful functions.now }
         requires sound { C.is_clean self.old.0 → IsSound (C.holding self.old.0) }
         ensures device { StaysClean C.is_honest C.is_clean is_want self.old.0 self.new.0 result }
         ensures finds { C.is_clean self.new.0
@@ -223,26 +202,29 @@ impl<C: Cells> Session<C> {
         let Some(table) = table_named(tables, name) else {
             return Ok(Items::new(Vec::new(alloc)));
         };
-        if table.is_replicated {
-            let definition = &table.definition;
-            if let Some(keys) = told(alloc, definition, query, joined, base, partners, params)? {
-                return self.see_rows_of_keys(alloc, table, name, &keys);
-            }
+        if !table.is_replicated {
+            return Ok(Items::new(Vec::new(alloc)));
         }
-        self.see_rows_of_table(alloc, table, name)
+        let definition = &table.definition;
+        match told(alloc, definition, query, joined, base, partners, params)? {
+            Some(keys) => self.see_rows_of_keys(alloc, table, name, &keys),
+            None => self.see_passing(alloc, functions, definition, &[], params),
+        }
     }
 
     /// The rows of each table of a query in the order of FROM, or some of them that answer it alike.
     ///
     /// # Errors
     /// `Memory`, or `Store(Refused)`.
-    pub(crate) fn see_join(
+    pub(crate) fn see_join<F: Functions>(
         &mut self,
         alloc: Global,
+        functions: &F,
         tables: &[Table],
         query: &Query,
         params: &[Value],
     ) -> Result<Vec<Items<Row>>, CellsError>
+        requires functions { F.is_faithful functions.now }
         requires sound { C.is_clean self.old.0 → IsSound (C.holding self.old.0) }
         requires named { C.is_clean self.old.0 → tables.now ≡ (C.holding self.old.0).tables }
         ensures device { StaysClean C.is_honest C.is_clean is_want self.old.0 self.new.0 result }
@@ -253,7 +235,9 @@ impl<C: Cells> Session<C> {
         let mut partners = first_partner(alloc)?;
         let mut base: usize = 0;
         for joined in query.joined.as_slice() {
-            let rows = match self.see_rows(alloc, tables, query, joined, base, &partners, params) {
+            let rows = match self.see_rows(
+                alloc, functions, tables, query, joined, base, &partners, params,
+            ) {
                 Ok(rows) => rows,
                 Err(error) => return Err(error),
             };

@@ -1,6 +1,7 @@
 //! What a statement of one table sees: what is kept of some keys, where its WHERE tells the keys of the only rows that it can be
 //! about, and else what is kept of the table. A query of the table of changes that wants those above a version sees these.
 
+use crate::filtering::Seen;
 use crate::session::Session;
 use cr_cells::store::{Cells, CellsError};
 use cr_cells::tables::table_named;
@@ -32,8 +33,10 @@ impl<C: Cells> Session<C> {
     ghost use Rattle.cr_lattice.specs.Keep.{keep};
     ghost use Rattle.cr_replica.specs.Snapshots.{IsOfNames};
     ghost use Rattle.cr_snapshot.specs.Seen.{IsNamed, catalog_of};
-    ghost use Rattle.cr_session.specs.Lookup.{IsLook, IsNewest, IsQueryLook, IsSeenAbove, IsSeenAt, IsSought, Looks, ShowsDelete, ShowsQuery, ShowsUpdate};
+    ghost use Rattle.cr_session.specs.Joining.{Finds};
+    ghost use Rattle.cr_session.specs.Lookup.{IsLook, IsNewest, IsSeenAbove, IsSeenAt, IsSought, Looks, ShowsDelete, ShowsUpdate};
     ghost use Rattle.cr_session.specs.Performing.{is_table, not_replicated};
+    ghost use Rattle.cr_session.specs.Scans.{IsQueryLook, Serves};
     ghost use Rattle.cr_session.specs.Sessions.{standing};
     ghost use Rattle.cr_world.specs.Causes.{Free};
 
@@ -113,33 +116,33 @@ impl<C: Cells> Session<C> {
         }
     }
 
-    // What a query of the table of a name sees whose WHERE has these terms.
+    // What a query of the table of a name alone sees.
     fn look_once<F: Functions>(
         &mut self,
         alloc: Global,
         functions: &F,
         names: Snapshot,
         name: &str,
-        terms: &[Expr],
+        query: &Query,
         params: &[Value],
-    ) -> Result<Snapshot, CellsError>
+    ) -> Result<Seen, CellsError>
         requires functions { F.is_faithful functions.now }
         requires sound { C.is_clean self.old.0 → IsSound (C.holding self.old.0) }
         requires named { C.is_clean self.old.0 → IsNamed (standing C.holding self.old) names }
         ensures device { StaysClean C.is_honest C.is_clean is_want self.old.0 self.new.0 result }
-        ensures looks { C.is_clean self.new.0
-            → Looks (IsQueryLook (⟦<F as Hosted>⟧.means functions.now) params.now (standing C.holding self.old) name.now terms.now) (standing C.holding self.old) (standing C.holding self.new) result }
+        ensures finds { C.is_clean self.new.0
+            → Finds (IsQueryLook (⟦<F as Hosted>⟧.means functions.now) params.now (standing C.holding self.old) name.now query.now) (standing C.holding self.old) (standing C.holding self.new) result }
     {
         match self.sought(
             alloc,
             functions,
             names.tables.as_slice(),
             name,
-            terms,
+            query.filter.as_slice(),
             params,
         )? {
-            Some(keys) => self.see_at(alloc, names, name, &keys),
-            None => self.look_filtered(alloc, functions, names, name, terms, params),
+            Some(keys) => self.see_at(alloc, names, name, &keys).map(Seen::Kept),
+            None => self.look_filtered(alloc, functions, names, name, query, params),
         }
     }
 
@@ -189,8 +192,8 @@ impl<C: Cells> Session<C> {
     }
 
     /// What a query sees: of one table whose WHERE tells the keys of its rows, what is kept of these; of the table of changes alone,
-    /// whose WHERE tells a version, what is stamped above it; of another table alone what is kept of the rows on which its quiet
-    /// terms are true; else what is kept of the tables that it names.
+    /// whose WHERE tells a version, what is stamped above it; of another replicated table alone the rows on which its quiet terms are
+    /// true, or the answer; else what is kept of the tables that it names.
     pub(crate) fn look_for_query<F: Functions>(
         &mut self,
         alloc: Global,
@@ -198,26 +201,30 @@ impl<C: Cells> Session<C> {
         names: Snapshot,
         query: &Query,
         params: &[Value],
-    ) -> Result<Snapshot, CellsError>
+    ) -> Result<Seen, CellsError>
         requires functions { F.is_faithful functions.now }
         requires sound { C.is_clean self.old.0 → IsSound (C.holding self.old.0) }
         requires named { C.is_clean self.old.0 → IsNamed (standing C.holding self.old) names }
         ensures device { StaysClean C.is_honest C.is_clean is_want self.old.0 self.new.0 result }
-        ensures looks { C.is_clean self.new.0
-            → Looks (ShowsQuery (⟦<F as Hosted>⟧.means functions.now) params.now query.now (standing C.holding self.old)) (standing C.holding self.old) (standing C.holding self.new) result }
+        ensures finds { C.is_clean self.new.0
+            → Finds (Serves (⟦<F as Hosted>⟧.means functions.now) params.now query.now (standing C.holding self.old)) (standing C.holding self.old) (standing C.holding self.new) result }
     {
         let [joined] = query.joined.as_slice() else {
-            return self.see_joined(alloc, names, query.joined.as_slice());
+            return self
+                .see_joined(alloc, names, query.joined.as_slice())
+                .map(Seen::Kept);
         };
         if joined.is_left || !joined.on.as_slice().is_empty() {
-            return self.see_joined(alloc, names, query.joined.as_slice());
+            return self
+                .see_joined(alloc, names, query.joined.as_slice())
+                .map(Seen::Kept);
         }
         let name = joined.relation.definition.name.as_str();
         let terms = query.filter.as_slice();
         let tables = names.tables.as_slice();
         match self.newest(alloc, functions, tables, name, terms, params)? {
-            Some(version) => self.see_above(alloc, names, version),
-            None => self.look_once(alloc, functions, names, name, terms, params),
+            Some(version) => self.see_above(alloc, names, version).map(Seen::Kept),
+            None => self.look_once(alloc, functions, names, name, query, params),
         }
     }
 

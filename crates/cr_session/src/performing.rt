@@ -13,6 +13,7 @@ ghost use Rattle.cr_session.specs.Joining.{Suffice};
 ghost use Rattle.cr_session.specs.Lookup.{ShowsQuery};
 ghost use Rattle.cr_session.specs.Performing.{Passes, Performs, not_replicated};
 
+use crate::filtering::Seen;
 use crate::session::Session;
 use cr_answer::selecting::{answer_query, answer_view};
 use cr_cells::store::Cells;
@@ -156,7 +157,7 @@ impl<C: Cells> Session<C> {
         requires join { IsJoinOf (⟦<F as Hosted>⟧.means functions.now) self.old.1 names.now.tables query.now }
         ensures { (host : Host) → Performed (⟦<F as Hosted>⟧.means functions.now) params.now host (honest C.is_honest) (clean C.is_clean) (standing C.holding) self.old (r.Select query.now) result self.new }
     {
-        match self.see_join(alloc, names.tables.as_slice(), query, params) {
+        match self.see_join(alloc, functions, names.tables.as_slice(), query, params) {
             Ok(tables) => answered_over(alloc, functions, &tables, query, params),
             Err(error) => Err(Refusal::from(error)),
         }
@@ -180,7 +181,9 @@ impl<C: Cells> Session<C> {
             return self.select_join(alloc, functions, &names, query, params);
         }
         match self.look_for_query(alloc, functions, names, query, params) {
-            Ok(snapshot) => answered(alloc, functions, &snapshot, query, params),
+            Ok(Seen::Kept(snapshot)) => answered(alloc, functions, &snapshot, query, params),
+            Ok(Seen::Rows(rows)) => answered_over(alloc, functions, &[rows], query, params),
+            Ok(Seen::Answer(answer)) => Ok(Reply::Rows(answer)),
             Err(error) => Err(Refusal::from(error)),
         }
     }

@@ -169,7 +169,8 @@ impl<C: Cells> Session<C> {
 
     // Whether the changes of the open transaction are well formed for these tables; outside of transactions there are none.
     pub(crate) fn is_of(&self, tables: &[Table]) -> bool
-        ensures { IsTrue result → ForSome self.now.1 (AreWellFormed tables.now) }
+        ensures well_formed { IsTrue result → ForSome self.now.1 (AreWellFormed tables.now) }
+        ensures outside { self.now.1 ≡ None → result ≡ true }
     {
         match &self.pending {
             Some(pending) => pending.is_of(tables),

@@ -27,7 +27,7 @@ const TABLES: [&str; 6] = [
     "INSERT INTO u VALUES(1, 2), (2, 3)",
 ];
 
-const STATEMENTS: [&str; 24] = [
+const STATEMENTS: [&str; 27] = [
     "SELECT name FROM t WHERE id = 2",
     "SELECT name FROM t WHERE 2 = id AND name = 'x'",
     "SELECT name FROM t WHERE id > 2",
@@ -36,6 +36,8 @@ const STATEMENTS: [&str; 24] = [
     "SELECT name FROM t WHERE id IN (2, NULL) AND length(name) = 1",
     "SELECT name FROM t WHERE length(name) = 1 AND id IN (2, NULL)",
     "SELECT name FROM t WHERE id NOT IN (1, 2)",
+    "SELECT count(*), max(id), sum(id) FROM t",
+    "SELECT sum(name) FROM t",
     "SELECT t.name FROM u JOIN t ON t.id = u.t WHERE u.id = 1",
     "SELECT t.name FROM u JOIN t ON t.id = u.t WHERE u.id IN (1, 7)",
     "SELECT t.name FROM u JOIN t ON t.id = u.t",
@@ -45,6 +47,7 @@ const STATEMENTS: [&str; 24] = [
     "UPDATE t SET name = 'e' WHERE id IN (1, 2, 9)",
     "DELETE FROM t WHERE id = 9",
     "DELETE FROM t WHERE id IN (8, 9)",
+    "DELETE FROM t WHERE name = 'z'",
     "BEGIN",
     "INSERT INTO t VALUES(4, 'e')",
     "SELECT name FROM t WHERE id = 4",

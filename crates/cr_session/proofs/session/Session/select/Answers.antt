@@ -1,14 +1,44 @@
-use Rattle.std.proofs.Common.{refl}
+use Rattle.std.proofs.Common.{List, Ok, map, refl, subst}
 use Rattle.cr_term.specs.declared.query.Resolved.TheVariants as r
+use Rattle.cr_query.specs.Query.{Row}
+use Rattle.cr_scalar.specs.Host.{Host as Means, host}
+use Rattle.cr_snapshot.specs.Seen.{name_of}
+use Rattle.cr_world.specs.State.{tables_named}
+use Rattle.cr_session.specs.Scans.{Serves}
+use Rattle.cr_session.specs.Sessions.{standing}
 use Rattle.cr_session.proofs.Looking.{looks, unseen}
+use Rattle.cr_session.proofs.Selecting.{performs_select}
 use Rattle.cr_session.proofs.session.Session.select.Goals as goal
 
-pub returns-in-Ok : goal.returns-in-Ok
-returns-in-Ok g c = λ host.
-    looks _ c.args.params.now host g.C.Cells.is_honest g.C.Cells.is_clean g.C.Cells.holding c.args.self.now c.look_for_query.new.self (r.Select c.args.query.now) c.look_for_query.ensures.device.was_honest c.look_for_query.ensures.device.was_clean (λ clean. (c.in-Ok.ensures.looks clean).same)
-    c.answered.result c.in-Ok.ensures.device.stays_clean (λ clean. c.answered.ensures host _ (c.in-Ok.ensures.looks clean).looks)
+pub returns-in-Ok-Kept : goal.returns-in-Ok-Kept
+returns-in-Ok-Kept g c = λ for.
+    let by : Means = host (g.F.Functions.function_of c.args.functions.now) (g.F.Functions.scalar c.args.functions.now) (g.F.Functions.step c.args.functions.now) (g.F.Functions.finish c.args.functions.now) (g.F.Functions.order_of c.args.functions.now) in
+    let st = standing g.C.Cells.holding c.args.self.now in
+    looks by c.args.params.now for g.C.Cells.is_honest g.C.Cells.is_clean g.C.Cells.holding c.args.self.now c.look_for_query.new.self (r.Select c.args.query.now) c.look_for_query.ensures.device.was_honest c.look_for_query.ensures.device.was_clean (λ clean. (c.in-Ok-Kept.ensures.finds clean).same)
+    c.answered.result c.in-Ok-Kept.ensures.device.stays_clean
+    (λ clean. c.answered.ensures for _ (subst (Serves by c.args.params.now c.args.query.now st) c.in-Ok-Kept.field-0-is (c.in-Ok-Kept.ensures.finds clean).finds))
+
+pub returns-in-Ok-Rows : goal.returns-in-Ok-Rows
+returns-in-Ok-Rows g c = λ for.
+    let by : Means = host (g.F.Functions.function_of c.args.functions.now) (g.F.Functions.scalar c.args.functions.now) (g.F.Functions.step c.args.functions.now) (g.F.Functions.finish c.args.functions.now) (g.F.Functions.order_of c.args.functions.now) in
+    let st = standing g.C.Cells.holding c.args.self.now in
+    looks by c.args.params.now for g.C.Cells.is_honest g.C.Cells.is_clean g.C.Cells.holding c.args.self.now c.look_for_query.new.self (r.Select c.args.query.now) c.look_for_query.ensures.device.was_honest c.look_for_query.ensures.device.was_clean (λ clean. (c.in-Ok-Rows.ensures.finds clean).same)
+    c.answered_over.result c.in-Ok-Rows.ensures.device.stays_clean
+    (λ clean. c.answered_over.ensures for _ (subst (Serves by c.args.params.now c.args.query.now st) c.in-Ok-Rows.field-0-is (c.in-Ok-Rows.ensures.finds clean).finds))
+
+pub returns-in-Ok-Answer : goal.returns-in-Ok-Answer
+returns-in-Ok-Answer g c = λ for.
+    let by : Means = host (g.F.Functions.function_of c.args.functions.now) (g.F.Functions.scalar c.args.functions.now) (g.F.Functions.step c.args.functions.now) (g.F.Functions.finish c.args.functions.now) (g.F.Functions.order_of c.args.functions.now) in
+    let st = standing g.C.Cells.holding c.args.self.now in
+    let tables : List (List Row) = tables_named st (map name_of c.args.query.now.joined) in
+    looks by c.args.params.now for g.C.Cells.is_honest g.C.Cells.is_clean g.C.Cells.holding c.args.self.now c.look_for_query.new.self (r.Select c.args.query.now) c.look_for_query.ensures.device.was_honest c.look_for_query.ensures.device.was_clean (λ clean. (c.in-Ok-Answer.ensures.finds clean).same)
+    _ c.in-Ok-Answer.ensures.device.stays_clean
+    (λ clean. performs_select by c.args.params.now for st tables c.args.query.now (λ most limit. refl) (Ok c.in-Ok-Answer.answer) _
+    (subst (Serves by c.args.params.now c.args.query.now st) c.in-Ok-Answer.field-0-is (c.in-Ok-Answer.ensures.finds clean).finds) refl)
 
 pub returns-in-Err : goal.returns-in-Err
-returns-in-Err g c = λ host.
-    unseen _ c.args.params.now host g.C.Cells.is_honest g.C.Cells.is_clean g.C.Cells.holding c.args.self.now c.look_for_query.new.self (r.Select c.args.query.now) c.look_for_query.ensures.device.was_honest c.look_for_query.ensures.device.was_clean (λ clean. (c.in-Err.ensures.looks clean).same)
-    c.in-Err.error c.from.result c.from.ensures refl c.in-Err.ensures.device.stays_clean (λ clean. (c.in-Err.ensures.looks clean).looks)
+returns-in-Err g c = λ for.
+    let by : Means = host (g.F.Functions.function_of c.args.functions.now) (g.F.Functions.scalar c.args.functions.now) (g.F.Functions.step c.args.functions.now) (g.F.Functions.finish c.args.functions.now) (g.F.Functions.order_of c.args.functions.now) in
+    let st = standing g.C.Cells.holding c.args.self.now in
+    unseen by c.args.params.now for g.C.Cells.is_honest g.C.Cells.is_clean g.C.Cells.holding c.args.self.now c.look_for_query.new.self (r.Select c.args.query.now) c.look_for_query.ensures.device.was_honest c.look_for_query.ensures.device.was_clean (λ clean. (c.in-Err.ensures.finds clean).same)
+    c.in-Err.error c.from.result c.from.ensures refl c.in-Err.ensures.device.stays_clean (λ clean. (c.in-Err.ensures.finds clean).finds)

@@ -14,6 +14,6 @@ returns-clause-tells g c =
     let at = c.events.ensures.device.was_clean k in
     let named = c.in-Ok.ensures.names at in
     all_told g.C.Cells.holding (λ events. HasHeard (g.G.Guarding.noted c.args.guard.now) (g.G.Guarding.noted_with c.args.guard.now) (g.G.Guarding.noted c.tell.new.self) events) c.args.self.now c.names.new.self c.as_slice-tables.result.now c.args.changes.now c.deref.result.now c.deref-2.result.now
-    (c.names.ensures.sound at) named.same (c.as_slice-tables.ensures ∙ named.names.tables) (c.is_of.ensures c.if-not-is_of.false) c.in_ok-check_changes.ensures.ok (c.deref.ensures.value ∙ c.in_ok-touched.ensures) (c.deref-2.ensures.value ∙ c.in-Ok-events.ensures.finds k)
+    (c.names.ensures.sound at) named.same (c.as_slice-tables.ensures ∙ named.names.tables) (c.is_of.ensures.well_formed c.if-not-is_of.false) c.in_ok-check_changes.ensures.ok (c.deref.ensures.value ∙ c.in_ok-touched.ensures) (c.deref-2.ensures.value ∙ c.in-Ok-events.ensures.finds k)
     (told_as (g.G.Guarding.noted c.args.guard.now) (g.G.Guarding.noted_with c.args.guard.now) (g.G.Guarding.noted c.tell.new.self) c.deref-2.result.now (sym c.listens.ensures ∙ c.if-not-listens.false)
     (λ e. ap g.G.Guarding.noted (c.tell.ensures.none e).1) c.in_ok-tell.ensures.ok))

@@ -1,0 +1,38 @@
+-- Lists of aggregates, one more at a time.
+use Rattle.std.proofs.Common.{◌≡◌, arith, true, List, [], ◌∷◌, ◌++◌, length, refl, subst}
+use Rattle.std.specs.Bool.{◌==◌}
+use Rattle.std.proofs.lemmas.Bool.{eqb-true}
+use Rattle.std.specs.List.{AllByRecursion, AllZip}
+use Rattle.cr_term.specs.declared.query.ResultColumn.{ResultColumn}
+use Rattle.cr_query.specs.Query.{Row}
+use Rattle.cr_scalar.specs.Host.{Host as Means}
+use Rattle.cr_tally.specs.declared.tally.Tally.{Tally}
+use Rattle.cr_tally.specs.Tallies.{Step, TellAll}
+use Rattle.cr_tally.specs.Queries.{TellsFrom}
+
+pub zip-append : {A B : Type 0} (R : A → B → Type 0) (xs : List A) (ys : List B) (x : A) (y : B) → AllZip R xs ys → R x y → AllZip R (xs ++ x ∷ []) (ys ++ y ∷ [])
+zip-append R [] [] x y all one = (one, tt)
+zip-append R [] (z ∷ zs) x y all one = absurd all
+zip-append R (z ∷ zs) [] x y all one = absurd all
+zip-append R (z ∷ zs) (w ∷ ws) x y all one = (all.0, zip-append R zs ws x y all.1 one)
+
+pub all-append : {A : Type 0} (P : A → Type 0) (xs ys : List A) → AllByRecursion P xs → AllByRecursion P ys → AllByRecursion P (xs ++ ys)
+all-append P [] ys all more = more
+all-append P (x ∷ xs) ys all more = (all.0, all-append P xs ys all.1 more)
+
+-- each steps on
+pub steps_on : (means : Means) (more rows : List Row) (results : List ResultColumn) (ts us : List Tally) → AllZip (Step means more) ts us → TellAll means results rows ts → TellAll means results (rows ++ more) us
+steps_on means more rows [] [] [] steps tell = tt
+steps_on means more rows [] [] (u ∷ us) steps tell = absurd steps
+steps_on means more rows [] (t ∷ ts) us steps tell = absurd tell
+steps_on means more rows (c ∷ cs) [] us steps tell = absurd tell
+steps_on means more rows (c ∷ cs) (t ∷ ts) [] steps tell = absurd steps
+steps_on means more rows (c ∷ cs) (t ∷ ts) (u ∷ us) steps tell = (steps.0 c.expr rows tell.0, steps_on means more rows cs ts us steps.1 tell.1)
+
+pub told_on : (means : Means) (first ts us : List Tally) (rows more page : List Row) → page ≡ more → TellsFrom means first rows ts → AllZip (Step means page) ts us → TellsFrom means first (rows ++ more) us
+told_on means first ts us rows more page same tells steps results begin =
+    steps_on means more rows results ts us (subst (λ (rs : List Row). AllZip (Step means rs) ts us) same steps) (tells results begin)
+
+pub empty_is : {X : Type 0} (xs : List X) → (length xs == 0) ≡ true → xs ≡ []
+empty_is [] none = refl
+empty_is (x ∷ xs) none = let e = eqb-true (length (x ∷ xs)) 0 none in absurd (omega (arith, e))

@@ -1,0 +1,146 @@
+//! What a SELECT of one table answers whose results are aggregates of columns.
+
+ghost use Rattle.std.specs.Prelude.{◌≡◌, IfOk, IsTrue};
+ghost use Rattle.std.specs.List.{list_all};
+ghost use Rattle.std.specs.Option.{ForSome};
+ghost use Rattle.cr_bags.specs.Bags.{single};
+ghost use Rattle.cr_cells.specs.Calls.{Reads, is_want, StaysClean};
+ghost use Rattle.cr_cells.specs.Holding.{kept_of};
+ghost use Rattle.cr_exec.specs.Answers.{IsBoth};
+ghost use Rattle.cr_lattice.specs.Keep.{join};
+ghost use Rattle.cr_lattice.specs.Rows.{rows};
+ghost use Rattle.cr_query.specs.Query.{answer};
+ghost use Rattle.cr_term.specs.Terms.{quiet};
+ghost use Rattle.cr_meaning.specs.View as view;
+ghost use Rattle.cr_pushdown.specs.Passing.{passing};
+ghost use Rattle.cr_tally.specs.Queries.{Finishes, IsOfAggregates, IsOfOneTable, TellsFrom};
+
+use crate::tallies::{tallies_of, values_of, with_rows};
+use crate::tally::Tally;
+use cr_cells::store::{Cells, CellsError, StoreFault};
+use cr_exec::order::finished;
+use cr_exec::show::Shown;
+use cr_expr::given::Hosted;
+use cr_expr::quiet::is_quiet;
+use cr_host::functions::Functions;
+use cr_lattice::change::Change;
+use cr_lattice::table::{Items, Row, TableDef};
+use cr_pushdown::scan::{MOST_PAGES, Scan, own_changes};
+use cr_replica::replica::Replica;
+use cr_term::expr::Expr;
+use cr_term::query::Query;
+use cr_value::value::Value;
+use std::alloc::{AllocError, Global};
+
+fn are_quiet(terms: &[Expr]) -> bool
+    ensures { result ≡ list_all quiet terms.now }
+{
+    terms.iter().all(|term| is_quiet(term))
+}
+
+// Whether a query has one group of the rows on which quiet terms are true, and evaluates nothing else than its results.
+fn is_of_aggregates(query: &Query) -> bool
+    ensures { IsTrue result → IsOfAggregates query.now }
+{
+    query.is_grouped
+        && query.groups.as_slice().is_empty()
+        && query.having.is_none()
+        && query.order.as_slice().is_empty()
+        && are_quiet(query.filter.as_slice())
+}
+
+// What aggregates give of the rows of a table on which each quiet term is true, behind the rows that they have seen.
+fn tallied<'q, C: Cells, F: Functions>(
+    alloc: Global,
+    replica: &mut Replica<C>,
+    functions: &F,
+    def: &TableDef,
+    changes: &[Change],
+    mut tallies: Vec<Tally<'q>>,
+    terms: &[Expr],
+    params: &[Value],
+) -> Result<Option<Vec<Tally<'q>>>, CellsError>
+    requires functions { F.is_faithful functions.now }
+    ensures device { StaysClean C.is_honest C.is_clean is_want replica.old replica.new result }
+    ensures reads { C.is_clean replica.new → Reads (C.holding replica.old) (C.holding replica.new) result
+        (λ o. ForSome o (λ v. TellsFrom (⟦<F as Hosted>⟧.means functions.now) tallies.entry.items (passing (⟦<F as Hosted>⟧.means functions.now) params.now terms.now def.now (join (kept_of (C.holding replica.old)) changes.now)) v.items)) }
+{
+    let own = own_changes(alloc, def, changes)?;
+    let mut scan = Scan::new(def, &own);
+    for _ in 0..MOST_PAGES {
+        if scan.is_at_end() {
+            return Ok(Some(tallies));
+        }
+        let page = match scan.next_page(alloc, replica, functions, terms, params) {
+            Ok(page) => page,
+            Err(error) => return Err(error),
+        };
+        match with_rows(alloc, functions, tallies, &page) {
+            Ok(Some(next)) => tallies = next,
+            Ok(None) => return Ok(None),
+            Err(_) => return Err(CellsError::Memory),
+        }
+    }
+    Err(CellsError::Store(StoreFault::Refused))
+}
+
+// The rows that a query answers whose one group shows these values.
+fn answer_of<F: Functions>(
+    alloc: Global,
+    functions: &F,
+    query: &Query,
+    tallies: Vec<Tally<'_>>,
+) -> Result<Option<Items<Row>>, AllocError>
+    requires { F.is_faithful functions.now }
+    ensures { IfOk result (λ o. ForSome o (λ answer. Finishes (⟦<F as Hosted>⟧.means functions.now) query.now tallies.entry.items answer)) }
+{
+    let Some(row) = values_of(alloc, tallies)? else {
+        return Ok(None);
+    };
+    let mut shown = Vec::new(alloc);
+    shown.push(Shown {
+        row,
+        keys: Items::new(Vec::new(alloc)),
+    })?;
+    Ok(Some(Items::new(finished(alloc, query, shown, functions)?)))
+}
+
+/// What a SELECT of one table answers: of what is kept, and with it of further changes, as those of an open transaction, in any order
+/// and of any tables. `None` where its results are not all aggregates of a column, or of no arguments, that SQLite has, where it has
+/// GROUP BY, HAVING, ORDER BY or a term that is not quiet, where a value is over the limit of 1,000,000 bytes, and where an aggregate
+/// has a fault. The table is read page by page, and beside a page one value is held for each aggregate.
+///
+/// `params` are the parameters' values, from number 1 on.
+///
+/// # Errors
+/// `Memory`, or `Store(Refused)`.
+pub fn answer_by_tallies<C: Cells, F: Functions>(
+    alloc: Global,
+    replica: &mut Replica<C>,
+    functions: &F,
+    def: &TableDef,
+    changes: &[Change],
+    query: &Query,
+    params: &[Value],
+) -> Result<Option<Items<Row>>, CellsError>
+    requires functions { F.is_faithful functions.now }
+    ensures device { StaysClean C.is_honest C.is_clean is_want replica.old replica.new result }
+    ensures reads { C.is_clean replica.new → Reads (C.holding replica.old) (C.holding replica.new) result
+        (λ o. ForSome o (λ rs. IsOfOneTable query.now
+        → IsBoth (⟦<F as Hosted>⟧.means functions.now) params.now (λ m. answer m (view.query query.now) (single (rows (join (kept_of (C.holding replica.old)) changes.now) def.now))) rs)) }
+{
+    if !is_of_aggregates(query) {
+        return Ok(None);
+    }
+    let Some(tallies) = tallies_of(alloc, functions, query.results.as_slice())? else {
+        return Ok(None);
+    };
+    let terms = query.filter.as_slice();
+    match tallied(
+        alloc, replica, functions, def, changes, tallies, terms, params,
+    ) {
+        Ok(Some(tallies)) => Ok(answer_of(alloc, functions, query, tallies)?),
+        Ok(None) => Ok(None),
+        Err(error) => Err(error),
+    }
+}

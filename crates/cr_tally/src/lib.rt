@@ -1,0 +1,6 @@
+//! SELECTs whose results are aggregates of columns, without GROUP BY: of the rows of their table one value for each aggregate is held.
+#![tactic(auto)]
+
+pub mod answer;
+pub mod tallies;
+pub mod tally;

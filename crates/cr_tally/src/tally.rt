@@ -1,0 +1,264 @@
+//! An aggregate of a column: what it gives of the rows that were seen so far.
+
+ghost use Rattle.std.specs.Prelude.{◌≡◌, ◌∷◌, ◌++◌, [], true, false, IsTrue, List, Ok, IfOk};
+ghost use Rattle.cr_value.specs.declared.value.Value.{Value as Content};
+ghost use Rattle.std.specs.Option.{ForSome};
+ghost use Rattle.cr_scalar.specs.Meaning.{bounded, byte_limit};
+ghost use Rattle.cr_tally.specs.Tallies.{ArgumentsOf, IsPlace, arguments, gives, is_built_in, is_count, AreSmall};
+
+use cr_expr::given::Hosted;
+use cr_host::functions::Functions;
+use cr_lattice::table::{Items, Row};
+use cr_scalar::aggregate::aggregate;
+use cr_scalar::fault::EvalFault;
+use cr_term::expr::Expr;
+use cr_term::operator::Aggregate;
+use cr_value::value::Value;
+use std::alloc::{AllocError, Global};
+
+/// The greatest size of a value in bytes.
+const MOST_BYTES: usize = 1_000_000;
+
+/// An aggregate of a column, or of no arguments, and what it gives of the rows that were seen so far.
+#[derive(Drop)]
+pub struct Tally<'q> {
+    kind: &'q Aggregate,
+    // The place of the column in a row.
+    place: Option<usize>,
+    value: Value,
+}
+
+fn is_built_in(kind: &Aggregate) -> bool
+    ensures { result ≡ is_built_in kind.now }
+{
+    !matches!(kind, Aggregate::Host(_))
+}
+
+fn is_count(kind: &Aggregate) -> bool
+    ensures { result ≡ is_count kind.now }
+{
+    matches!(kind, Aggregate::CountAll | Aggregate::Count)
+}
+
+// The place of the column that is the only argument, if there is an argument; `None` for other arguments.
+fn place_of(args: &[Expr]) -> Option<Option<usize>>
+    ensures { ForSome result (IsPlace args.now) }
+{
+    let Some((arg, others)) = args.split_first() else {
+        return Some(None);
+    };
+    if !others.is_empty() {
+        return None;
+    }
+    match arg {
+        Expr::Column(column) => Some(Some(column.at)),
+        _ => None,
+    }
+}
+
+// Whether a value is within the limit of 1,000,000 bytes.
+fn is_small(value: &Value) -> bool
+    ensures { IsTrue result → bounded byte_limit value.now ≡ Ok value.now }
+{
+    let size = match value {
+        Value::Null | Value::Int(_) => 0,
+        Value::Text(text) => text.as_str().len(),
+        Value::Blob(blob) => blob.as_slice().len(),
+    };
+    size <= MOST_BYTES
+}
+
+// A row of one value.
+fn row_of(alloc: Global, value: Value) -> Result<Row, AllocError>
+    ensures { IfOk result (λ row. row ≡ value ∷ []) }
+{
+    let mut values = Vec::new(alloc);
+    values.push(value)?;
+    Ok(Items::new(values))
+}
+
+// The arguments on a row; `None` where one is over the limit.
+fn arguments_on(
+    alloc: Global,
+    place: Option<usize>,
+    row: &[Value],
+) -> Result<Option<Row>, AllocError>
+    ensures { IfOk result (λ o. ForSome o (λ given. (given ≡ arguments place row.now) × AreSmall (arguments place row.now))) }
+{
+    let Some(at) = place else {
+        return Ok(Some(Items::new(Vec::new(alloc))));
+    };
+    let value = match row.get(at) {
+        Some(value) => value.copy(alloc)?,
+        None => Value::Null,
+    };
+    if !is_small(&value) {
+        return Ok(None);
+    }
+    Ok(Some(row_of(alloc, value)?))
+}
+
+// The arguments on each of some rows; `None` where one is over the limit.
+fn arguments_of(
+    alloc: Global,
+    place: Option<usize>,
+    rows: &[Row],
+) -> Result<Option<Vec<Row>>, AllocError>
+    ensures { IfOk result (λ o. ForSome o (λ v. ArgumentsOf place rows.now v.items)) }
+{
+    let mut out = Vec::new(alloc);
+    for row in rows {
+        let Some(given) = arguments_on(alloc, place, row.as_slice())? else {
+            return Ok(None);
+        };
+        out.push(given)?;
+    }
+    Ok(Some(out))
+}
+
+// What an aggregate gives of rows of arguments; `None` where it has a fault.
+fn given<F: Functions>(
+    alloc: Global,
+    functions: &F,
+    kind: &Aggregate,
+    rows: Vec<Row>,
+) -> Result<Option<Value>, AllocError>
+    requires { F.is_faithful functions.now }
+    ensures { IfOk result (λ o. ForSome o (λ v. gives (⟦<F as Hosted>⟧.means functions.now) kind.now rows.items ≡ Ok v)) }
+{
+    match aggregate(alloc, functions, kind, 1, Items::new(rows)) {
+        Ok(value) => Ok(Some(value)),
+        Err(EvalFault::Memory) => Err(AllocError),
+        Err(_) => Ok(None),
+    }
+}
+
+// A count, with that of further rows of arguments.
+fn count_with<F: Functions>(
+    alloc: Global,
+    functions: &F,
+    kind: &Aggregate,
+    count: Value,
+    rows: Vec<Row>,
+) -> Result<Option<Value>, AllocError>
+    requires functions { F.is_faithful functions.now }
+    requires count { is_count kind.now ≡ true }
+    ensures { IfOk result (λ o. ForSome o (λ v. (seen : List (List Content)) → gives (⟦<F as Hosted>⟧.means functions.now) kind.now seen ≡ Ok count
+        → gives (⟦<F as Hosted>⟧.means functions.now) kind.now (seen ++ rows.items) ≡ Ok v)) }
+{
+    let Some(more) = given(alloc, functions, kind, rows)? else {
+        return Ok(None);
+    };
+    let mut counts = Vec::new(alloc);
+    counts.push(row_of(alloc, count)?)?;
+    counts.push(row_of(alloc, more)?)?;
+    given(alloc, functions, &Aggregate::Sum, counts)
+}
+
+// A sum, or the least or the greatest value, with further rows of arguments.
+fn value_with<F: Functions>(
+    alloc: Global,
+    functions: &F,
+    kind: &Aggregate,
+    value: Value,
+    mut rows: Vec<Row>,
+) -> Result<Option<Value>, AllocError>
+    requires functions { F.is_faithful functions.now }
+    requires built_in { is_built_in kind.now ≡ true }
+    requires no_count { is_count kind.now ≡ false }
+    ensures { IfOk result (λ o. ForSome o (λ v. (seen : List (List Content)) → gives (⟦<F as Hosted>⟧.means functions.now) kind.now seen ≡ Ok value
+        → gives (⟦<F as Hosted>⟧.means functions.now) kind.now (seen ++ rows.items) ≡ Ok v)) }
+{
+    let mut all = Vec::new(alloc);
+    all.push(row_of(alloc, value)?)?;
+    all.append(&mut rows)?;
+    given(alloc, functions, kind, all)
+}
+
+// What an aggregate gives, with further rows of arguments; `None` where it has a fault.
+fn next_value<F: Functions>(
+    alloc: Global,
+    functions: &F,
+    kind: &Aggregate,
+    value: Value,
+    rows: Vec<Row>,
+) -> Result<Option<Value>, AllocError>
+    requires functions { F.is_faithful functions.now }
+    requires built_in { is_built_in kind.now ≡ true }
+    ensures { IfOk result (λ o. ForSome o (λ v. (seen : List (List Content)) → gives (⟦<F as Hosted>⟧.means functions.now) kind.now seen ≡ Ok value
+        → gives (⟦<F as Hosted>⟧.means functions.now) kind.now (seen ++ rows.items) ≡ Ok v)) }
+{
+    if is_count(kind) {
+        count_with(alloc, functions, kind, value, rows)
+    } else {
+        value_with(alloc, functions, kind, value, rows)
+    }
+}
+
+impl<'q> Tally<'q> {
+    ghost use Rattle.std.specs.Prelude.{[], IfOk};
+    ghost use Rattle.std.specs.Option.{ForSome};
+    ghost use Rattle.cr_tally.specs.Tallies.{Step, Tells, Worth};
+
+    /// What an expression gives of no rows; `None` where it is not an aggregate of a column, or of no arguments, that SQLite has.
+    pub fn new<F: Functions>(
+        alloc: Global,
+        functions: &F,
+        expr: &'q Expr,
+    ) -> Result<Option<Tally<'q>>, AllocError>
+        requires { F.is_faithful functions.now }
+        ensures { IfOk result (λ o. ForSome o (Tells (⟦<F as Hosted>⟧.means functions.now) expr.now [])) }
+    {
+        let Expr::Aggregate(kind, args) = expr else {
+            return Ok(None);
+        };
+        if !is_built_in(kind) {
+            return Ok(None);
+        }
+        let Some(place) = place_of(args.as_slice()) else {
+            return Ok(None);
+        };
+        match given(alloc, functions, kind, Vec::new(alloc))? {
+            Some(value) => Ok(Some(Tally { kind, place, value })),
+            None => Ok(None),
+        }
+    }
+
+    /// The same with more rows behind those that were seen so far; `None` where an argument is over the limit of 1,000,000 bytes or
+    /// the aggregate has a fault.
+    pub fn with<F: Functions>(
+        self,
+        alloc: Global,
+        functions: &F,
+        rows: &[Row],
+    ) -> Result<Option<Tally<'q>>, AllocError>
+        requires { F.is_faithful functions.now }
+        ensures { IfOk result (λ o. ForSome o (Step (⟦<F as Hosted>⟧.means functions.now) rows.now self.entry)) }
+    {
+        if !is_built_in(self.kind) {
+            return Ok(None);
+        }
+        let Some(arguments) = arguments_of(alloc, self.place, rows)? else {
+            return Ok(None);
+        };
+        match next_value(alloc, functions, self.kind, self.value, arguments)? {
+            Some(value) => Ok(Some(Tally {
+                kind: self.kind,
+                place: self.place,
+                value,
+            })),
+            None => Ok(None),
+        }
+    }
+
+    /// What the aggregate gives of the rows that were seen; `None` where that is over the limit of 1,000,000 bytes.
+    pub fn into_value(self) -> Option<Value>
+        ensures { ForSome result (Worth self.entry) }
+    {
+        if is_small(&self.value) {
+            Some(self.value)
+        } else {
+            None
+        }
+    }
+}
