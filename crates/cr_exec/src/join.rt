@@ -13,8 +13,7 @@ ghost use Rattle.cr_exec.specs.LookUps.{AreSound, IsQuietFirst, join_of, rows_of
 use crate::index::references;
 use crate::push::push;
 use crate::source::{Source, sources_of};
-use crate::terms::{terms_of, with_quiet_first};
-use crate::value::{Scope, is_so_in};
+use crate::terms::{all_true, terms_of, with_quiet_first};
 use cr_expr::given::Hosted;
 use cr_host::functions::Functions;
 use cr_lattice::table::{Items, Row};
@@ -96,26 +95,6 @@ fn longer<'a>(
     Ok(Combination {
         held: Held::Made(Items::new(values)),
     })
-}
-
-// Whether all terms are true, up to the first that is not.
-fn all_true<F: Functions>(
-    alloc: Global,
-    terms: &[&Expr],
-    combination: &[Value],
-    functions: &F,
-    params: &[Value],
-) -> Result<bool, EvalFault>
-    requires { F.is_faithful functions.now }
-    ensures { Answers (⟦<F as Hosted>⟧.means functions.now) params.now result (λ b. b) (λ m. all_true m (map there terms.now) combination.now) }
-{
-    for term in terms {
-        let is_so = is_so_in(alloc, term, Scope::Row(combination), functions, params)?;
-        if !is_so {
-            return Ok(false);
-        }
-    }
-    Ok(true)
 }
 
 // Puts a copy of a combination behind others if all terms are true on it.

@@ -1,14 +1,21 @@
-//! Terms in the order in which they are tested: the quiet ones first.
+//! Terms in the order in which they are tested, the quiet ones first, and whether they are true.
 
 ghost use Rattle.std.specs.Prelude.{◌≡◌, ◌∷◌, ◌++◌, [], map, filter, IfOk, OnOk};
 ghost use Rattle.std.specs.List.{flat_map};
+ghost use Rattle.cr_query.specs.Query.{all_true};
 ghost use Rattle.cr_meaning.specs.View.{plain, inner_terms, terms};
+ghost use Rattle.cr_exec.specs.Answers.{Answers};
 ghost use Rattle.cr_exec.specs.Scopes.{there};
 ghost use Rattle.cr_exec.specs.Tails.{of_kind, with_quiet_first};
 
+use crate::value::{Scope, is_so_in};
+use cr_expr::given::Hosted;
 use cr_expr::quiet::is_quiet;
+use cr_host::functions::Functions;
+use cr_scalar::fault::EvalFault;
 use cr_term::expr::Expr;
 use cr_term::query::{Joined, Query};
+use cr_value::value::Value;
 use std::alloc::{AllocError, Global};
 
 // Whether a term is quiet, or whether it is not.
@@ -96,4 +103,24 @@ pub fn terms_of<'q>(alloc: Global, query: &'q Query) -> Result<Vec<&'q Expr>, Al
     push_inner_terms(&mut out, query.joined.as_slice(), false)?;
     push_terms(&mut out, query.filter.as_slice(), false)?;
     Ok(out)
+}
+
+/// Whether all terms are true on a combination, up to the first that is not. Faults as `is_so_in` does, where it comes to the term.
+pub fn all_true<F: Functions>(
+    alloc: Global,
+    terms: &[&Expr],
+    row: &[Value],
+    functions: &F,
+    params: &[Value],
+) -> Result<bool, EvalFault>
+    requires { F.is_faithful functions.now }
+    ensures { Answers (⟦<F as Hosted>⟧.means functions.now) params.now result (λ b. b) (λ m. all_true m (map there terms.now) row.now) }
+{
+    for term in terms {
+        let is_so = is_so_in(alloc, term, Scope::Row(row), functions, params)?;
+        if !is_so {
+            return Ok(false);
+        }
+    }
+    Ok(true)
 }

@@ -9,9 +9,8 @@ ghost use Rattle.cr_exec.specs.Streamed.{Selects, is_store};
 ghost use Rattle.cr_wanted.specs.Rows.{kept_by};
 
 use crate::push::push;
-use crate::terms::all_true;
 use cr_exec::streamed::SourceFault;
-use cr_exec::terms::with_quiet_first;
+use cr_exec::terms::{all_true, with_quiet_first};
 use cr_expr::given::Hosted;
 use cr_host::functions::Functions;
 use cr_lattice::table::Row;

@@ -12,5 +12,4 @@ pub mod long;
 pub mod nulls;
 mod push;
 pub mod put;
-mod terms;
 pub mod update;

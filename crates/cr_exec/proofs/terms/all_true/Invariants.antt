@@ -3,7 +3,7 @@ use Rattle.cr_scalar.specs.Host.{host}
 use Rattle.cr_query.specs.Query.{all_true}
 use Rattle.cr_exec.specs.Scopes.{there}
 use Rattle.cr_exec.proofs.Stages.{Gives}
-use Rattle.cr_wanted.proofs.terms.all_true.Given as goal
+use Rattle.cr_exec.proofs.terms.all_true.Given as goal
 
 abbrev pub invariant-loop-term : goal.invariant-loop-term
 invariant-loop-term g l =
