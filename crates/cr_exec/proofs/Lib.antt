@@ -13,3 +13,4 @@ pub mod Sought
 pub mod LeftOut
 pub mod Indexed
 pub mod Streams
+pub mod Kept

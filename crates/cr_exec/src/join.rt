@@ -118,6 +118,28 @@ fn keep<F: Functions>(
     Ok(())
 }
 
+/// Those of some rows on which all terms are true, moved. The first term that is not true ends the test of a row, so the terms come with
+/// the quiet ones first.
+pub(crate) fn kept<F: Functions>(
+    alloc: Global,
+    terms: &[&Expr],
+    rows: Vec<Row>,
+    functions: &F,
+    params: &[Value],
+) -> Result<Vec<Row>, EvalFault>
+    requires { F.is_faithful functions.now }
+    ensures { Answers (⟦<F as Hosted>⟧.means functions.now) params.now result (λ v. v.items) (λ m. those (all_true m (map there terms.now)) rows.items) }
+{
+    let mut out = Vec::new(alloc);
+    for row in rows {
+        let is_kept = all_true(alloc, terms, row.as_slice(), functions, params)?;
+        if is_kept {
+            push(&mut out, row)?;
+        }
+    }
+    Ok(out)
+}
+
 // The combinations of one with the rows of a table, on which all terms are true: of no values, the rows on which they are.
 // The first term that is not true ends the test of a combination, so the terms come with the quiet ones first.
 fn matching<F: Functions>(

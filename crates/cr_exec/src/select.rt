@@ -1,17 +1,20 @@
 //! What a query answers of lists of rows.
 
 ghost use Rattle.std.specs.Prelude.{◌≡◌, map, option_map, IfOk};
+ghost use Rattle.cr_bags.specs.Bags.{single};
 ghost use Rattle.cr_query.specs.Query.{shown, finished, answer};
 ghost use Rattle.cr_meaning.specs.View as view;
 ghost use Rattle.cr_exec.specs.Answers.{Answers};
+ghost use Rattle.cr_exec.specs.Combinations.{IsOfOneTable};
 ghost use Rattle.cr_exec.specs.Groups.{result_expr, order_expr};
 ghost use Rattle.cr_exec.specs.Scopes.{there};
 ghost use Rattle.cr_exec.specs.Shows.{shown_of};
 
 use crate::grouped::show_groups;
-use crate::join::joined;
+use crate::join::{joined, kept};
 use crate::order::finished;
 use crate::show::{Shown, show_each};
+use crate::terms::terms_of;
 use cr_expr::given::Hosted;
 use cr_host::functions::Functions;
 use cr_lattice::table::{Items, Row};
@@ -75,19 +78,24 @@ fn show_asked<F: Functions>(
     show_each(alloc, results, keys, combinations, functions, params)
 }
 
-// The rows that a query answers, of its combinations.
-pub(crate) fn answered<F: Functions>(
+/// The rows that a query answers, as `select` does, of combinations on which its terms are true. They are dropped once it is known
+/// what they show, so that a sort holds that alone.
+///
+/// # Errors
+/// As of `select`.
+pub fn answered<F: Functions>(
     alloc: Global,
     query: &Query,
-    combinations: &[Row],
+    combinations: Vec<Row>,
     functions: &F,
     params: &[Value],
 ) -> Result<Vec<Row>, EvalFault>
     requires { F.is_faithful functions.now }
     ensures { Answers (⟦<F as Hosted>⟧.means functions.now) params.now result (λ v. v.items)
-        (λ m. option_map (finished m (view.query query.now)) (shown m (view.query query.now) combinations.now)) }
+        (λ m. option_map (finished m (view.query query.now)) (shown m (view.query query.now) combinations.items)) }
 {
-    let shown = show_asked(alloc, query, combinations, functions, params)?;
+    let shown = show_asked(alloc, query, combinations.as_slice(), functions, params)?;
+    drop(combinations);
     let rows = finished(alloc, query, shown, functions)?;
     Ok(rows)
 }
@@ -110,5 +118,25 @@ pub fn select<F: Functions>(
     ensures { Answers (⟦<F as Hosted>⟧.means functions.now) params.now result (λ v. v.items) (λ m. answer m (view.query query.now) tables.now) }
 {
     let combinations = joined(alloc, query, tables, functions, params)?;
-    answered(alloc, query, combinations.as_slice(), functions, params)
+    answered(alloc, query, combinations, functions, params)
+}
+
+/// The rows that a query of one table answers, as `select` does, of the rows of that table, which no LEFT JOIN and no ON brings. Those on
+/// which its terms are true are held once, and the others not.
+///
+/// # Errors
+/// As of `select`.
+pub fn select_rows<F: Functions>(
+    alloc: Global,
+    query: &Query,
+    rows: Vec<Row>,
+    functions: &F,
+    params: &[Value],
+) -> Result<Vec<Row>, EvalFault>
+    requires { F.is_faithful functions.now }
+    ensures { IsOfOneTable query.now → Answers (⟦<F as Hosted>⟧.means functions.now) params.now result (λ v. v.items) (λ m. answer m (view.query query.now) (single rows.items)) }
+{
+    let terms = terms_of(alloc, query)?;
+    let combinations = kept(alloc, terms.as_slice(), rows, functions, params)?;
+    answered(alloc, query, combinations, functions, params)
 }

@@ -203,6 +203,6 @@ pub fn select_from<F: Functions, S: Source>(
     ensures rows { S.rows_of source.new ≡ S.rows_of source.old }
 {
     let combinations = joined_from(alloc, query, source, functions, params)?;
-    let rows = answered(alloc, query, combinations.as_slice(), functions, params)?;
+    let rows = answered(alloc, query, combinations, functions, params)?;
     Ok(rows)
 }
