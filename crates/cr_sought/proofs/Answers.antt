@@ -1,5 +1,5 @@
--- A SELECT whose terms tell the keys of its rows answers the same over what is kept of these, and one whose terms tell a bound
--- over the rows above it.
+-- A SELECT whose terms leave out the rows of other keys answers the same over what is kept of these keys, so do those that tell keys,
+-- and one whose terms tell a bound over the rows above it.
 use Rattle.std.proofs.Common.{◌≡◌, ◌∙◌, ℕ, ℤ, ◌≤ℤ◌, arith, Bool, true, false, cond, List, [], ◌∷◌, ◌++◌, map, get_or, Option, Some, None, refl, sym, ap}
 use Rattle.std.proofs.lemmas.Int.{ints}
 use Rattle.std.specs.Prelude.{filter, not}
@@ -8,6 +8,8 @@ use Rattle.std.specs.Option.{option_map, option_and_then}
 use Rattle.cr_value.specs.declared.value.Value.{Value}
 use Rattle.cr_value.specs.declared.value.Value.TheVariants.{Null, Int, Text, Blob}
 use Rattle.cr_lattice.specs.Rows.{rows}
+use Rattle.cr_delta.specs.Key.{key_of}
+use Rattle.cr_delta.proofs.Among.{member_has}
 use Rattle.cr_bags.specs.Bags.{joins, gather, single}
 use Rattle.cr_query.specs.Query.{Row, holds, shown, finished}
 use Rattle.cr_query.proofs.PlanLaws.{step, joined_one}
@@ -17,14 +19,19 @@ use Rattle.cr_meaning.specs.Meaning.{meaning}
 use Rattle.cr_touched.specs.Parts.{is_key_of}
 use Rattle.cr_touched.specs.Touched.{passes}
 use Rattle.cr_sought.specs.Bounds.{AnswersAbove, is_above, is_up_to}
-use Rattle.cr_sought.specs.Laws.{of_keys, AnswersByKeys}
+use Rattle.cr_sought.specs.Laws.{of_keys, AnswersByKeys, TellingLeavesOut}
 use Rattle.cr_sought.proofs.Joins.{told_rows}
 use Rattle.cr_sought.proofs.LeftOut.{each_member, gather_left}
 use Rattle.cr_sought.proofs.Lists.{sought_rejects}
 use Rattle.cr_sought.proofs.Pins.{rejects_below}
 
+pub telling_leaves_out : TellingLeavesOut
+telling_leaves_out host params def kept terms keys bytes keyed are sought = λ most limit.
+    each_member (λ r. is_key_of keys (key_of def r) ≡ false → holds (meaning most host params) (map view.plain terms) r ≡ Some false) (rows kept def)
+    (λ r among out. sought_rejects host params most limit bytes def keyed kept are terms keys sought r among out)
+
 pub answers_by_keys : AnswersByKeys
-answers_by_keys host params most def kept q j keys limit bytes keyed are one inner no_on sought =
+answers_by_keys host params most def kept q j keys limit keyed are one inner no_on others =
     let m = meaning most host params in
     let v = view.query q in
     let over = λ (table : List Row). joined_one m v (view.joining j) (ap (map view.joining) one) inner table in
@@ -35,7 +42,8 @@ answers_by_keys host params most def kept q j keys limit bytes keyed are one inn
     let none = each_member (λ r. p r ≡ false → step m v r ≡ Some []) (rows kept def)
     (λ r among out.
     ap (option_map (λ b. cond b (single r) []))
-    (ap (λ ts. holds m ts r) terms_are ∙ sought_rejects host params most limit bytes def keyed kept are q.filter keys sought r among out)) in
+    (ap (λ ts. holds m ts r) terms_are
+    ∙ member_has (λ x. is_key_of keys (key_of def x) ≡ false → holds m (map view.plain q.filter) x ≡ Some false) (rows kept def) r (others most limit) among out)) in
     ap (λ o. option_map (finished m v) (option_and_then (shown m v) o))
     (over (rows kept def)
     ∙ gather_left (step m v) p (rows kept def) none

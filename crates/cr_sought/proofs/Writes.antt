@@ -1,4 +1,4 @@
--- A write whose terms tell the keys of its rows makes of what is kept of these what it makes of all.
+-- A write whose terms leave out the rows of other keys makes of what is kept of these keys what it makes of all.
 use Rattle.std.proofs.Common.{◌≡◌, ◌⊎◌, inl, inr, ◌∙◌, ℕ, Bool, true, false, not, ◌&&◌, ◌||◌, nat_lt, cond, List, [], ◌∷◌, length, map, Option, Some, None, Ok, Err, unwrap_or, refl, sym, ap, subst, Equal}
 use Rattle.std.specs.Prelude.{Result, filter}
 use Rattle.std.specs.List.{flat_map, list_any, AllByRecursion}
@@ -20,8 +20,9 @@ use Rattle.cr_lattice.proofs.RowLemmas.{any_alive_key}
 use Rattle.cr_cells.specs.Tables.{has_defaults}
 use Rattle.cr_delta.specs.Key.{key_of}
 use Rattle.cr_delta.specs.Delta.{delta, is_wanted, passes_limit}
-use Rattle.cr_delta.proofs.Among.{Among, map_member, member_of_any}
+use Rattle.cr_delta.proofs.Among.{Among, map_member, member_has, member_of_any}
 use Rattle.cr_delta.proofs.Members.{is_same, same_is}
+use Rattle.cr_term.specs.declared.expr.Expr.{Expr}
 use Rattle.cr_term.specs.declared.query.Assignment.{Assignment}
 use Rattle.cr_term.specs.declared.query.Delete.{Delete}
 use Rattle.cr_term.specs.declared.query.Update.{Update}
@@ -49,14 +50,11 @@ use Rattle.cr_touched.proofs.Sets.{all_set, any_set, filter_set}
 use Rattle.cr_touched.proofs.Shown.{short, whole as all_values, once, is_its_key, is_present}
 use Rattle.cr_touched.proofs.Touches.{delta_of_touched}
 use Rattle.cr_changed.specs.Changed.{Changes, Leads}
-use Rattle.cr_exec.specs.Equalities.{OrdersBytes}
-use Rattle.cr_sought.specs.Lists.{sought_keys}
 use Rattle.cr_sought.specs.Sought.{is_of_key, is_to_key}
-use Rattle.cr_sought.specs.Laws.{of_keys}
+use Rattle.cr_sought.specs.Laws.{LeaveOutOthers, of_keys}
 use Rattle.cr_sought.specs.Writes.{DeletesByKeys, UpdatesByKeys}
 use Rattle.cr_sought.proofs.Joins.{of_row, told_rows}
 use Rattle.cr_sought.proofs.LeftOut.{each_member}
-use Rattle.cr_sought.proofs.Lists.{sought_rejects}
 use Rattle.cr_sought.proofs.Made.{Gives, IsAtMostOne, Makes, all_both, all_given, all_own, any_made, any_there, gather_given, made, none_both, once_made, others_made, passing}
 use Rattle.cr_sought.proofs.Puts.{key_stays}
 
@@ -68,7 +66,7 @@ Against v r =
     ⊎ (((v.long ≡ false) × (v.lacking ≡ false) × (v.twice ≡ true) × (r ≡ refusal.PrimaryKey))
     ⊎ ((v.long ≡ false) × (v.lacking ≡ false) × (v.twice ≡ false) × (passes_limit v.changes ≡ true) × (r ≡ refusal.VersionLimit))))
 
--- What a write makes of each row of a table: rows of other keys than are sought it keeps, and of a row it makes nothing or one row of
+-- What a write makes of each row of a table: rows of other keys than some it keeps, and of a row it makes nothing or one row of
 -- its key.
 record ByRow (host : Host) (params : List Value) (def : TableDef) (kept : List Change) (keys : List (List ℕ))
     (f : Meaning Ordered → Row → Option (List Row)) : Type 0 where
@@ -283,13 +281,17 @@ left_by w m r = option_map (λ b. cond b (single r) []) (option_map not (holds m
 abbrev made_by : TableDef → Update → Meaning Ordered → Row → Option (List Row)
 made_by def w m r = option_map single (updated m def.columns (view.update w) r)
 
-module _ (host : Host) (bytes : OrdersBytes host) (params : List Value) (def : TableDef) (keyed : has_key def ≡ true) (kept : List Change)
-    (are : AreKeptOf def kept) (keys : List (List ℕ)) where
-  deletes : (w : Delete) → sought_keys def params w.filter ≡ Some keys → ByRow host params def kept keys (left_by w)
-  deletes w sought = record {
+module _ (host : Host) (params : List Value) (def : TableDef) (kept : List Change) (keys : List (List ℕ)) where
+  left_out : (terms : List Expr) → LeaveOutOthers host params def kept terms keys → (most : Option ℕ) → IsLimit most → (r : Row) → Among (rows kept def) r
+      → is_key_of keys (key_of def r) ≡ false → holds (meaning most host params) (map view.plain terms) r ≡ Some false
+  left_out terms others most limit r among out =
+      member_has (λ x. is_key_of keys (key_of def x) ≡ false → holds (meaning most host params) (map view.plain terms) x ≡ Some false) (rows kept def) r (others most limit) among out
+
+  deletes : (w : Delete) → LeaveOutOthers host params def kept w.filter keys → ByRow host params def kept keys (left_by w)
+  deletes w others = record {
     keeps = λ most limit r among out.
         ap (λ b. option_map (λ b. cond b (single r) []) (option_map not b))
-        (sought_rejects host params most limit bytes def keyed kept are w.filter keys sought r among out);
+        (left_out w.filter others most limit r among out);
     gains = λ r.
         gains_map (λ b. cond b (single r) []) (option_map not (holds (sized host params) terms r)) (option_map not (holds (exact host params) terms r))
         (gains_map not (holds (sized host params) terms r) (holds (exact host params) terms r) (holds_gains host params terms r));
@@ -315,12 +317,12 @@ module _ (host : Host) (bytes : OrdersBytes host) (params : List Value) (def : T
   abbrev new_row : Update → Meaning Ordered → Row → Option Bool → Option Row
   new_row w m r o = option_and_then (λ b. cond b (assigned m def.columns (view.update w).assignments r) (Some r)) o
 
-  updates : (w : Update) → list_any (is_to_key def) w.assignments ≡ false → sought_keys def params w.filter ≡ Some keys
+  updates : (w : Update) → list_any (is_to_key def) w.assignments ≡ false → LeaveOutOthers host params def kept w.filter keys
       → ByRow host params def kept keys (made_by def w)
-  updates w spared sought = record {
+  updates w spared others = record {
     keeps = λ most limit r among out.
         ap (λ o. option_map single (new_row w (meaning most host params) r o))
-        (sought_rejects host params most limit bytes def keyed kept are w.filter keys sought r among out);
+        (left_out w.filter others most limit r among out);
     gains = λ r.
         gains_map single (new_row w (sized host params) r (holds (sized host params) terms r)) (new_row w (exact host params) r (holds (exact host params) terms r))
         (gains_then (wanted (sized host params) r) (wanted (exact host params) r) (wanted_gains r) (holds (sized host params) terms r) (holds (exact host params) terms r)
@@ -361,18 +363,18 @@ module _ (host : Host) (bytes : OrdersBytes host) (params : List Value) (def : T
     few r us (Some false) e = own r r us refl (some_is (single r) us e)
 
 pub deletes_by_keys : {X : Type 0} → DeletesByKeys X
-deletes_by_keys host params def site kept w keys result changes_in bytes keyed defaults are of sought c =
+deletes_by_keys host params def site kept w keys result changes_in keyed defaults are of others c =
     let stage : List Change → TableDef → Stage (List Row) = λ cs d m. gather (left_by w m) (rows cs d) in
     subst (λ d. Changes host params def site kept (stage kept d) result changes_in) (sym of)
-    (all_makes host params def keyed defaults kept are keys (left_by w) (deletes host bytes params def keyed kept are keys w sought)
+    (all_makes host params def keyed defaults kept are keys (left_by w) (deletes host params def kept keys w others)
     site result changes_in
     (subst (λ d. Changes host params def site (of_keys def keys kept) (stage (of_keys def keys kept) d) result changes_in) of c))
 
 pub updates_by_keys : {X : Type 0} → UpdatesByKeys X
-updates_by_keys host params def site kept w keys result changes_in bytes keyed defaults are of spared sought c =
+updates_by_keys host params def site kept w keys result changes_in keyed defaults are of spared others c =
     let stage : List Change → TableDef → Stage (List Row) = λ cs d m. wanted_by_update m d.columns (view.update w) (rows cs d) in
     subst (λ d. Changes host params def site kept (stage kept d) result changes_in) (sym of)
     (all_makes host params def keyed defaults kept are keys (made_by def w)
-    (updates host bytes params def keyed kept are keys w (subst (λ d. list_any (is_to_key d) w.assignments ≡ false) of spared) sought)
+    (updates host params def kept keys w (subst (λ d. list_any (is_to_key d) w.assignments ≡ false) of spared) others)
     site result changes_in
     (subst (λ d. Changes host params def site (of_keys def keys kept) (stage (of_keys def keys kept) d) result changes_in) of c))

@@ -2,10 +2,15 @@
 
 ghost use Rattle.cr_sought.specs.Bounds.{AnswersAbove};
 ghost use Rattle.cr_sought.specs.Joins.{JoinsByKeys, JoinsByList};
-ghost use Rattle.cr_sought.specs.Laws.{AnswersByKeys, KeysAreKept};
+ghost use Rattle.cr_sought.specs.Laws.{AnswersByKeys, KeysAreKept, TellingLeavesOut};
 ghost use Rattle.cr_sought.specs.Writes.{DeletesByKeys, UpdatesByKeys};
 
-/// A SELECT of one table answers the same over what is kept of the keys that its terms tell as over all.
+/// Terms that tell keys are known not to be all true on rows of other keys.
+pub fn telling_leaves_out()
+    ensures { TellingLeavesOut }
+{}
+
+/// A SELECT of one table answers the same over what is kept of some keys as over all, if its terms leave out the rows of other keys.
 pub fn answers_by_keys()
     ensures { AnswersByKeys }
 {}
@@ -31,12 +36,12 @@ pub fn keys_are_kept()
     ensures { KeysAreKept }
 {}
 
-/// What a DELETE makes over what is kept of the keys that its terms tell, it makes over all.
+/// What a DELETE makes over what is kept of some keys, it makes over all, if its terms leave out the rows of other keys.
 pub fn deletes_by_keys<X>()
     ensures { DeletesByKeys X }
 {}
 
-/// What an UPDATE of no key column makes over what is kept of the keys that its terms tell, it makes over all.
+/// What an UPDATE of no key column makes over what is kept of some keys, it makes over all, if its terms leave out the rows of other keys.
 pub fn updates_by_keys<X>()
     ensures { UpdatesByKeys X }
 {}
