@@ -1,54 +1,89 @@
--- A SELECT looks at the rows that pass.
-use Rattle.std.proofs.Common.{◌≡◌, ◌∙◌, ℕ, Bool, true, false, not, ◌&&◌, cond, List, [], ◌++◌, map, Option, Some, None, refl, sym, ap}
+-- A statement looks at the rows that pass.
+use Rattle.std.proofs.Common.{◌≡◌, ◌∙◌, inl, inr, ℕ, Bool, true, false, not, cond, List, [], ◌∷◌, ◌++◌, map, Option, Some, None, refl, sym, ap, subst}
 use Rattle.std.specs.Prelude.{filter}
-use Rattle.std.specs.List.{list_any, flat_map}
+use Rattle.std.specs.List.{flat_map}
 use Rattle.std.specs.Option.{option_map, option_and_then}
 use Rattle.cr_value.specs.declared.value.Value.{Value}
-use Rattle.cr_value.specs.Order.{value_cmp}
-use Rattle.cr_value.specs.OrderLaws.{value_total}
-use Rattle.cr_term.specs.Terms.{quiet}
+use Rattle.cr_lattice.specs.Rows.{rows}
+use Rattle.cr_delta.specs.Key.{key_of}
+use Rattle.cr_delta.proofs.Among.{any_member, filter_member, map_member}
+use Rattle.cr_delta.proofs.Members.{is_same}
+use Rattle.cr_touched.specs.Parts.{is_key_of}
+use Rattle.cr_lattice.specs.Check.{same_bytes}
 use Rattle.cr_scalar.specs.Host.{Host}
-use Rattle.cr_scalar.specs.Numbers.{truth}
-use Rattle.cr_expr.specs.Eval.{eval_of}
+use Rattle.cr_scalar.specs.declared.fault.EvalFault.{EvalFault}
+use Rattle.cr_scalar.specs.declared.fault.EvalFault.TheVariants as fault
 use Rattle.cr_bags.specs.Bags.{single}
-use Rattle.cr_query.specs.Query.{Row, Meaning as Meant_by, holds, shown, finished}
+use Rattle.cr_query.specs.Query.{Row, all_true, and_so, finished, holds, is_true, quiet_first, shown}
 use Rattle.cr_query.specs.Plans.{is_false}
-use Rattle.cr_query.proofs.PlanLaws.{step, joined_one, rejected}
+use Rattle.cr_query.proofs.PlanLaws.{step, joined_one}
 use Rattle.cr_meaning.specs.View.{Ordered}
 use Rattle.cr_meaning.specs.View as view
-use Rattle.cr_meaning.specs.Meaning.{at_row, exact, is_so, meaning, value_of}
-use Rattle.cr_meaning.proofs.Limits.{safe}
+use Rattle.cr_meaning.specs.Meaning.{IsLimit, exact, meaning, sized}
+use Rattle.cr_meaning.proofs.Limits.{refines}
+use Rattle.cr_exec.specs.Answers.{Faults, IsBoth}
 use Rattle.cr_sought.proofs.LeftOut.{each_member, gather_left}
-use Rattle.cr_pushdown.specs.Passing.{is_missed, passes}
-use Rattle.cr_pushdown.specs.Laws.{AnswersByPassing}
+use Rattle.cr_pushdown.specs.Passing.{is_memory, passes, passing}
+use Rattle.cr_pushdown.specs.Laws.{AnswersByPassing, PassingLeavesOut}
 
-module _ (host : Host) (params : List Value) (most : Option ℕ) where
-  abbrev m : Meant_by Ordered
-  m = meaning most host params
+pub known_false : (o : Option Bool) → not (is_false o) ≡ false → o ≡ Some false
+known_false None e = absurd cc
+known_false (Some true) e = absurd cc
+known_false (Some false) e = refl
 
-  -- no limit stands for a quiet term
-  pub missed_alike : (r : Row) (e : Ordered) → is_missed m r e ≡ is_missed (exact host params) r e
-  missed_alike r e =
-      let of : Bool → Option ℕ → Bool = λ b n.
-      b && is_false (option_and_then (λ v. is_so (truth v)) (value_of (eval_of (at_row (cond b None n) host params r) e.expr))) in
-      elim (quiet e.expr) as (λ b. of b most ≡ of b None) [ true ↦ refl | false ↦ refl ]
+none_is : {A B : Type 0} (a : A) → None ≡ Some a → B
+none_is a e = absurd (let q : ⊥ = cc in q)
 
-  -- the same but for the order of values and aggregates, which no term asks for
-  abbrev like : Meant_by Ordered
-  like = record m { over = λ e g. None; order = λ e. value_cmp }
+and_keeps : (a b c d : Option Bool) → ((x : Bool) → a ≡ Some x → b ≡ Some x) → ((x : Bool) → c ≡ Some x → d ≡ Some x) → (x : Bool) → and_so a c ≡ Some x → and_so b d ≡ Some x
+and_keeps None b c d first later x e = none_is x e
+and_keeps (Some true) b c d first later x e = ap (λ o. and_so o d) (first true refl) ∙ later x e
+and_keeps (Some false) b c d first later x e = ap (λ o. and_so o d) (first false refl) ∙ e
 
-  -- where a quiet term isn't true, not all are, and there is no fault
-  pub missed_rejects : (terms : List Ordered) (r : Row) → list_any (is_missed (exact host params) r) terms ≡ true → holds m terms r ≡ Some false
-  missed_rejects terms r h =
-      rejected like (record { order_total = λ e. value_total; over_bag = λ e k cs ds s. refl }) (safe most host params) terms r
-      ((λ i. list_any (λ e. missed_alike r e i) terms) ∙ h)
+then_keeps : (f : Value → Option Bool) (o p : Option Value) → ((v : Value) → o ≡ Some v → p ≡ Some v) → (x : Bool) → option_and_then f o ≡ Some x → option_and_then f p ≡ Some x
+then_keeps f None p keeps x e = none_is x e
+then_keeps f (Some v) p keeps x e = ap (option_and_then f) (keeps v refl) ∙ e
 
-turned : (b : Bool) → not b ≡ false → b ≡ true
-turned true e = refl
-turned false e = absurd cc
+module _ (host : Host) (params : List Value) where
+  -- what is known with a limit on values is known without
+  all_keep : (es : List Ordered) (r : Row) (x : Bool) → all_true (sized host params) es r ≡ Some x → all_true (exact host params) es r ≡ Some x
+  all_keep [] r x e = e
+  all_keep (t ∷ ts) r x e =
+      and_keeps (is_true (sized host params) t r) (is_true (exact host params) t r) (all_true (sized host params) ts r) (all_true (exact host params) ts r)
+      (then_keeps (sized host params).truth ((sized host params).value t r) ((exact host params).value t r) ((refines host params).value t r)) (all_keep ts r) x e
+
+  pub holds_for : (most : Option ℕ) → IsLimit most → (es : List Ordered) (r : Row) (x : Bool) → holds (sized host params) es r ≡ Some x → holds (meaning most host params) es r ≡ Some x
+  holds_for most (inl none) es r x e = subst (λ (n : Option ℕ). holds (meaning n host params) es r ≡ Some x) (sym none) (all_keep (quiet_first (sized host params) es) r x e)
+  holds_for most (inr is) es r x e = subst (λ (n : Option ℕ). holds (meaning n host params) es r ≡ Some x) (sym is) e
+
+  -- without a limit on values a fault is one with it, too
+  pub none_sized : (es : List Ordered) (r : Row) → all_true (exact host params) es r ≡ None → all_true (sized host params) es r ≡ None
+  none_sized es r none = by (all_true (sized host params) es r) refl where
+    by : (o : Option Bool) → all_true (sized host params) es r ≡ o → o ≡ None
+    by None is = refl
+    by (Some x) is = none_is x (sym none ∙ all_keep es r x is)
+
+  none_passes : (o : Option Bool) → o ≡ None → true ≡ not (is_false o)
+  none_passes o none = ap (λ p. not (is_false p)) (sym none)
+
+  -- a row on which a term has a fault passes
+  pub fault_passes : (e : EvalFault) → is_memory e ≡ false → (es : List Ordered) (r : Row) → Faults host params (λ m. all_true m es r) e → true ≡ not (is_false (all_true (sized host params) es r))
+  fault_passes fault.Overflow other es r h = none_passes _ (none_sized es r h)
+  fault_passes fault.NotANumber other es r h = none_passes _ (none_sized es r h)
+  fault_passes fault.NotUtf8 other es r h = none_passes _ (none_sized es r h)
+  fault_passes (fault.Host text) other es r h = none_passes _ (none_sized es r h)
+  fault_passes fault.TooBig other es r h = none_passes _ h
+  fault_passes fault.Memory other es r h = absurd cc
+
+  known_passes : (o : Option Bool) (b : Bool) → o ≡ Some b → b ≡ not (is_false o)
+  known_passes o true is = ap (λ p. not (is_false p)) (sym is)
+  known_passes o false is = ap (λ p. not (is_false p)) (sym is)
+
+  -- and one on which they are known
+  pub sized_passes : (es : List Ordered) (r : Row) (b : Bool) → IsBoth host params (λ m. all_true m es r) b → b ≡ not (is_false (all_true (sized host params) es r))
+  sized_passes es r b both = known_passes (all_true (sized host params) es r) b both.sized
 
 pub answers_by_passing : AnswersByPassing
-answers_by_passing host params most rows q j one inner no_on =
+answers_by_passing host params most limit rows q j one inner no_on =
     let m = meaning most host params in
     let v = view.query q in
     let over = λ (table : List Row). joined_one m v (view.joining j) (ap (map view.joining) one) inner table in
@@ -58,6 +93,22 @@ answers_by_passing host params most rows q j one inner no_on =
     let none = each_member (λ r. passes host params q.filter r ≡ false → step m v r ≡ Some []) rows
     (λ r among out.
     ap (option_map (λ b. cond b (single r) []))
-    (ap (λ ts. holds m ts r) terms_are ∙ missed_rejects host params most (map view.plain q.filter) r (turned _ out))) in
+    (ap (λ ts. holds m ts r) terms_are ∙ holds_for host params most limit (map view.plain q.filter) r false (known_false _ out))) in
     ap (λ o. option_map (finished m v) (option_and_then (shown m v) o))
     (over rows ∙ gather_left (step m v) (passes host params q.filter) rows none ∙ sym (over (filter (passes host params q.filter) rows)))
+
+neither : (b : Bool) → (b ≡ true → ⊥) → b ≡ false
+neither true never = absurd (never refl)
+neither false never = refl
+
+pub passing_leaves_out : PassingLeavesOut
+passing_leaves_out host params def kept terms = λ most limit.
+    let p = passes host params terms in
+    let k = key_of def in
+    let keys = map k (passing host params terms def kept) in
+    each_member (λ r. is_key_of keys (k r) ≡ false → holds (meaning most host params) (map view.plain terms) r ≡ Some false) (rows kept def)
+    (λ r among other.
+    let out : p r ≡ false = neither (p r) (λ so.
+    let there = any_member (same_bytes (k r)) keys (k r) (map_member k (filter p (rows kept def)) r (filter_member p (rows kept def) r among so)) (is_same (k r) (k r) refl) in
+    let both : true ≡ false = sym there ∙ other in cc) in
+    holds_for host params most limit (map view.plain terms) r false (known_false _ out))

@@ -1,3 +1,4 @@
 pub mod Answers
 pub mod Orders
 pub mod Pages
+pub mod Wide

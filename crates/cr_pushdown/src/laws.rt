@@ -1,8 +1,13 @@
-//! The law of rows that pass. The contract is the theorem; nothing runs.
+//! The laws of rows that pass. The contracts are the theorems; nothing runs.
 
-ghost use Rattle.cr_pushdown.specs.Laws.{AnswersByPassing};
+ghost use Rattle.cr_pushdown.specs.Laws.{AnswersByPassing, PassingLeavesOut};
 
 /// A SELECT of one table answers the same over the rows that pass as over all.
 pub fn answers_by_passing()
     ensures { AnswersByPassing }
+{}
+
+/// Terms are known not to be all true on rows of other keys than those of the rows that pass.
+pub fn passing_leaves_out()
+    ensures { PassingLeavesOut }
 {}

@@ -1,4 +1,4 @@
-//! Terms that are tested while a table is read: of its rows, read page by page, those on which the quiet terms are true.
+//! Terms that are tested while a table is read: of its rows, read page by page, those that a WHERE of them may keep.
 #![tactic(auto)]
 
 pub mod laws;

@@ -1,13 +1,14 @@
-//! The rows on which the quiet terms of a WHERE are true.
+//! The rows that a WHERE may keep: those on which its terms are true, and those on which one has a fault.
 
-ghost use Rattle.std.specs.Prelude.{◌≡◌, filter, IfOk};
-ghost use Rattle.cr_meaning.specs.View.{plain};
-ghost use Rattle.cr_meaning.specs.Meaning.{exact};
-ghost use Rattle.cr_pushdown.specs.Passing.{is_missed, passes};
+ghost use Rattle.std.specs.Prelude.{◌≡◌, not, filter, map, IfOk};
+ghost use Rattle.cr_query.specs.Query.{all_true};
+ghost use Rattle.cr_query.specs.Plans.{is_false};
+ghost use Rattle.cr_meaning.specs.Meaning.{sized};
+ghost use Rattle.cr_exec.specs.Scopes.{there};
+ghost use Rattle.cr_pushdown.specs.Passing.{is_memory, passes};
 
-use cr_exec::value::{Scope, is_so_in};
+use cr_exec::terms::{all_true, with_quiet_first};
 use cr_expr::given::Hosted;
-use cr_expr::quiet::is_quiet;
 use cr_host::functions::Functions;
 use cr_lattice::table::Row;
 use cr_scalar::fault::EvalFault;
@@ -15,48 +16,33 @@ use cr_term::expr::Expr;
 use cr_value::value::Value;
 use std::alloc::{AllocError, Global};
 
-// Whether a term is quiet, and not true on a row.
-fn is_missed<F: Functions>(
-    alloc: Global,
-    functions: &F,
-    row: &[Value],
-    term: &Expr,
-    params: &[Value],
-) -> Result<bool, AllocError>
-    requires { F.is_faithful functions.now }
-    ensures { IfOk result (λ b. b ≡ is_missed (exact (⟦<F as Hosted>⟧.means functions.now) params.now) row.now (plain term.now)) }
+fn is_memory(fault: &EvalFault) -> bool
+    ensures { result ≡ is_memory fault.now }
 {
-    if !is_quiet(term) {
-        return Ok(false);
-    }
-    match is_so_in(alloc, term, Scope::Row(row), functions, params) {
-        Ok(is_so) => Ok(!is_so),
-        Err(EvalFault::Memory) => Err(AllocError),
-        // A quiet term has no fault. If it had one, the row would be left to whoever tells it.
-        Err(_) => Ok(false),
-    }
+    matches!(fault, EvalFault::Memory)
 }
 
-// Whether each term that is quiet is true on a row.
+// Whether terms, the quiet ones first, are all true on a row, or have a fault before it is clear that they aren't.
 fn passes<F: Functions>(
     alloc: Global,
     functions: &F,
     row: &[Value],
-    terms: &[Expr],
+    terms: &[&Expr],
     params: &[Value],
 ) -> Result<bool, AllocError>
     requires { F.is_faithful functions.now }
-    ensures { IfOk result (λ b. b ≡ passes (⟦<F as Hosted>⟧.means functions.now) params.now terms.now row.now) }
+    ensures { IfOk result (λ b. b ≡ not (is_false (all_true (sized (⟦<F as Hosted>⟧.means functions.now) params.now) (map there terms.now) row.now))) }
 {
-    for term in terms {
-        if is_missed(alloc, functions, row, term, params)? {
-            return Ok(false);
-        }
+    match all_true(alloc, terms, row, functions, params) {
+        Ok(are_true) => Ok(are_true),
+        Err(fault) if is_memory(&fault) => Err(AllocError),
+        // Whoever evaluates the terms of the rows that pass tells the fault.
+        Err(_) => Ok(true),
     }
-    Ok(true)
 }
 
-/// Those rows on which each quiet term is true.
+/// Those rows that a WHERE of these terms may keep: on which all are true, or one has a fault before it is clear that they aren't. A
+/// value over the limit of 1,000,000 bytes is a fault.
 ///
 /// `params` are the parameters' values, from number 1 on. Fails for want of memory alone.
 pub fn passing<F: Functions>(
@@ -69,9 +55,10 @@ pub fn passing<F: Functions>(
     requires { F.is_faithful functions.now }
     ensures { IfOk result (λ v. v.items ≡ filter (passes (⟦<F as Hosted>⟧.means functions.now) params.now terms.now) rows.items) }
 {
+    let ordered = with_quiet_first(alloc, terms)?;
     let mut out = Vec::new(alloc);
     for row in rows {
-        if passes(alloc, functions, row.as_slice(), terms, params)? {
+        if passes(alloc, functions, row.as_slice(), ordered.as_slice(), params)? {
             out.push(row)?;
         }
     }

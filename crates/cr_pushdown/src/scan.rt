@@ -1,13 +1,14 @@
-//! The rows of a table on which the quiet terms of a WHERE are true, read page by page.
+//! The rows of a table that a WHERE may keep, read page by page.
 
-ghost use Rattle.std.specs.Prelude.{◌≡◌, filter, true, IfOk};
+ghost use Rattle.std.specs.Prelude.{◌≡◌, ◌<◌, filter, length, true, IfOk, MatchOption};
 ghost use Rattle.std.specs.List.Sorted.{IsSortedBy};
-ghost use Rattle.std.specs.Option.{option_copied};
+ghost use Rattle.std.specs.Option.{ForSome, option_copied};
 ghost use Rattle.cr_lattice.specs.Keep.{join, keep};
 ghost use Rattle.cr_lattice.specs.Rows.{has_lesser_key, rows};
 ghost use Rattle.cr_cells.specs.Calls.{Reads, is_want, StaysClean};
 ghost use Rattle.cr_cells.specs.Holding.{kept_of};
 ghost use Rattle.cr_cells.specs.Pages.{up_to};
+ghost use Rattle.cr_module.specs.Lawful.{AreWide};
 ghost use Rattle.cr_pushdown.specs.Passing.{passing};
 ghost use Rattle.cr_pushdown.specs.Scan.{is_behind, is_of};
 
@@ -139,6 +140,7 @@ impl<'a> Scan<'a> {
     ghost use Rattle.cr_lattice.specs.Rows.{has_lesser_key};
     ghost use Rattle.cr_cells.specs.Calls.{Reads, is_want, StaysClean};
     ghost use Rattle.cr_cells.specs.Holding.{kept_of};
+    ghost use Rattle.cr_module.specs.Lawful.{AreWide};
     ghost use Rattle.cr_pushdown.specs.Scan.{is_of, rows_left, IsFrom, Stands};
 
     /// A reading of a table from its first page on: of what is kept, and with it of what is kept of further changes of the table.
@@ -163,7 +165,7 @@ impl<'a> Scan<'a> {
         self.is_at_end
     }
 
-    /// The rows of the next page, one being left, on which each quiet term is true.
+    /// The rows of the next page, one being left, that a WHERE of these terms may keep.
     ///
     /// `params` are the parameters' values, from number 1 on.
     ///
@@ -185,6 +187,8 @@ impl<'a> Scan<'a> {
             (λ page. page.items ++ rows_left (⟦<F as Hosted>⟧.means functions.now) params.now terms.now (kept_of (C.holding replica.old)) self.new
             ≡ rows_left (⟦<F as Hosted>⟧.means functions.now) params.now terms.now (kept_of (C.holding replica.old)) self.old) }
         ensures stands { IfOk result (λ page. Stands self.new) }
+        ensures wide { IfOk result (λ page. AreWide self.old.def.now.columns page.items) }
+        ensures table { self.new.def.now ≡ self.old.def.now }
     {
         let page = match replica.kept_page(
             alloc,
@@ -206,8 +210,9 @@ impl<'a> Scan<'a> {
     }
 }
 
-/// The rows of a table on which each quiet term is true: of what is kept, and with it of further changes, as those of an open
-/// transaction, in any order and of any tables. Reads the table page by page, so that beside these rows a page is held.
+/// The rows of a table that a WHERE of these terms may keep, as of `passing`: of what is kept, and with it of further changes, as those
+/// of an open transaction, in any order and of any tables; `None` where they are more than `most`. Reads the table page by page, so that
+/// beside these rows a page is held.
 ///
 /// `params` are the parameters' values, from number 1 on.
 ///
@@ -221,18 +226,22 @@ pub fn passing_rows<C: Cells, F: Functions>(
     changes: &[Change],
     terms: &[Expr],
     params: &[Value],
-) -> Result<Items<Row>, CellsError>
+    most: usize,
+) -> Result<Option<Items<Row>>, CellsError>
     requires functions { F.is_faithful functions.now }
     ensures device { StaysClean C.is_honest C.is_clean is_want replica.old replica.new result }
     ensures reads { C.is_clean replica.new → Reads (C.holding replica.old) (C.holding replica.new) result
-        (λ rows. rows ≡ passing (⟦<F as Hosted>⟧.means functions.now) params.now terms.now def.now (join (kept_of (C.holding replica.old)) changes.now)) }
+        (λ found. MatchOption found
+        (most < length (passing (⟦<F as Hosted>⟧.means functions.now) params.now terms.now def.now (join (kept_of (C.holding replica.old)) changes.now)))
+        (λ rows. rows ≡ passing (⟦<F as Hosted>⟧.means functions.now) params.now terms.now def.now (join (kept_of (C.holding replica.old)) changes.now))) }
+    ensures wide { IfOk result (λ found. ForSome found (AreWide def.now.columns)) }
 {
     let own = own_changes(alloc, def, changes)?;
     let mut scan = Scan::new(def, &own);
     let mut out = Vec::new(alloc);
     for _ in 0..MOST_PAGES {
         if scan.is_at_end() {
-            return Ok(Items::new(out));
+            return Ok(Some(Items::new(out)));
         }
         let mut page = match scan.next_page(alloc, replica, functions, terms, params) {
             Ok(page) => page,
@@ -241,6 +250,9 @@ pub fn passing_rows<C: Cells, F: Functions>(
         match out.append(&mut page) {
             Ok(()) => {}
             Err(_) => return Err(CellsError::Memory),
+        }
+        if out.len() > most {
+            return Ok(None);
         }
     }
     Err(CellsError::Store(StoreFault::Refused))

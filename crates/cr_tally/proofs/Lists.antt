@@ -1,7 +1,5 @@
 -- Lists of aggregates, one more at a time.
-use Rattle.std.proofs.Common.{◌≡◌, arith, true, List, [], ◌∷◌, ◌++◌, length, refl, subst}
-use Rattle.std.specs.Bool.{◌==◌}
-use Rattle.std.proofs.lemmas.Bool.{eqb-true}
+use Rattle.std.proofs.Common.{◌≡◌, List, [], ◌∷◌, ◌++◌, subst}
 use Rattle.std.specs.List.{AllByRecursion, AllZip}
 use Rattle.cr_term.specs.declared.query.ResultColumn.{ResultColumn}
 use Rattle.cr_query.specs.Query.{Row}
@@ -32,7 +30,3 @@ steps_on means more rows (c ∷ cs) (t ∷ ts) (u ∷ us) steps tell = (steps.0 
 pub told_on : (means : Means) (first ts us : List Tally) (rows more page : List Row) → page ≡ more → TellsFrom means first rows ts → AllZip (Step means page) ts us → TellsFrom means first (rows ++ more) us
 told_on means first ts us rows more page same tells steps results begin =
     steps_on means more rows results ts us (subst (λ (rs : List Row). AllZip (Step means rs) ts us) same steps) (tells results begin)
-
-pub empty_is : {X : Type 0} (xs : List X) → (length xs == 0) ≡ true → xs ≡ []
-empty_is [] none = refl
-empty_is (x ∷ xs) none = let e = eqb-true (length (x ∷ xs)) 0 none in absurd (omega (arith, e))

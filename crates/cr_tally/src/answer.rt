@@ -1,44 +1,39 @@
 //! What a SELECT of one table answers whose results are aggregates of columns.
 
-ghost use Rattle.std.specs.Prelude.{◌≡◌, IfOk, IsTrue};
-ghost use Rattle.std.specs.List.{list_all};
+ghost use Rattle.std.specs.Prelude.{◌≡◌, true, IfOk, IsTrue};
+ghost use Rattle.std.specs.List.{AllByRecursion};
 ghost use Rattle.std.specs.Option.{ForSome};
 ghost use Rattle.cr_bags.specs.Bags.{single};
 ghost use Rattle.cr_cells.specs.Calls.{Reads, is_want, StaysClean};
 ghost use Rattle.cr_cells.specs.Holding.{kept_of};
 ghost use Rattle.cr_exec.specs.Answers.{IsBoth};
+ghost use Rattle.cr_exec.specs.Combinations.{IsOfOneTable};
 ghost use Rattle.cr_lattice.specs.Keep.{join};
 ghost use Rattle.cr_lattice.specs.Rows.{rows};
 ghost use Rattle.cr_query.specs.Query.{answer};
-ghost use Rattle.cr_term.specs.Terms.{quiet};
 ghost use Rattle.cr_meaning.specs.View as view;
 ghost use Rattle.cr_pushdown.specs.Passing.{passing};
-ghost use Rattle.cr_tally.specs.Queries.{Finishes, IsOfAggregates, IsOfOneTable, TellsFrom};
+ghost use Rattle.cr_tally.specs.Queries.{AreTrue, Finishes, IsOfAggregates, TellsOf};
 
 use crate::tallies::{tallies_of, values_of, with_rows};
 use crate::tally::Tally;
 use cr_cells::store::{Cells, CellsError, StoreFault};
 use cr_exec::order::finished;
 use cr_exec::show::Shown;
+use cr_exec::terms::{all_true, with_quiet_first};
 use cr_expr::given::Hosted;
-use cr_expr::quiet::is_quiet;
 use cr_host::functions::Functions;
 use cr_lattice::change::Change;
 use cr_lattice::table::{Items, Row, TableDef};
 use cr_pushdown::scan::{MOST_PAGES, Scan, own_changes};
 use cr_replica::replica::Replica;
+use cr_scalar::fault::EvalFault;
 use cr_term::expr::Expr;
 use cr_term::query::Query;
 use cr_value::value::Value;
 use std::alloc::{AllocError, Global};
 
-fn are_quiet(terms: &[Expr]) -> bool
-    ensures { result ≡ list_all quiet terms.now }
-{
-    terms.iter().all(|term| is_quiet(term))
-}
-
-// Whether a query has one group of the rows on which quiet terms are true, and evaluates nothing else than its results.
+// Whether a query has one group of the rows on which its terms are true, and evaluates nothing else than its results.
 fn is_of_aggregates(query: &Query) -> bool
     ensures { IsTrue result → IsOfAggregates query.now }
 {
@@ -46,10 +41,32 @@ fn is_of_aggregates(query: &Query) -> bool
         && query.groups.as_slice().is_empty()
         && query.having.is_none()
         && query.order.as_slice().is_empty()
-        && are_quiet(query.filter.as_slice())
 }
 
-// What aggregates give of the rows of a table on which each quiet term is true, behind the rows that they have seen.
+// Whether terms are all true on each of some rows, without a fault.
+fn are_true<F: Functions>(
+    alloc: Global,
+    functions: &F,
+    rows: &[Row],
+    terms: &[Expr],
+    params: &[Value],
+) -> Result<bool, AllocError>
+    requires { F.is_faithful functions.now }
+    ensures { IfOk result (λ b. b ≡ true → AllByRecursion (AreTrue (⟦<F as Hosted>⟧.means functions.now) params.now terms.now) rows.now) }
+{
+    let ordered = with_quiet_first(alloc, terms)?;
+    for row in rows {
+        match all_true(alloc, ordered.as_slice(), row.as_slice(), functions, params) {
+            Ok(true) => {}
+            Err(EvalFault::Memory) => return Err(AllocError),
+            Ok(false) | Err(_) => return Ok(false),
+        }
+    }
+    Ok(true)
+}
+
+// What aggregates give of the rows of a table on which terms are all true, behind the rows that they have seen; `None` where that can't
+// be told so, as where a term or an aggregate has a fault.
 fn tallied<'q, C: Cells, F: Functions>(
     alloc: Global,
     replica: &mut Replica<C>,
@@ -63,7 +80,7 @@ fn tallied<'q, C: Cells, F: Functions>(
     requires functions { F.is_faithful functions.now }
     ensures device { StaysClean C.is_honest C.is_clean is_want replica.old replica.new result }
     ensures reads { C.is_clean replica.new → Reads (C.holding replica.old) (C.holding replica.new) result
-        (λ o. ForSome o (λ v. TellsFrom (⟦<F as Hosted>⟧.means functions.now) tallies.entry.items (passing (⟦<F as Hosted>⟧.means functions.now) params.now terms.now def.now (join (kept_of (C.holding replica.old)) changes.now)) v.items)) }
+        (λ o. ForSome o (λ v. TellsOf (⟦<F as Hosted>⟧.means functions.now) params.now terms.now tallies.entry.items (passing (⟦<F as Hosted>⟧.means functions.now) params.now terms.now def.now (join (kept_of (C.holding replica.old)) changes.now)) v.items)) }
 {
     let own = own_changes(alloc, def, changes)?;
     let mut scan = Scan::new(def, &own);
@@ -75,6 +92,9 @@ fn tallied<'q, C: Cells, F: Functions>(
             Ok(page) => page,
             Err(error) => return Err(error),
         };
+        if !are_true(alloc, functions, &page, terms, params)? {
+            return Ok(None);
+        }
         match with_rows(alloc, functions, tallies, &page) {
             Ok(Some(next)) => tallies = next,
             Ok(None) => return Ok(None),
@@ -107,8 +127,7 @@ fn answer_of<F: Functions>(
 
 /// What a SELECT of one table answers: of what is kept, and with it of further changes, as those of an open transaction, in any order
 /// and of any tables. `None` where its results are not all aggregates of a column, or of no arguments, that SQLite has, where it has
-/// GROUP BY, HAVING, ORDER BY or a term that is not quiet, where a value is over the limit of 1,000,000 bytes, and where an aggregate
-/// has a fault. The table is read page by page, and beside a page one value is held for each aggregate.
+/// GROUP BY, HAVING or ORDER BY, where a value is over the limit of 1,000,000 bytes, and where a term or an aggregate has a fault. The table is read page by page, and beside a page one value is held for each aggregate.
 ///
 /// `params` are the parameters' values, from number 1 on.
 ///

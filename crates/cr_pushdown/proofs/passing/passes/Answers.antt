@@ -1,27 +1,10 @@
-use Rattle.std.proofs.Common.{◌≡◌, ◌∙◌, ◌+◌, true, false, not, ◌||◌, List, ◌∷◌, drop, map, sym, ap, rules}
-use Rattle.std.proofs.lemmas.List.{drop_more}
-use Rattle.std.specs.List.{list_any}
-use Rattle.cr_term.specs.declared.expr.Expr.{Expr}
+use Rattle.std.proofs.Common.{map, sym, ◌∙◌}
 use Rattle.cr_scalar.specs.Host.{Host, host}
-use Rattle.cr_meaning.specs.View.{plain}
-use Rattle.cr_meaning.specs.Meaning.{exact}
-use Rattle.cr_pushdown.specs.Passing.{is_missed}
+use Rattle.cr_exec.specs.Scopes.{there}
+use Rattle.cr_pushdown.proofs.Answers.{fault_passes}
 use Rattle.cr_pushdown.proofs.passing.passes.Goals as goal
 
-pub returns-then-branch : goal.returns-then-branch
-returns-then-branch g c =
+pub returns-in-Err-2 : goal.returns-in-Err-2
+returns-in-Err-2 g c =
     let by : Host = host (g.F.Functions.function_of c.args.functions.now) (g.F.Functions.scalar c.args.functions.now) (g.F.Functions.step c.args.functions.now) (g.F.Functions.finish c.args.functions.now) (g.F.Functions.order_of c.args.functions.now) in
-    let missed = is_missed (exact by c.args.params.now) c.args.row.now in
-    let rest = drop (c.loop-term.term-index + 1) c.args.terms.now in
-    let next : drop c.loop-term.term-index c.args.terms.now ≡ c.term-item.result ∷ rest = search (rules, drop_more) in
-    let here : missed (plain c.term-item.result) ≡ true = sym c.in_ok-is_missed.ensures ∙ c.if-branch.true in
-    ap not (sym ((λ i. here (i) || list_any missed (map plain rest)))) ∙ ap (λ (ts : List Expr). not (list_any missed (map plain ts))) (sym next) ∙ ap not c.loop-term.invariant
-
-pub loop-term-preserved : goal.loop-term-preserved
-loop-term-preserved g c =
-    let by : Host = host (g.F.Functions.function_of c.args.functions.now) (g.F.Functions.scalar c.args.functions.now) (g.F.Functions.step c.args.functions.now) (g.F.Functions.finish c.args.functions.now) (g.F.Functions.order_of c.args.functions.now) in
-    let missed = is_missed (exact by c.args.params.now) c.args.row.now in
-    let rest = drop (c.loop-term.term-index + 1) c.args.terms.now in
-    let next : drop c.loop-term.term-index c.args.terms.now ≡ c.term-item.result ∷ rest = search (rules, drop_more) in
-    let here : missed (plain c.term-item.result) ≡ false = sym c.in_ok-is_missed.ensures ∙ c.if-branch.false in
-    sym (λ i. here i || list_any missed (map plain rest)) ∙ ap (λ (ts : List Expr). list_any missed (map plain ts)) (sym next) ∙ c.loop-term.invariant
+    fault_passes by c.args.params.now c.in-Err.fault (sym c.is_memory.ensures ∙ c.if-is_memory.false) (map there c.args.terms.now) c.args.row.now c.in-Err.ensures

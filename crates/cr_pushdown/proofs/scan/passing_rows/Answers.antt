@@ -1,12 +1,16 @@
-use Rattle.std.proofs.Common.{◌≡◌, ◌∙◌, ◌++◌, List, [], append-nil, append_assoc, ap, cond, refl, rules, sym}
+use Rattle.std.proofs.Common.{◌≡◌, ◌∙◌, ◌++◌, List, [], append-nil, append_assoc, ap, cond, length, refl, rules, subst, sym}
+use Rattle.cr_value.proofs.Fields.{some_is}
+use Rattle.cr_lattice.specs.declared.table.TableDef.{TableDef}
 use Rattle.cr_lattice.specs.Keep.{join}
 use Rattle.cr_cells.specs.Holding.{Holding, kept_of}
 use Rattle.cr_cells.specs.Pages.{above}
+use Rattle.cr_module.specs.Lawful.{AreWide}
 use Rattle.cr_scalar.specs.Host.{Host, host}
 use Rattle.cr_query.specs.Query.{Row}
 use Rattle.cr_touched.specs.Parts.{part}
 use Rattle.cr_pushdown.specs.Passing.{passing}
 use Rattle.cr_pushdown.specs.Scan.{rows_left}
+use Rattle.cr_sought.proofs.Gathered.{all_append}
 use Rattle.cr_pushdown.proofs.Pages.{begins_whole}
 use Rattle.cr_pushdown.proofs.scan.passing_rows.Goals as goal
 
@@ -19,6 +23,8 @@ loop-init g c =
       was_clean = λ clean. clean;
       same = λ clean. refl;
       stands = c.new-scan.ensures.stands;
+      table = c.new-scan.ensures.begins.table;
+      wide = subst (AreWide c.args.def.now.columns) (sym c.new-out.ensures.items) tt;
       so_far = λ clean.
           let kept = kept_of (g.C.Cells.holding c.args.replica.now) in
           ap (λ (rs : List Row). rs ++ rows_left by c.args.params.now c.args.terms.now kept c.new-scan.result) c.new-out.ensures.items
@@ -39,6 +45,11 @@ loop-preserved g c =
       was_clean = λ clean. inv.was_clean (device.was_clean clean);
       same = λ clean. (reads clean).same ∙ inv.same (device.was_clean clean);
       stands = c.in-Ok.ensures.stands;
+      table = c.next_page.ensures.table ∙ inv.table;
+      wide =
+          subst (AreWide c.args.def.now.columns) (sym added)
+          (all_append (λ r. length r ≡ length c.args.def.now.columns) c.loop.out.items c.in-Ok.page.items inv.wide
+          (subst (λ (d : TableDef). AreWide d.columns c.in-Ok.page.items) inv.table c.in-Ok.ensures.wide));
       so_far = λ clean.
           let before = device.was_clean clean in
           let here = inv.same before in
@@ -62,3 +73,7 @@ returns-then-is_at_end-clause-reads g c clean =
           ∙ ap (λ b. c.loop.out.items ++ cond b [] left) (sym (sym c.is_at_end.ensures ∙ c.if-is_at_end.true))
           ∙ inv.so_far clean;
     }
+
+pub returns-then-is_at_end-clause-wide : goal.returns-then-is_at_end-clause-wide
+returns-then-is_at_end-clause-wide g c = λ x is.
+    subst (AreWide c.args.def.now.columns) (sym c.new.ensures ∙ some_is _ x is) c.loop.invariant.wide

@@ -1,6 +1,7 @@
 use Rattle.std.proofs.Common.{◌≡◌, ◌++◌}
 use Rattle.cr_lattice.specs.Keep.{join}
 use Rattle.cr_cells.specs.Holding.{kept_of}
+use Rattle.cr_module.specs.Lawful.{AreWide}
 use Rattle.cr_scalar.specs.Host.{host}
 use Rattle.cr_pushdown.specs.Passing.{passing}
 use Rattle.cr_pushdown.specs.Scan.{Stands, rows_left}
@@ -16,5 +17,7 @@ invariant-loop g l =
       was_clean : g.C.Cells.is_clean l.replica → g.C.Cells.is_clean l.fn.replica;
       same : g.C.Cells.is_clean l.replica → g.C.Cells.holding l.replica ≡ g.C.Cells.holding l.fn.replica;
       stands : Stands l.scan;
+      table : l.scan.def.now ≡ l.def;
+      wide : AreWide l.def.columns l.out.items;
       so_far : g.C.Cells.is_clean l.replica → l.out.items ++ rows_left by l.params l.terms kept l.scan ≡ passing by l.params l.terms l.def (join kept l.changes);
     }

@@ -8,6 +8,7 @@ use Rattle.cr_term.specs.declared.query.ResultColumn.{ResultColumn}
 use Rattle.cr_query.specs.Query.{Row}
 use Rattle.cr_scalar.specs.Host.{Host as Means, host}
 use Rattle.cr_pushdown.specs.Passing.{passes}
+use Rattle.cr_tally.specs.Queries.{TellsOf}
 use Rattle.cr_tally.specs.Tallies.{TellAll}
 use Rattle.cr_tally.proofs.Whole.{answers_both}
 use Rattle.cr_tally.proofs.answer.answer_by_tallies.Goals as goal
@@ -19,9 +20,9 @@ returns-in_ok-answer_of-in-Ok-Some-clause-reads g c clean =
     let all : List Row = rows (join (kept_of (g.C.Cells.holding c.args.replica.now)) c.args.changes.now) c.args.def.now in
     let read = c.in-Ok-Some.ensures.reads clean in
     let begin = subst (λ (cs : List ResultColumn). TellAll by cs [] c.in-Some.tallies.items) c.as_slice.ensures (c.in_ok-tallies.ensures c.in-Some.tallies c.in-Some.is) in
-    let told = read.answers c.in-Ok-Some.tallies c.in-Ok-Some.field-0-is q.results begin in
-    let tells = subst (λ (terms : List Expr). TellAll by q.results (filter (passes by c.args.params.now terms) all) c.in-Ok-Some.tallies.items) c.as_slice-terms.ensures told in
+    let told = read.answers c.in-Ok-Some.tallies c.in-Ok-Some.field-0-is in
+    let of = subst (λ (terms : List Expr). TellsOf by c.args.params.now terms c.in-Some.tallies.items (filter (passes by c.args.params.now terms) all) c.in-Ok-Some.tallies.items) c.as_slice-terms.ensures told in
     record {
       same = read.same;
-      answers = λ x is one. answers_both by c.args.params.now q one (c.is_of_aggregates.ensures c.if-not-is_of_aggregates.false) all c.in-Ok-Some.tallies.items x tells (c.in_ok-answer_of-in-Ok-Some.ensures x is);
+      answers = λ x is one. answers_both by c.args.params.now q one (c.is_of_aggregates.ensures c.if-not-is_of_aggregates.false) all c.in-Ok-Some.tallies.items x of.are_true (of.tells q.results begin) (c.in_ok-answer_of-in-Ok-Some.ensures x is);
     }

@@ -1,4 +1,5 @@
 use Rattle.std.proofs.Common.{◌≡◌, ◌∙◌, ◌++◌, List, [], append-nil, append_assoc, ap, cond, refl, subst, sym}
+use Rattle.std.specs.List.{AllByRecursion}
 use Rattle.cr_lattice.specs.Keep.{join}
 use Rattle.cr_cells.specs.Holding.{Holding, kept_of}
 use Rattle.cr_cells.specs.Pages.{above}
@@ -10,8 +11,8 @@ use Rattle.cr_pushdown.specs.Scan.{rows_left}
 use Rattle.cr_pushdown.proofs.Pages.{begins_whole}
 use Rattle.cr_value.proofs.Fields.{some_is}
 use Rattle.cr_tally.specs.declared.tally.Tally.{Tally}
-use Rattle.cr_tally.specs.Queries.{TellsFrom}
-use Rattle.cr_tally.proofs.Lists.{told_on}
+use Rattle.cr_tally.specs.Queries.{AreTrue, TellsOf}
+use Rattle.cr_tally.proofs.Lists.{all-append, told_on}
 use Rattle.cr_tally.proofs.answer.tallied.Goals as goal
 
 pub loop-init : goal.loop-init
@@ -27,7 +28,7 @@ loop-init g c =
           let kept = kept_of (g.C.Cells.holding c.args.replica.now) in (
             [],
             begins_whole by c.args.params.now c.args.terms.now c.args.def.now kept c.args.changes.now c.deref.result.now c.new-scan.result (c.deref.ensures.value ∙ c.in_ok-own.ensures.kept) c.new-scan.ensures.begins,
-            λ results tell. tell,
+            record { are_true = tt; tells = λ results tell. tell },
           );
     }
 
@@ -53,7 +54,12 @@ loop-preserved g c =
                 ∙ ap (λ (rs : List Row). seen.0 ++ rs)
                 (ap (λ (h : Holding). c.in-Ok.page.items ++ left h c.next_page.new.self) (sym here) ∙ (reads clean).answers ∙ ap (λ (h : Holding). left h c.loop.scan) here)
                 ∙ seen.1,
-            told_on by c.args.tallies.items c.loop.tallies.items c.in-Ok-Some.next.items seen.0 c.in-Ok.page.items c.deref-in-loop.result.now c.deref-in-loop.ensures.value seen.2 (c.in-Ok-Some.ensures c.in-Ok-Some.next c.in-Ok-Some.field-0-is),
+            record {
+              are_true =
+                  all-append (AreTrue by c.args.params.now c.args.terms.now) seen.0 c.in-Ok.page.items seen.2.are_true
+                  (subst (AllByRecursion (AreTrue by c.args.params.now c.args.terms.now)) c.deref-in-loop.ensures.value (c.in_ok-are_true.ensures c.if-not-branch.false));
+              tells = told_on by c.args.tallies.items c.loop.tallies.items c.in-Ok-Some.next.items seen.0 c.in-Ok.page.items c.deref-in-loop-2.result.now c.deref-in-loop-2.ensures.value seen.2.tells (c.in-Ok-Some.ensures c.in-Ok-Some.next c.in-Ok-Some.field-0-is);
+            },
           );
     }
 
@@ -69,5 +75,5 @@ returns-then-is_at_end-clause-reads g c clean =
       answers = λ x is.
           let all : seen.0 ≡ passing by c.args.params.now c.args.terms.now c.args.def.now (join kept c.args.changes.now) =
           sym (append-nil seen.0) ∙ ap (λ b. seen.0 ++ cond b [] left) (sym (sym c.is_at_end.ensures ∙ c.if-is_at_end.true)) ∙ seen.1 in
-          subst (λ (rs : List Row). TellsFrom by c.args.tallies.items rs x.items) all (subst (λ (ts : List Tally). TellsFrom by c.args.tallies.items seen.0 ts) (ap (λ v. v.items) (some_is _ x is)) seen.2);
+          subst (λ (rs : List Row). TellsOf by c.args.params.now c.args.terms.now c.args.tallies.items rs x.items) all (subst (λ (ts : List Tally). TellsOf by c.args.params.now c.args.terms.now c.args.tallies.items seen.0 ts) (ap (λ v. v.items) (some_is _ x is)) seen.2);
     }

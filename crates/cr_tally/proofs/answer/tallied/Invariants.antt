@@ -5,7 +5,7 @@ use Rattle.cr_query.specs.Query.{Row}
 use Rattle.cr_scalar.specs.Host.{host}
 use Rattle.cr_pushdown.specs.Passing.{passing}
 use Rattle.cr_pushdown.specs.Scan.{Stands, rows_left}
-use Rattle.cr_tally.specs.Queries.{TellsFrom}
+use Rattle.cr_tally.specs.Queries.{TellsOf}
 use Rattle.cr_tally.proofs.answer.tallied.Given as goal
 
 abbrev pub invariant-loop : goal.invariant-loop
@@ -19,5 +19,5 @@ invariant-loop g l =
       same : g.C.Cells.is_clean l.replica → g.C.Cells.holding l.replica ≡ g.C.Cells.holding l.fn.replica;
       stands : Stands l.scan;
       so_far : g.C.Cells.is_clean l.replica
-          → (seen : List Row) × (seen ++ rows_left by l.params l.terms kept l.scan ≡ passing by l.params l.terms l.def (join kept l.changes)) × TellsFrom by l.fn.tallies.items seen l.tallies.items;
+          → (seen : List Row) × (seen ++ rows_left by l.params l.terms kept l.scan ≡ passing by l.params l.terms l.def (join kept l.changes)) × TellsOf by l.params l.terms l.fn.tallies.items seen l.tallies.items;
     }

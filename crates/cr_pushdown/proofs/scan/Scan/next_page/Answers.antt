@@ -9,9 +9,11 @@ use Rattle.cr_replica.specs.Snapshots.{IsKeptPage}
 use Rattle.cr_scalar.specs.Host.{Host, host}
 use Rattle.cr_query.specs.Query.{Row}
 use Rattle.cr_touched.specs.Parts.{part}
+use Rattle.cr_module.specs.Lawful.{AreWide}
 use Rattle.cr_pushdown.specs.Passing.{passes, passing}
 use Rattle.cr_pushdown.specs.Scan.{is_of}
 use Rattle.cr_pushdown.proofs.Pages.{ends_above, left_behind, of_next, page_joined, page_kept, page_read}
+use Rattle.cr_pushdown.proofs.Wide.{passing_wide}
 use Rattle.cr_pushdown.proofs.scan.Scan.next_page.Goals as goal
 
 pub returns-clause-reads : goal.returns-clause-reads
@@ -53,3 +55,10 @@ returns-clause-stands g c =
       of = ap (filter (is_of def)) is ∙ of_next def bound later c.requires.stands.of ∙ sym is;
       left = ap (filter (λ d. above bound d.pk)) is ∙ left_behind bound later ∙ sym is;
     }
+
+pub returns-clause-wide : goal.returns-clause-wide
+returns-clause-wide g c =
+    let by : Host = host (g.F.Functions.function_of c.args.functions.now) (g.F.Functions.scalar c.args.functions.now) (g.F.Functions.step c.args.functions.now) (g.F.Functions.finish c.args.functions.now) (g.F.Functions.order_of c.args.functions.now) in
+    let def = c.args.self.now.def.now in
+    let rows = c.in_ok-rows.ensures ∙ ap (filter (passes by c.args.params.now c.args.terms.now)) c.in_ok-shown.ensures in
+    subst (AreWide def.columns) (sym rows) (passing_wide by c.args.params.now c.args.terms.now def c.deref.result.now)
