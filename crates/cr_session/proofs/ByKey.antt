@@ -1,4 +1,5 @@
--- What is seen of some keys suffices for a statement whose WHERE tells them, and else what is seen of the tables that it names.
+-- What is seen of some keys suffices for a statement whose WHERE leaves out the rows of others, and else what is seen of the tables that
+-- it names.
 use Rattle.std.proofs.Common.{◌≡◌, inl, inr, ℕ, true, false, List, [], ◌∷◌, Option, Some, Result, Ok, Err, refl, sym, ap, subst, ◌∙◌, ◌≤◌, ◌<◌, arith, find, get_or, length, map}
 use Rattle.std.specs.Prelude.{◌==◌}
 use Rattle.std.proofs.lemmas.Bool.{eqb-true}
@@ -30,13 +31,12 @@ use Rattle.cr_touched.specs.Shown.{AreKeptOf}
 use Rattle.cr_world.specs.declared.refusal.Refusal.{Refusal}
 use Rattle.cr_world.specs.State.{State, now}
 use Rattle.cr_changed.specs.Changed.{Changes, IsRefused, Leads}
-use Rattle.cr_sought.specs.Laws.{of_keys}
-use Rattle.cr_sought.specs.Lists.{sought_keys}
+use Rattle.cr_sought.specs.Laws.{LeaveOutOthers, of_keys}
 use Rattle.cr_sought.specs.Sought.{assigns_key}
 use Rattle.cr_sought.specs.Writes.{delete_over, update_over}
-use Rattle.cr_sought.proofs.Answers.{answers_by_keys}
+use Rattle.cr_sought.proofs.Answers.{answers_by_keys, telling_leaves_out}
 use Rattle.cr_sought.proofs.Writes.{deletes_by_keys, updates_by_keys}
-use Rattle.cr_session.specs.Lookup.{IsLook, IsSeenAt, IsSought, Looks, ShowsDelete, ShowsQuery, ShowsTables, ShowsUpdate, in_order}
+use Rattle.cr_session.specs.Lookup.{IsLook, IsSeenAt, IsSought, IsWithin, Looks, ShowsDelete, ShowsQuery, ShowsTables, ShowsUpdate, in_order}
 use Rattle.cr_session.specs.Sessions.{state_of}
 use Rattle.cr_session.proofs.ByTable.{delete_of_table, is_one_of, is_only, query_of_tables, update_of_table}
 use Rattle.cr_session.proofs.OfTables.{now_unbeaten}
@@ -46,7 +46,7 @@ use Rattle.cr_session.proofs.Selecting.{tables_are}
 -- ---- the table of the name, and what shows of the keys
 
 module _ (means : Means) (params : List Value) (h : Holding) (sound : IsSound h) (pending : Option (List Change)) (name : List ℕ) (terms : List Expr) (keys : List (List ℕ))
-    (is : IsSought means params pending h.tables name terms keys) (snap : Snapshot) (at : IsSeenAt (state_of h pending) name keys snap) where
+    (is : IsWithin means params (state_of h pending) name terms keys) (snap : Snapshot) (at : IsSeenAt (state_of h pending) name keys snap) where
   abbrev st : State
   st = state_of h pending
 
@@ -68,10 +68,13 @@ module _ (means : Means) (params : List Value) (h : Holding) (sound : IsSound h)
   abbrev kept_of_it : AreKeptOf def (now st)
   kept_of_it = one.kept_of_it h sound pending name is.fit def is.there
 
+  others_of : (ts : List Expr) → ts ≡ terms → LeaveOutOthers means params def (now st) ts keys
+  others_of ts same = subst (λ (x : List Expr). LeaveOutOthers means params def (now st) x keys) (sym same) is.others
+
   pub query_by_keys : (q : Query) (j : Joined) → q.joined ≡ j ∷ [] → j.is_left ≡ false → j.on ≡ [] → name_of j ≡ name → q.filter ≡ terms → ShowsQuery means params q st snap
   query_by_keys q j only inner no_on named same =
       one.query_of_one h sound pending name is.fit def is.there snap at.named (of_keys def keys (now st)) kept_is means params q j only named
-      (λ most limit. answers_by_keys means params most def (now st) q j keys limit is.bytes keyed kept_of_it only inner no_on (ap (sought_keys def params) same ∙ is.told))
+      (λ most limit. answers_by_keys means params most def (now st) q j keys limit keyed kept_of_it only inner no_on (others_of q.filter same))
 
   -- ---- writes
 
@@ -85,7 +88,7 @@ module _ (means : Means) (params : List Value) (h : Holding) (sound : IsSound h)
   module _ (u : Update) (same_name : u.relation.definition.name ≡ name) (held : Replicates h.tables u.relation.definition) (same : u.filter ≡ terms) (stays : assigns_key u ≡ false) where
     made : (result : Result (List Change) Refusal) → Changes means params def snap.site snap.kept (update_over snap.kept u) result (λ changes. changes) → Changes means params def st.holding.site (now st) (update_over (now st) u) result (λ changes. changes)
     made result c =
-        updates_by_keys means params def st.holding.site (now st) u keys result (λ changes. changes) is.bytes keyed defaults kept_of_it (sym (same_def u.relation.definition same_name held)) stays (ap (sought_keys def params) same ∙ is.told)
+        updates_by_keys means params def st.holding.site (now st) u keys result (λ changes. changes) keyed defaults kept_of_it (sym (same_def u.relation.definition same_name held)) stays (others_of u.filter same)
         (subst (λ (kept : List Change). Changes means params def st.holding.site kept (update_over kept u) result (λ changes. changes)) kept_is
         (subst (λ (site : List ℕ). Changes means params def site snap.kept (update_over snap.kept u) result (λ changes. changes)) at.named.site c))
 
@@ -101,7 +104,7 @@ module _ (means : Means) (params : List Value) (h : Holding) (sound : IsSound h)
   module _ (d : Delete) (same_name : d.relation.definition.name ≡ name) (held : Replicates h.tables d.relation.definition) (same : d.filter ≡ terms) where
     left : (result : Result (List Change) Refusal) → Changes means params def snap.site snap.kept (delete_over snap.kept d) result (λ changes. changes) → Changes means params def st.holding.site (now st) (delete_over (now st) d) result (λ changes. changes)
     left result c =
-        deletes_by_keys means params def st.holding.site (now st) d keys result (λ changes. changes) is.bytes keyed defaults kept_of_it (sym (same_def d.relation.definition same_name held)) (ap (sought_keys def params) same ∙ is.told)
+        deletes_by_keys means params def st.holding.site (now st) d keys result (λ changes. changes) keyed defaults kept_of_it (sym (same_def d.relation.definition same_name held)) (others_of d.filter same)
         (subst (λ (kept : List Change). Changes means params def st.holding.site kept (delete_over kept d) result (λ changes. changes)) kept_is
         (subst (λ (site : List ℕ). Changes means params def site snap.kept (delete_over snap.kept d) result (λ changes. changes)) at.named.site c))
 
@@ -147,9 +150,19 @@ pub retabled : (means : Means) (params : List Value) (pending : Option (List Cha
     → IsSought means params pending ts name terms keys → IsSought means params pending us name terms keys
 retabled means params pending ts us name terms keys e is = subst (λ (x : List Table). IsSought means params pending x name terms keys) e is
 
--- what is seen of the keys that the terms tell
+-- terms that tell keys leave out the rows of others
+pub sought_within : (means : Means) (params : List Value) (h : Holding) → IsSound h → (pending : Option (List Change)) (name : List ℕ) (terms : List Expr) (keys : List (List ℕ))
+    → IsSought means params pending h.tables name terms keys → IsWithin means params (state_of h pending) name terms keys
+sought_within means params h sound pending name terms keys is = record {
+  fit = is.fit;
+  def = is.def;
+  there = is.there;
+  others = telling_leaves_out means params is.def (now (state_of h pending)) terms keys is.bytes (one.keyed h sound pending name is.fit is.def is.there) (one.kept_of_it h sound pending name is.fit is.def is.there) is.told;
+}
+
+-- what is seen of keys within which the terms can be true
 pub looked_at : (means : Means) (params : List Value) (old new : State) (name : List ℕ) (terms : List Expr) (keys : List (List ℕ)) (result : Result Snapshot CellsError)
-    → IsSought means params old.pending old.holding.tables name terms keys → Looks (IsSeenAt old name keys) old new result → Looks (IsLook means params old name terms) old new result
+    → IsWithin means params old name terms keys → Looks (IsSeenAt old name keys) old new result → Looks (IsLook means params old name terms) old new result
 looked_at means params old new name terms keys (Ok s) is l = record { same = l.same; looks = inr (keys, is, l.looks) }
 looked_at means params old new name terms keys (Err e) is l = record { same = l.same; looks = l.looks }
 
@@ -158,6 +171,10 @@ pub looked_in : (means : Means) (params : List Value) (old new : State) (name : 
     → Looks (ShowsTables old (name ∷ [])) old new result → Looks (IsLook means params old name terms) old new result
 looked_in means params old new name terms (Ok s) l = record { same = l.same; looks = inl l.looks }
 looked_in means params old new name terms (Err e) l = record { same = l.same; looks = l.looks }
+
+-- what was looked for after a reading that left the session where it stands
+pub looks_from : (Is : State → Snapshot → Type 0) (old middle new : State) (result : Result Snapshot CellsError) → middle ≡ old → Looks (Is middle) middle new result → Looks (Is old) old new result
+looks_from Is old middle new result same l = subst (λ (st : State). Looks (Is st) st new result) same l
 
 -- from one of both to what suffices
 pub suffices : (P Q : Snapshot → Type 0) (old new : State) (result : Result Snapshot CellsError) → ((s : Snapshot) → P s → Q s) → Looks P old new result → Looks Q old new result
@@ -206,14 +223,14 @@ module _ (means : Means) (params : List Value) (h : Holding) (sound : IsSound h)
 
   pub query_looked : (q : Query) (j : Joined) (name : List ℕ) (terms : List Expr) → q.joined ≡ j ∷ [] → j.is_left ≡ false → j.on ≡ [] → name ≡ name_of j → terms ≡ q.filter → IsLook means params here name terms s → ShowsQuery means params q here s
   query_looked q j name terms one inner no_on named same (inl shows) = query_shown (name ∷ []) q (each_only q.joined j name one named) shows
-  query_looked q j name terms one inner no_on named same (inr (keys, sought, at)) = query_by_keys means params h sound pending name terms keys sought s at q j one inner no_on (sym named) (sym same)
+  query_looked q j name terms one inner no_on named same (inr (keys, within, at)) = query_by_keys means params h sound pending name terms keys within s at q j one inner no_on (sym named) (sym same)
 
   pub update_looked : (u : Update) (name : List ℕ) (terms : List Expr) → name ≡ u.relation.definition.name → terms ≡ u.filter → assigns_key u ≡ false → Replicates h.tables u.relation.definition
       → IsLook means params here name terms s → ShowsUpdate means params u here s
   update_looked u name terms named same stays held (inl shows) = update_shown u name named shows
-  update_looked u name terms named same stays held (inr (keys, sought, at)) = update_by_keys means params h sound pending name terms keys sought s at u (sym named) held (sym same) stays
+  update_looked u name terms named same stays held (inr (keys, within, at)) = update_by_keys means params h sound pending name terms keys within s at u (sym named) held (sym same) stays
 
   pub delete_looked : (d : Delete) (name : List ℕ) (terms : List Expr) → name ≡ d.relation.definition.name → terms ≡ d.filter → Replicates h.tables d.relation.definition
       → IsLook means params here name terms s → ShowsDelete means params d here s
   delete_looked d name terms named same held (inl shows) = delete_shown d name named shows
-  delete_looked d name terms named same held (inr (keys, sought, at)) = delete_by_keys means params h sound pending name terms keys sought s at d (sym named) held (sym same)
+  delete_looked d name terms named same held (inr (keys, within, at)) = delete_by_keys means params h sound pending name terms keys within s at d (sym named) held (sym same)

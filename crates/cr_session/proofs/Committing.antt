@@ -73,13 +73,13 @@ all_at : (q : Table → Bool) (s t : Table) (b : Bool) (later : Option Table) �
 all_at q s t true later e good further = let same : s ≡ t = cc in ap q (sym same) ∙ good
 all_at q s t false later e good further = further e
 
-all_found : (p q : Table → Bool) (t : Table) (ts : List Table) → list_all q ts ≡ true → find p ts ≡ Some t → q t ≡ true
+pub all_found : (p q : Table → Bool) (t : Table) (ts : List Table) → list_all q ts ≡ true → find p ts ≡ Some t → q t ≡ true
 all_found p q t [] good e = absurd (let z : ⊥ = cc in z)
 all_found p q t (s ∷ ts) good e =
     let both = both_hold (q s) (list_all q ts) good in
     all_at q s t (p s) (find p ts) e both.0 (λ f. all_found p q t ts both.1 f)
 
-none_is : {X : Type 0} (o : Option X) → is_none o ≡ true → o ≡ None
+pub none_is : {X : Type 0} (o : Option X) → is_none o ≡ true → o ≡ None
 none_is None e = refl
 none_is (Some x) e = absurd (let z : ⊥ = cc in z)
 
@@ -87,7 +87,7 @@ keyed_by : (b : Bool) (later : Option ProfileFault) → (if b then later else So
 keyed_by true later e = refl
 keyed_by false later e = absurd (let z : ⊥ = cc in z)
 
-has_key_by : (def : TableDef) → profile_fault def ≡ None → has_key def ≡ true
+pub has_key_by : (def : TableDef) → profile_fault def ≡ None → has_key def ≡ true
 unfolding profile_fault
 has_key_by def e = keyed_by (has_key def) _ e
 

@@ -2,15 +2,14 @@
 use Rattle.std.proofs.Common.{◌≡◌, inl, inr, ℕ, zero, suc, ◌+◌, ◌<◌, ◌≤◌, zero-add, add-one, arith, Bool, true, false, List, [], ◌∷◌, ◌++◌, append_assoc, append-nil, length, take, drop, drop-cons, get_or, map, find, Option, Some, Result, Ok, Err, refl, sym, ap, subst, ◌∙◌}
 use Rattle.std.specs.Prelude.{filter, if◌then◌else◌}
 use Rattle.std.specs.List.{AllByRecursion}
-use Rattle.std.proofs.lemmas.List.{drop_all, length-map, take-append-drop, take_more}
+use Rattle.std.proofs.lemmas.List.{drop_all, take-append-drop, take_more}
 use Rattle.cr_value.specs.declared.value.Value.{Value}
 use Rattle.cr_value.specs.OrderLaws.{bytes_total, bytes_exact}
 use Rattle.cr_lattice.specs.declared.change.Change.{Change}
 use Rattle.cr_lattice.specs.declared.table.Table.{Table}
-use Rattle.cr_lattice.specs.declared.table.TableDef.{TableDef}
 use Rattle.cr_lattice.specs.Check.{same_bytes}
 use Rattle.cr_lattice.specs.Profile.{has_key}
-use Rattle.cr_lattice.specs.Rows.{alive_keys, cell, row, rows}
+use Rattle.cr_lattice.specs.Rows.{rows}
 use Rattle.cr_lattice.proofs.SortedSets.{list_any-set_of}
 use Rattle.cr_cells.proofs.NewLemmas.{same_is}
 use Rattle.cr_cells.specs.declared.store.CellsError.{CellsError}
@@ -30,6 +29,7 @@ use Rattle.cr_taken.proofs.Tables.{in_profile, kept_well_formed}
 use Rattle.cr_touched.specs.Parts.{is_key_of, part}
 use Rattle.cr_touched.specs.Shown.{AreKeptOf}
 use Rattle.cr_pushdown.specs.Passing.{passes, passing}
+use Rattle.cr_pushdown.proofs.Wide.{rows_wide}
 use Rattle.cr_world.specs.State.{State, now, rows_named, rows_or, other_rows, table_rows, tables_named}
 use Rattle.cr_sought.specs.declared.joined.Partner.{Partner}
 use Rattle.cr_sought.specs.Lists.{listed_keys}
@@ -130,15 +130,6 @@ partners_more n (k ∷ js) j (u ∷ ts) t wide =
     let same : n + width k + widths js ≡ n + (width k + widths js) = omega (arith) in
     ap (λ (ps : List Partner). partner n k u ++ ps) (partners_more (n + width k) js j ts t wide.1 ∙ ap (λ (m : ℕ). partners_from (n + width k) js ts ++ partner m j t) same)
     ∙ sym (append_assoc (partner n k u) (partners_from (n + width k) js ts) (partner (n + (width k + widths js)) j t))
-
-each_wide : (def : TableDef) (kept : List Change) (ks : List (List ℕ)) → AllByRecursion (λ r. length r ≡ length def.columns) (map (row kept def) ks)
-unfolding row
-each_wide def kept [] = tt
-each_wide def kept (k ∷ ks) = (length-map def.columns (cell kept def.name k), each_wide def kept ks)
-
-rows_wide : (def : TableDef) (kept : List Change) → AllByRecursion (λ r. length r ≡ length def.columns) (rows kept def)
-unfolding rows
-rows_wide def kept = each_wide def kept (alive_keys kept def.name)
 
 table_wide : (t : Table) (kept : List Change) → AllByRecursion (λ r. length r ≡ length t.definition.columns) (table_rows kept t)
 table_wide t kept = by t.is_replicated where

@@ -52,7 +52,7 @@ query_by_rows means params st name terms found is q j one inner no_on named same
     let m = meaning most means params in
     let all : List Row = rows (now st) is.table.definition in
     evaluated_one means params most st name is.table is.replicated q j one named
-    ∙ answers_by_passing means params most all q j one inner no_on
+    ∙ answers_by_passing means params most limit all q j one inner no_on
     ∙ (λ i. answer m (query q) (filter (passes means params (sym same i)) all ∷ []))
     ∙ (λ i. answer m (query q) (sym is.are i ∷ []))
 
@@ -60,8 +60,10 @@ query_by_rows means params st name terms found is q j one inner no_on named same
 pub query_served : (means : Means) (params : List Value) (h : Holding) → IsSound h → (pending : Option (List Change)) (x : Seen) (q : Query) (j : Joined) (name : List ℕ)
     → q.joined ≡ j ∷ [] → j.is_left ≡ false → j.on ≡ [] → name ≡ name_of j → IsQueryLook means params (state_of h pending) name q x → Serves means params q (state_of h pending) x
 query_served means params h sound pending (seen.Kept s) q j name one inner no_on named look = query_looked means params h sound pending s q j name q.filter one inner no_on named refl look
-query_served means params h sound pending (seen.Rows found) q j name one inner no_on named are =
-    query_by_rows means params (state_of h pending) name q.filter found are q j one inner no_on named refl
+query_served means params h sound pending (seen.Rows found) q j name one inner no_on named are = (
+  record { table = j; only = one; inner = inner; no_on = no_on },
+  query_by_rows means params (state_of h pending) name q.filter found are q j one inner no_on named refl,
+)
 query_served means params h sound pending (seen.Answer found) q j name one inner no_on named is =
     let st : State = state_of h pending in
     let both = is.answers (record { table = j; only = one; inner = inner; no_on = no_on }) in

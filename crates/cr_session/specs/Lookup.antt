@@ -34,6 +34,7 @@ use Rattle.cr_answer.specs.Selecting.{answer_seen}
 use Rattle.cr_changed.specs.Changed.{IsRefused, Leads, delete_wants, update_wants}
 use Rattle.cr_exec.specs.Equalities.{OrdersBytes}
 use Rattle.cr_sought.specs.Bounds.{lower_bound}
+use Rattle.cr_sought.specs.Laws.{LeaveOutOthers}
 use Rattle.cr_sought.specs.Lists.{sought_keys}
 use Rattle.cr_sought.specs.Writes.{delete_over, update_over}
 
@@ -77,10 +78,18 @@ pub record IsSeenAt (st : State) (name : List ℕ) (keys : List (List ℕ)) (s :
   pub named : IsNamed st s
   pub kept : s.kept ≡ part name (is_key_of keys) (now st)
 
--- It has what shows there of the table of the name, or that of the keys that the terms tell.
+-- On rows of other keys of the replicated table of a name the terms are known not to be all true; and the changes of the open
+-- transaction are well formed for the tables.
+pub record IsWithin (means : Means) (params : List Value) (st : State) (name : List ℕ) (terms : List Expr) (keys : List (List ℕ)) : Type 0 where
+  pub fit : ForSome st.pending (AreWellFormed st.holding.tables)
+  pub def : TableDef
+  pub there : find (is_named name) st.holding.tables ≡ Some (replicated def)
+  pub others : LeaveOutOthers means params def (now st) terms keys
+
+-- It has what shows there of the table of the name, or of keys within which the terms can be true.
 abbrev pub IsLook : Means → List Value → State → List ℕ → List Expr → Snapshot → Type 0
 IsLook means params st name terms s =
-    ShowsTables st (name ∷ []) s ⊎ ((keys : List (List ℕ)) × IsSought means params st.pending st.holding.tables name terms keys × IsSeenAt st name keys s)
+    ShowsTables st (name ∷ []) s ⊎ ((keys : List (List ℕ)) × IsWithin means params st name terms keys × IsSeenAt st name keys s)
 
 -- ---- what is new
 

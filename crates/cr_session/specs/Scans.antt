@@ -1,4 +1,4 @@
--- What a query sees: a snapshot, or of its one table the rows on which its quiet terms are true, or the answer, where that takes no
+-- What a query sees: a snapshot, or of its one table the rows that its WHERE may keep, or the answer, where that takes no
 -- more than one value for each aggregate. Source: this project's own.
 use Rattle.std.specs.Prelude.{◌≡◌, ℕ, true, find, List, [], ◌∷◌, Some}
 use Rattle.cr_value.specs.declared.value.Value.{Value}
@@ -13,7 +13,7 @@ use Rattle.cr_scalar.specs.Host.{Host as Means}
 use Rattle.cr_query.specs.Query.{Row, answer}
 use Rattle.cr_meaning.specs.View.{query}
 use Rattle.cr_exec.specs.Answers.{IsBoth}
-use Rattle.cr_tally.specs.Queries.{IsOfOneTable}
+use Rattle.cr_exec.specs.Combinations.{IsOfOneTable}
 use Rattle.cr_pushdown.specs.Passing.{passing}
 use Rattle.cr_world.specs.State.{State, now}
 use Rattle.cr_world.specs.Statement.{evaluated}
@@ -28,7 +28,7 @@ pub record IsReplicated (tables : List Table) (name : List ℕ) (t : Table) : Ty
   pub there : find (is_named name) tables ≡ Some t
   pub is : t.is_replicated ≡ true
 
--- the rows that show there of a replicated table of the name, and on which each quiet term is true
+-- the rows that show there of a replicated table of the name, and that a WHERE of the terms may keep
 pub record ArePassing (means : Means) (params : List Value) (st : State) (name : List ℕ) (terms : List Expr) (found : List Row) : Type 0 where
   pub table : Table
   pub replicated : IsReplicated st.holding.tables name table
@@ -55,5 +55,5 @@ IsQueryLook means params st name q (seen.Answer found) = IsAnswer means params s
 -- a query answers over what is seen what it answers over all that shows there, or that is the answer
 abbrev pub Serves : Means → List Value → Query → State → Seen → Type 0
 Serves means params q st (seen.Kept s) = ShowsQuery means params q st s
-Serves means params q st (seen.Rows found) = Suffice means params q st (found ∷ [])
+Serves means params q st (seen.Rows found) = IsOfOneTable q × Suffice means params q st (found ∷ [])
 Serves means params q st (seen.Answer found) = IsBoth means params (λ m. evaluated m st (view (r.Select q))) found

@@ -31,7 +31,7 @@ impl<C: Cells> Session<C> {
     ghost use Rattle.cr_cells.specs.Holding.{IsSound};
     ghost use Rattle.cr_fit.specs.Suited.{HasRelation};
     ghost use Rattle.cr_lattice.specs.Keep.{keep};
-    ghost use Rattle.cr_replica.specs.Snapshots.{IsOfNames};
+    ghost use Rattle.cr_replica.specs.Snapshots.{IsOfNames, IsWhole};
     ghost use Rattle.cr_snapshot.specs.Seen.{IsNamed, catalog_of};
     ghost use Rattle.cr_session.specs.Joining.{Finds};
     ghost use Rattle.cr_session.specs.Lookup.{IsLook, IsNewest, IsSeenAbove, IsSeenAt, IsSought, Looks, ShowsDelete, ShowsUpdate};
@@ -85,7 +85,35 @@ impl<C: Cells> Session<C> {
         Ok(snapshot)
     }
 
-    // What a statement of the table of a name sees whose WHERE has these terms.
+    // What a write of the table of a name sees whose WHERE has these terms, and tells no keys: what is kept of the keys of the rows that
+    // it may keep, if they are few, else of the table.
+    fn look_within<F: Functions>(
+        &mut self,
+        alloc: Global,
+        functions: &F,
+        names: Snapshot,
+        name: &str,
+        terms: &[Expr],
+        params: &[Value],
+    ) -> Result<Snapshot, CellsError>
+        requires functions { F.is_faithful functions.now }
+        requires sound { C.is_clean self.old.0 → IsSound (C.holding self.old.0) }
+        requires named { C.is_clean self.old.0 → IsNamed (standing C.holding self.old) names }
+        requires whole { IsWhole names }
+        ensures device { StaysClean C.is_honest C.is_clean is_want self.old.0 self.new.0 result }
+        ensures looks { C.is_clean self.new.0
+            → Looks (IsLook (⟦<F as Hosted>⟧.means functions.now) params.now (standing C.holding self.old) name.now terms.now) (standing C.holding self.old) (standing C.holding self.new) result }
+        ensures names { IfOk result (IsOfNames names) }
+        ensures kept { IfOk result (λ snapshot. keep snapshot.kept ≡ snapshot.kept) }
+    {
+        match self.passing_keys(alloc, functions, &names, name, terms, params) {
+            Ok(Some(keys)) => self.see_at(alloc, names, name, &keys),
+            Ok(None) => self.see_table(alloc, names, name),
+            Err(error) => Err(error),
+        }
+    }
+
+    // What a write of the table of a name sees whose WHERE has these terms.
     fn look<F: Functions>(
         &mut self,
         alloc: Global,
@@ -95,8 +123,10 @@ impl<C: Cells> Session<C> {
         terms: &[Expr],
         params: &[Value],
     ) -> Result<Snapshot, CellsError>
+        requires functions { F.is_faithful functions.now }
         requires sound { C.is_clean self.old.0 → IsSound (C.holding self.old.0) }
         requires named { C.is_clean self.old.0 → IsNamed (standing C.holding self.old) names }
+        requires whole { IsWhole names }
         ensures device { StaysClean C.is_honest C.is_clean is_want self.old.0 self.new.0 result }
         ensures looks { C.is_clean self.new.0
             → Looks (IsLook (⟦<F as Hosted>⟧.means functions.now) params.now (standing C.holding self.old) name.now terms.now) (standing C.holding self.old) (standing C.holding self.new) result }
@@ -112,7 +142,7 @@ impl<C: Cells> Session<C> {
             params,
         )? {
             Some(keys) => self.see_at(alloc, names, name, &keys),
-            None => self.see_table(alloc, names, name),
+            None => self.look_within(alloc, functions, names, name, terms, params),
         }
     }
 
@@ -192,8 +222,8 @@ impl<C: Cells> Session<C> {
     }
 
     /// What a query sees: of one table whose WHERE tells the keys of its rows, what is kept of these; of the table of changes alone,
-    /// whose WHERE tells a version, what is stamped above it; of another replicated table alone the rows on which its quiet terms are
-    /// true, or the answer; else what is kept of the tables that it names.
+    /// whose WHERE tells a version, what is stamped above it; of another replicated table alone the rows that its WHERE may keep, or the
+    /// answer; else what is kept of the tables that it names.
     pub(crate) fn look_for_query<F: Functions>(
         &mut self,
         alloc: Global,
@@ -228,8 +258,8 @@ impl<C: Cells> Session<C> {
         }
     }
 
-    /// What an UPDATE of a replicated table sees: where its WHERE tells the keys of its rows and it leaves keys as they are, what
-    /// is kept of these, else of the table.
+    /// What an UPDATE of a replicated table sees: where its WHERE tells the keys of its rows, or may keep few rows, and it leaves keys as
+    /// they are, what is kept of these keys, else of the table.
     pub(crate) fn look_for_update<F: Functions>(
         &mut self,
         alloc: Global,
@@ -238,8 +268,10 @@ impl<C: Cells> Session<C> {
         update: &Update,
         params: &[Value],
     ) -> Result<Snapshot, CellsError>
+        requires functions { F.is_faithful functions.now }
         requires sound { C.is_clean self.old.0 → IsSound (C.holding self.old.0) }
         requires named { C.is_clean self.old.0 → IsNamed (standing C.holding self.old) names }
+        requires whole { IsWhole names }
         requires suits { HasRelation (catalog_of names) update.now.relation }
         requires table { is_table update.now.relation.held ≡ true }
         requires replicated { not_replicated update.now.relation ≡ Free }
@@ -263,8 +295,8 @@ impl<C: Cells> Session<C> {
         )
     }
 
-    /// What a DELETE from a replicated table sees: where its WHERE tells the keys of its rows, what is kept of these, else of the
-    /// table.
+    /// What a DELETE from a replicated table sees: where its WHERE tells the keys of its rows, or may keep few rows, what is kept of these
+    /// keys, else of the table.
     pub(crate) fn look_for_delete<F: Functions>(
         &mut self,
         alloc: Global,
@@ -273,8 +305,10 @@ impl<C: Cells> Session<C> {
         delete: &Delete,
         params: &[Value],
     ) -> Result<Snapshot, CellsError>
+        requires functions { F.is_faithful functions.now }
         requires sound { C.is_clean self.old.0 → IsSound (C.holding self.old.0) }
         requires named { C.is_clean self.old.0 → IsNamed (standing C.holding self.old) names }
+        requires whole { IsWhole names }
         requires suits { HasRelation (catalog_of names) delete.now.relation }
         requires table { is_table delete.now.relation.held ≡ true }
         requires replicated { not_replicated delete.now.relation ≡ Free }

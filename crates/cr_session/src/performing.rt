@@ -9,13 +9,15 @@ ghost use Rattle.cr_world.specs.Statement.{Host, marked_reply, no_default, not_a
 ghost use Rattle.cr_lattice.specs.Profile.{lacks_default};
 ghost use Rattle.cr_world.specs.Causes.{where_true};
 ghost use Rattle.cr_world.specs.declared.refusal.Refusal.TheVariants.{NoDefault};
+ghost use Rattle.cr_bags.specs.Bags.{single};
+ghost use Rattle.cr_exec.specs.Combinations.{IsOfOneTable};
 ghost use Rattle.cr_session.specs.Joining.{Suffice};
 ghost use Rattle.cr_session.specs.Lookup.{ShowsQuery};
 ghost use Rattle.cr_session.specs.Performing.{Passes, Performs, not_replicated};
 
 use crate::filtering::Seen;
 use crate::session::Session;
-use cr_answer::selecting::{answer_query, answer_view};
+use cr_answer::selecting::{answer_query, answer_rows, answer_view};
 use cr_cells::store::Cells;
 use cr_expr::given::Hosted;
 use cr_guard::guarding::Guarding;
@@ -105,6 +107,23 @@ fn answered_over<F: Functions>(
     }
 }
 
+// Answers a SELECT of one table over rows of it.
+fn answered_of<F: Functions>(
+    alloc: Global,
+    functions: &F,
+    rows: Items<Row>,
+    query: &Query,
+    params: &[Value],
+) -> Result<Reply, Refusal>
+    requires { F.is_faithful functions.now }
+    ensures { (host : Host) (st : State) → IsOfOneTable query.now → Suffice (⟦<F as Hosted>⟧.means functions.now) params.now query.now st (single rows) → Performs (⟦<F as Hosted>⟧.means functions.now) params.now host st (view (r.Select query.now)) result st }
+{
+    match answer_rows(alloc, functions, rows, query, params) {
+        Ok(rows) => Ok(Reply::Rows(rows)),
+        Err(refusal) => Err(refusal),
+    }
+}
+
 /// Answers a SELECT over what is seen.
 ///
 /// # Errors
@@ -182,7 +201,7 @@ impl<C: Cells> Session<C> {
         }
         match self.look_for_query(alloc, functions, names, query, params) {
             Ok(Seen::Kept(snapshot)) => answered(alloc, functions, &snapshot, query, params),
-            Ok(Seen::Rows(rows)) => answered_over(alloc, functions, &[rows], query, params),
+            Ok(Seen::Rows(rows)) => answered_of(alloc, functions, rows, query, params),
             Ok(Seen::Answer(answer)) => Ok(Reply::Rows(answer)),
             Err(error) => Err(Refusal::from(error)),
         }

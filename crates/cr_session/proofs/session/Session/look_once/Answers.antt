@@ -5,7 +5,7 @@ use Rattle.cr_session.specs.declared.filtering.Seen.TheVariants as seen
 use Rattle.cr_session.specs.Lookup.{IsLook, IsSeenAt, Looks}
 use Rattle.cr_session.specs.Scans.{IsQueryLook, IsScan}
 use Rattle.cr_session.specs.Sessions.{standing}
-use Rattle.cr_session.proofs.ByKey.{looked_at, retabled}
+use Rattle.cr_session.proofs.ByKey.{looked_at, retabled, sought_within}
 use Rattle.cr_session.proofs.Joins.{finds_for}
 use Rattle.cr_session.proofs.Scanning.{scan_looked, seen_as}
 use Rattle.cr_session.proofs.session.Session.look_once.Goals as goal
@@ -16,8 +16,10 @@ returns-in-Some-clause-finds g c = λ clean.
     let st = standing g.C.Cells.holding c.args.self.now in
     let new = standing g.C.Cells.holding c.see_at.new.self in
     let terms = c.as_slice-2.result.now in
+    let was = c.see_at.ensures.device.was_clean clean in
     let looked = looked_at by c.args.params.now st new c.args.name.now terms c.in-Some.keys.items c.see_at.result
-    (retabled by c.args.params.now _ _ _ c.args.name.now terms c.in-Some.keys.items (c.as_slice.ensures ∙ (c.requires.named (c.see_at.ensures.device.was_clean clean)).tables) (c.in_ok-keys.ensures c.in-Some.keys c.in-Some.is))
+    (sought_within by c.args.params.now (g.C.Cells.holding c.args.self.now.0) (c.requires.sound was) c.args.self.now.1 c.args.name.now terms c.in-Some.keys.items
+    (retabled by c.args.params.now _ _ _ c.args.name.now terms c.in-Some.keys.items (c.as_slice.ensures ∙ (c.requires.named was).tables) (c.in_ok-keys.ensures c.in-Some.keys c.in-Some.is)))
     (subst (λ (keys : List (List ℕ)). Looks (IsSeenAt st c.args.name.now keys) st new c.see_at.result) c.deref.ensures.value (c.see_at.ensures.sees clean)) in
     seen_as seen.Kept (IsLook by c.args.params.now st c.args.name.now terms) (IsQueryLook by c.args.params.now st c.args.name.now c.args.query.now) st new c.see_at.result c.map.result c.map.ensures.cases
     (λ s look. subst (λ (ts : List Expr). IsLook by c.args.params.now st c.args.name.now ts s) c.as_slice-2.ensures look) looked.same looked.looks

@@ -7,7 +7,7 @@ use Rattle.cr_exec.specs.Answers.{IsBoth}
 use Rattle.cr_meaning.specs.View as view
 use Rattle.cr_query.specs.Query.{Row, answer}
 use Rattle.cr_scalar.specs.Host.{Host as Means, host}
-use Rattle.cr_tally.specs.Queries.{IsOfOneTable}
+use Rattle.cr_exec.specs.Combinations.{IsOfOneTable}
 use Rattle.cr_session.proofs.Passing.{found_there}
 use Rattle.cr_session.proofs.session.Session.see_answer.Goals as goal
 

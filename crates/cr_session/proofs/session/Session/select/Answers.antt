@@ -23,8 +23,10 @@ returns-in-Ok-Rows g c = λ for.
     let by : Means = host (g.F.Functions.function_of c.args.functions.now) (g.F.Functions.scalar c.args.functions.now) (g.F.Functions.step c.args.functions.now) (g.F.Functions.finish c.args.functions.now) (g.F.Functions.order_of c.args.functions.now) in
     let st = standing g.C.Cells.holding c.args.self.now in
     looks by c.args.params.now for g.C.Cells.is_honest g.C.Cells.is_clean g.C.Cells.holding c.args.self.now c.look_for_query.new.self (r.Select c.args.query.now) c.look_for_query.ensures.device.was_honest c.look_for_query.ensures.device.was_clean (λ clean. (c.in-Ok-Rows.ensures.finds clean).same)
-    c.answered_over.result c.in-Ok-Rows.ensures.device.stays_clean
-    (λ clean. c.answered_over.ensures for _ (subst (Serves by c.args.params.now c.args.query.now st) c.in-Ok-Rows.field-0-is (c.in-Ok-Rows.ensures.finds clean).finds))
+    c.answered_of.result c.in-Ok-Rows.ensures.device.stays_clean
+    (λ clean.
+    let served = subst (Serves by c.args.params.now c.args.query.now st) c.in-Ok-Rows.field-0-is (c.in-Ok-Rows.ensures.finds clean).finds in
+    c.answered_of.ensures for _ served.0 served.1)
 
 pub returns-in-Ok-Answer : goal.returns-in-Ok-Answer
 returns-in-Ok-Answer g c = λ for.
