@@ -19,7 +19,6 @@ pub mod PlanLemmas
 pub mod ReadBack
 pub mod ReadLemmas
 pub mod PageReads
-pub mod ReadRows
 pub mod ReadSets
 pub mod ReopenLemmas
 pub mod RowTests

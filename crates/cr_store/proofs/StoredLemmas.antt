@@ -1,12 +1,11 @@
 -- Reading the rows of a table one by one, and rowids that are distinct.
-use Rattle.std.proofs.Common.{◌≡◌, ◌≢◌, ℕ, ◌+◌, ◌<◌, ℤ, Bool, true, false, List, [], ◌∷◌, ◌++◌, map, take, length, get_or, Ordering, Less, Equal, Greater, refl, sym, ap, subst, ◌∙◌, arith, int_cmp, is_eq, true≢false}
+use Rattle.std.proofs.Common.{◌≡◌, ◌≢◌, ◌+◌, ℤ, Bool, true, false, List, [], ◌∷◌, ◌++◌, map, get_or, Ordering, Less, Equal, Greater, refl, sym, ap, subst, ◌∙◌, arith, int_cmp, is_eq, true≢false}
 use Rattle.std.specs.Prelude.{Decides}
 use Rattle.std.specs.List.{AllByRecursion, IsDistinct, IsAllAdjacentAnswer}
 use Rattle.std.specs.List.Sorted.{IsSorted, IsPermutation}
 use Rattle.std.specs.Ordering.{is_lt, int_eq, ordering_reverse}
 use Rattle.std.proofs.lemmas.Cmp.{int_cmp_total, tied_itself}
 use Rattle.std.specs.FinSet.{int_cmp-IsAntisymmetric}
-use Rattle.std.proofs.lemmas.List.{take_more}
 use Rattle.std.proofs.lemmas.List.Sorted.{IsPermutation-sym}
 use Rattle.std.proofs.lemmas.Map.Keys.{IsDistinct-IsPermutation, IsDistinct-from_sorted, apart_from_distinct}
 use Rattle.sqlite.specs.declared.types.Value.TheVariants.{Int}
@@ -23,10 +22,6 @@ use Rattle.cr_sound.proofs.Deciding.{order_decided}
 pub all_one_more : {X : Type 0} (P : X → Type 0) (xs : List X) (y : X) → AllByRecursion P xs → P y → AllByRecursion P (xs ++ y ∷ [])
 all_one_more P [] y all here = (here, tt)
 all_one_more P (x ∷ xs) y all here = (all.0, all_one_more P xs y all.1 here)
-
-pub all_more : {X : Type 0} (P : X → Type 0) (xs : List X) (i : ℕ) (x : X) → AllByRecursion P (take i xs) → i < length xs → x ≡ get_or xs i x → P x → AllByRecursion P (take (i + 1) xs)
-all_more P xs i x all within here h =
-    subst (AllByRecursion P) (sym (take_more xs i x within)) (all_one_more P (take i xs) (get_or xs i x) all (subst P here h))
 
 -- ---- distinct numbers
 

@@ -90,18 +90,19 @@ fn read_cell(
     })
 }
 
+// Drops each row once its cell is made.
 fn read_all(
-    rows: &[Row],
+    rows: Vec<Row>,
     format: Format,
     tables: &[Table],
     alloc: Global,
 ) -> Result<Vec<Stamped>, CellsError>
-    ensures { MatchResult result (λ v. (v.items ≡ map (cell_of format tables.now) rows.now) × AllByRecursion (IsCellRow format tables.now) rows.now)
-        (IsDamage (¬ AllByRecursion (IsCellRow format tables.now) rows.now)) }
+    ensures { MatchResult result (λ v. (v.items ≡ map (cell_of format tables.now) rows.items) × AllByRecursion (IsCellRow format tables.now) rows.items)
+        (IsDamage (¬ AllByRecursion (IsCellRow format tables.now) rows.items)) }
 {
     let mut cells = Vec::new(alloc);
     for row in rows {
-        let cell = read_cell(row, format, tables, alloc)?;
+        let cell = read_cell(&row, format, tables, alloc)?;
         match cells.push(cell) {
             Ok(()) => {}
             Err(_) => return Err(CellsError::Memory),
@@ -110,21 +111,22 @@ fn read_all(
     Ok(cells)
 }
 
-/// The cells of rows of ten columns, a rowid before the nine of a table of cells, in the order of changes, each once.
+/// The cells of rows of ten columns, a rowid before the nine of a table of cells, in the order of changes, each once. The
+/// rows are dropped one by one, each as soon as its cell is made, since a store's rows take more memory than its cells.
 ///
 /// # Errors
 /// `Memory`, or `Store(Damaged)` where a rowid is no integer or comes twice, or where no store with these tables writes such
 /// a row in that format.
 pub(crate) fn read_cells(
-    rows: &[Row],
+    rows: Vec<Row>,
     format: Format,
     tables: &[Table],
     alloc: Global,
 ) -> Result<Vec<Stamped>, CellsError>
-    ensures { MatchResult result (λ v. (v.items ≡ cells_in format tables.now rows.now) × AreStored (IsCellRow format tables.now) rows.now)
-        (IsDamage (¬ AreStored (IsCellRow format tables.now) rows.now)) }
+    ensures { MatchResult result (λ v. (v.items ≡ cells_in format tables.now rows.items) × AreStored (IsCellRow format tables.now) rows.items)
+        (IsDamage (¬ AreStored (IsCellRow format tables.now) rows.items)) }
 {
-    let ids = read_ids(rows, alloc)?;
+    let ids = read_ids(&rows, alloc)?;
     if !are_distinct(ids) {
         return Err(DAMAGED);
     }

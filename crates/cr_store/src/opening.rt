@@ -168,14 +168,15 @@ fn read_tables(rows: &[Row], alloc: Global) -> Result<Vec<Table>, CellsError>
 
 // ---- cells and cr_peer
 
+// Drops the rows one by one, as `read_cells` does.
 fn list_cells(
-    rows: &[Row],
+    rows: Vec<Row>,
     format: Format,
     tables: &[Table],
     alloc: Global,
 ) -> Result<Vec<Stamped>, CellsError>
-    ensures { MatchResult result (λ cells. (IsDistinct same_name tables.now → Lists rows.now (map (cell_row format tables.now) cells.items)) × (cells.items ≡ cells_in format tables.now rows.now))
-        (IsDamage ((ss : List Stamped) → AllByRecursion IsReadableCell ss → AllByRecursion (IsNamed tables.now) ss → ¬ Lists rows.now (map (cell_row format tables.now) ss))) }
+    ensures { MatchResult result (λ cells. (IsDistinct same_name tables.now → Lists rows.items (map (cell_row format tables.now) cells.items)) × (cells.items ≡ cells_in format tables.now rows.items))
+        (IsDamage ((ss : List Stamped) → AllByRecursion IsReadableCell ss → AllByRecursion (IsNamed tables.now) ss → ¬ Lists rows.items (map (cell_row format tables.now) ss))) }
 {
     read_cells(rows, format, tables, alloc)
 }
@@ -206,24 +207,25 @@ fn has_none(rows: &[Row]) -> bool
     rows.is_empty()
 }
 
-/// What a store holds, of the rows of its tables in a format: what it knows, and its cells.
+/// What a store holds, of the rows of its tables in a format: what it knows, and its cells. The rows of cells are dropped one
+/// by one, each as soon as its cell is made, since a store's rows take more memory than its cells.
 ///
 /// # Errors
 /// `Memory`, or `Store(Damaged)` where the rows are those of nothing that a store holds.
 pub(crate) fn known_in(
-    rows: &Rows,
+    rows: Rows,
     format: Format,
     alloc: Global,
 ) -> Result<(Known, Vec<Stamped>), CellsError>
-    ensures { MatchResult result (λ it. IsKnown format rows.now.meta.items rows.now.tables.items rows.now.old.items rows.now.cells.items rows.now.marks.items it.0 it.1.items)
-        (IsDamage ((h : Holding) → IsReadable h → IsSound h → ¬ ListsAll format rows.now.meta.items rows.now.tables.items rows.now.old.items rows.now.cells.items rows.now.marks.items h)) }
+    ensures { MatchResult result (λ it. IsKnown format rows.meta.items rows.tables.items rows.old.items rows.cells.items rows.marks.items it.0 it.1.items)
+        (IsDamage ((h : Holding) → IsReadable h → IsSound h → ¬ ListsAll format rows.meta.items rows.tables.items rows.old.items rows.cells.items rows.marks.items h)) }
 {
     let (site, version) = read_meta(&rows.meta, format, alloc)?;
     let tables = read_tables(&rows.tables, alloc)?;
     if !has_none(&rows.old) {
         return Err(DAMAGED);
     }
-    let cells = list_cells(&rows.cells, format, &tables, alloc)?;
+    let cells = list_cells(rows.cells, format, &tables, alloc)?;
     let marks = read_marks(&rows.marks, alloc)?;
     let known = Known {
         site,
@@ -256,7 +258,7 @@ fn read_held<S: Alter>(
     ensures clean { HasCleanDisk (state S.Store conn.new) → HasCleanDisk (state S.Store conn.old) }
 {
     match read_rows(conn, format, alloc) {
-        Ok(rows) => known_in(&rows, format, alloc),
+        Ok(rows) => known_in(rows, format, alloc),
         Err(error) => Err(refusal(error)),
     }
 }

@@ -28,44 +28,43 @@ returns-in_err-site c =
 
 pub returns-in_err-cells : goal.returns-in_err-cells
 returns-in_err-cells c =
-    let rows = c.args.rows.now in
+    let rows = c.args.rows in
     let f = c.args.format in
     let ts = c.in_ok-tables.tables.items in
     let tables = subst (λ (rs : List Row). Lists rs (table_rows 1 ts)) c.deref-2.ensures.value c.in_ok-tables.ensures.0 in
     let p = err_from_is_err_and c.from_residual-in_err-cells.result c.from_residual-in_err-cells.ensures.1 in
     rw (p.1, p.2) (damage_then c.in_err-cells.field-0.0 (λ none h can sound it.
-    let same : h.tables ≡ c.deref-5.result.now = sym (c.deref-5.ensures.value ∙ tables_back read_back rows.tables.items ts h.tables c.in_ok-tables.ensures.1 can.tables tables it.tables_are) in
-    let listed = subst (λ (us : List Table). Lists rows.cells.items (map (cell_row f us) h.cells)) same it.cells_are in
+    let same : h.tables ≡ c.deref-4.result.now = sym (c.deref-4.ensures.value ∙ tables_back read_back rows.tables.items ts h.tables c.in_ok-tables.ensures.1 can.tables tables it.tables_are) in
     none h.cells can.cells (subst (λ (us : List Table). AllByRecursion (IsNamed us) h.cells) same (named_cells h sound))
-    (subst (λ (rs : List Row). Lists rs (map (cell_row f c.deref-5.result.now) h.cells)) (sym c.deref-4.ensures.value) listed)) c.in_err-cells.ensures)
+    (subst (λ (us : List Table). Lists rows.cells.items (map (cell_row f us) h.cells)) same it.cells_are)) c.in_err-cells.ensures)
 
 pub returns-in_err-check : goal.returns-in_err-check
 returns-in_err-check c =
-    let rows = c.args.rows.now in
+    let rows = c.args.rows in
     let f = c.args.format in
     let site = c.in_ok-site.site in
     let same : to_z w64 (of_z w64 c.in_ok-site.version) ≡ c.in_ok-site.version = to_z-of_z w64 c.in_ok-site.version (search rules) in
     let ts = c.in_ok-tables.tables.items in
     let metas = subst (λ n. Lists rows.meta.items (meta_rows f site n)) (sym same) (subst (λ (rs : List Row). Lists rs (meta_rows f site c.in_ok-site.version)) c.deref.ensures.value c.in_ok-site.ensures) in
     let tables = subst (λ (rs : List Row). Lists rs (table_rows 1 ts)) c.deref-2.ensures.value c.in_ok-tables.ensures.0 in
-    let cells = c.deref-7.ensures.value ∙ c.in_ok-cells.ensures.1 ∙ ap (cells_in f c.deref-5.result.now) c.deref-4.ensures.value ∙ ap (λ us. cells_in f us rows.cells.items) c.deref-5.ensures.value in
-    let marks = c.in_ok-marks.ensures.1 ∙ ap (λ (rs : List Row). set_of seen_cmp (map mark_of rs)) c.deref-6.ensures.value in
-    let one = one_holding read_back f rows.meta.items rows.tables.items rows.old.items rows.cells.items rows.marks.items site _ ts c.deref-7.result.now c.in_ok-marks.marks.items metas tables c.in_ok-tables.ensures.1 cells marks in
+    let cells = c.deref-6.ensures.value ∙ c.in_ok-cells.ensures.1 ∙ ap (λ us. cells_in f us rows.cells.items) c.deref-4.ensures.value in
+    let marks = c.in_ok-marks.ensures.1 ∙ ap (λ (rs : List Row). set_of seen_cmp (map mark_of rs)) c.deref-5.ensures.value in
+    let one = one_holding read_back f rows.meta.items rows.tables.items rows.old.items rows.cells.items rows.marks.items site _ ts c.deref-6.result.now c.in_ok-marks.marks.items metas tables c.in_ok-tables.ensures.1 cells marks in
     let p = err_from_is_err_and c.from_residual-in_err-check.result c.from_residual-in_err-check.ensures.1 in
     rw (p.1, p.2) (damage_then c.in_err-check.field-0.0 (λ unsound h can sound it. unsound (subst IsSound (sym (one h can sound it)) sound)) (c.in_err-check.ensures site))
 
 pub returns : goal.returns
 returns c =
-    let rows = c.args.rows.now in
+    let rows = c.args.rows in
     let f = c.args.format in
     let site = c.in_ok-site.site in
     let ts = c.in_ok-tables.tables.items in
     let same : to_z w64 (of_z w64 c.in_ok-site.version) ≡ c.in_ok-site.version = to_z-of_z w64 c.in_ok-site.version (search rules) in
     let metas = subst (λ n. Lists rows.meta.items (meta_rows f site n)) (sym same) (subst (λ (rs : List Row). Lists rs (meta_rows f site c.in_ok-site.version)) c.deref.ensures.value c.in_ok-site.ensures) in
     let tables = subst (λ (rs : List Row). Lists rs (table_rows 1 ts)) c.deref-2.ensures.value c.in_ok-tables.ensures.0 in
-    let named : c.deref-5.result.now ≡ ts = c.deref-5.ensures.value in
+    let named : c.deref-4.result.now ≡ ts = c.deref-4.ensures.value in
     let cells = λ (distinct : IsDistinct same_name ts). subst (λ (us : List Table). Lists rows.cells.items (map (cell_row f us) c.in_ok-cells.cells.items)) named
-    (subst (λ (rs : List Row). Lists rs (map (cell_row f c.deref-5.result.now) c.in_ok-cells.cells.items)) c.deref-4.ensures.value (c.in_ok-cells.ensures.0 (subst (IsDistinct same_name) (sym named) distinct))) in
-    let marks = subst (λ (rs : List Row). Lists rs (map mark_row c.in_ok-marks.marks.items)) c.deref-6.ensures.value c.in_ok-marks.ensures.0 in
-    let sound = subst (λ (ss : List Stamped). IsSound (holding ts site (to_z w64 (of_z w64 c.in_ok-site.version)) ss c.in_ok-marks.marks.items)) c.deref-7.ensures.value (c.in_ok-check.ensures site) in
+    (c.in_ok-cells.ensures.0 (subst (IsDistinct same_name) (sym named) distinct)) in
+    let marks = subst (λ (rs : List Row). Lists rs (map mark_row c.in_ok-marks.marks.items)) c.deref-5.ensures.value c.in_ok-marks.ensures.0 in
+    let sound = subst (λ (ss : List Stamped). IsSound (holding ts site (to_z w64 (of_z w64 c.in_ok-site.version)) ss c.in_ok-marks.marks.items)) c.deref-6.ensures.value (c.in_ok-check.ensures site) in
     is_known f rows.meta.items rows.tables.items rows.old.items rows.cells.items rows.marks.items _ c.in_ok-cells.cells.items metas tables c.in_ok-tables.ensures.1 (sym c.deref-3.ensures.value ∙ c.has_none.ensures.0 c.if-not-has_none.false) cells marks sound

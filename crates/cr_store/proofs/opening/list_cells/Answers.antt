@@ -12,7 +12,7 @@ use Rattle.cr_store.proofs.opening.list_cells.Goals as goal
 
 pub returns : goal.returns
 returns c =
-    let rows = c.args.rows.now in
+    let rows = c.args.rows.items in
     let f = c.args.format in
     let ts = c.args.tables.now in
     read_then c.read_cells.result _ _ _ _
