@@ -11,7 +11,7 @@ pub mod grouped;
 mod index;
 pub mod join;
 pub mod order;
-mod push;
+pub mod push;
 pub mod select;
 pub mod show;
 mod source;

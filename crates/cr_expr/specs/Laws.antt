@@ -1,10 +1,10 @@
 -- What holds of every expression.
-use Rattle.std.specs.Prelude.{◌≡◌, ◌≢◌, IsTrue, List, get_or, None, Ok, Err}
+use Rattle.std.specs.Prelude.{◌≡◌, ◌≢◌, ◌⊎◌, IsTrue, List, [], get_or, None, Ok, Err}
 use Rattle.std.specs.List.{AllByRecursion, AllZip}
 use Rattle.cr_value.specs.declared.value.Value.{Value}
 use Rattle.cr_value.specs.declared.value.Value.TheVariants.{Null}
 use Rattle.cr_term.specs.declared.expr.Column.{Column}
-use Rattle.cr_term.specs.Parts.{columns}
+use Rattle.cr_term.specs.Parts.{columns, aggregates}
 use Rattle.cr_term.specs.declared.expr.Expr.{Expr}
 use Rattle.cr_term.specs.Terms.{quiet}
 use Rattle.cr_scalar.specs.declared.fault.EvalFault.TheVariants.{TooBig}
@@ -34,15 +34,16 @@ LimitTakesAway = (e : Expr) (s : Setting) → eval_of s e ≢ Err TooBig → eva
 abbrev pub AgreeOn : List Column → List Value → List Value → Type 0
 AgreeOn cs row other = AllByRecursion (λ c. get_or row c.at Null ≡ get_or other c.at Null) cs
 
--- two settings differ, if at all, in other columns of the row and of the rows of the group
-pub record Agrees (cs : List Column) (s t : Setting) : Type 0 where
+-- two settings differ, if at all, in what the expression does not read: in other columns of the row and of the rows of the group, and
+-- in the group where no aggregate stands in it
+pub record Agrees (e : Expr) (s t : Setting) : Type 0 where
   pub most : s.most ≡ t.most
   pub params : s.params ≡ t.params
   pub shown : s.shown ≡ t.shown
   pub host : s.host ≡ t.host
-  pub row : AgreeOn cs s.row t.row
-  pub group : AllZip (AgreeOn cs) s.group t.group
+  pub row : AgreeOn (columns e) s.row t.row
+  pub group : (aggregates e ≡ []) ⊎ AllZip (AgreeOn (columns e)) s.group t.group
 
--- An expression reads the columns that stand in it, and no other.
+-- An expression reads the columns that stand in it, and no other, and the group only where an aggregate does.
 abbrev pub ReadsItsColumns : Type 0
-ReadsItsColumns = (e : Expr) (s t : Setting) → Agrees (columns e) s t → eval_of s e ≡ eval_of t e
+ReadsItsColumns = (e : Expr) (s t : Setting) → Agrees e s t → eval_of s e ≡ eval_of t e

@@ -429,6 +429,23 @@ fn eval_all<'a, F: Functions>(
     Ok(Items::new(operands))
 }
 
+/// The values of expressions, from left to right, in memory of their own: exactly what they mean, with the first fault that is met.
+#[cycle(eval)]
+#[tactic(auto, using(crate::proofs::Nodes::fault_through))]
+pub fn eval_row<'a, F: Functions>(
+    alloc: Global,
+    exprs: &'a [Expr],
+    given: &Given<'a>,
+    functions: &F,
+) -> Result<Row, EvalFault>
+    requires { F.is_faithful functions.now }
+    ensures { let s = setting byte_limit (⟦<F as Hosted>⟧.means functions.now) given.now in
+        Evaluates (all_of (each (map meaning exprs.now) s)) result }
+{
+    let operands = eval_all(alloc, exprs, given, functions)?;
+    Ok(own_all(alloc, operands)?)
+}
+
 // A call of a function of the engine.
 #[cycle(eval)]
 #[tactic(auto, using(crate::proofs::Nodes::fault_through))]
@@ -464,8 +481,7 @@ fn eval_host<'a, F: Functions>(
     ensures { let s = setting byte_limit (⟦<F as Hosted>⟧.means functions.now) given.now in
         Evaluates (and_then (all_of (each (map meaning args.now) s)) (λ vs. of_host (s.host.scalar name.now vs))) result }
 {
-    let args = eval_all(alloc, args, given, functions)?;
-    let args = own_all(alloc, args)?;
+    let args = eval_row(alloc, args, given, functions)?;
     Ok(Operand::made(call_host(functions, name, args.as_slice())?))
 }
 
@@ -554,8 +570,7 @@ fn eval_aggregate<'a, F: Functions>(
             row: row.as_slice(),
             ..*given
         };
-        let values = eval_all(alloc, args, &over, functions)?;
-        let values = own_all(alloc, values)?;
+        let values = eval_row(alloc, args, &over, functions)?;
         rows.push(values)?;
     }
     let value = aggregate(alloc, functions, kind, args.len(), Items::new(rows))?;

@@ -12,7 +12,7 @@ pub fn the_limit_changes_no_value()
     ensures { LimitTakesAway }
 {}
 
-/// An expression reads the columns that stand in it, and no other.
+/// An expression reads the columns that stand in it, and no other, and the group only where an aggregate does.
 pub fn an_expression_reads_its_columns()
     ensures { ReadsItsColumns }
 {}

@@ -6,13 +6,13 @@ ghost use Rattle.cr_guard.specs.Heard.{AreByKey};
 ghost use Rattle.cr_heard.specs.Touched.{AreShownByKey, AreSound, IsSoundOf, heard_of_keys};
 
 use crate::touched::Touched;
-use crate::values::read_rows;
 use cr_guard::event::Event;
 use cr_guard::heard::{are_by_key, heard};
 use cr_lattice::change::Change;
 use cr_lattice::merge::merge;
 use cr_lattice::rows::rows;
 use cr_lattice::table::{Row, TableDef};
+use cr_wanted::values::read_rows;
 use std::alloc::{AllocError, Global};
 
 // The rows that a table shows; `None` where they do not stand by their keys.

@@ -5,4 +5,3 @@ pub mod heard;
 pub mod keys;
 pub mod laws;
 pub mod touched;
-mod values;

@@ -1,5 +1,5 @@
 -- This project's SQL is a language of sessions.
-use Rattle.std.proofs.Common.{◌≡◌, ◌∙◌, ℕ, suc, Bool, true, false, List, [], ◌∷◌, ◌++◌, map, length, find, Option, Some, None, Ok, Err, refl, ap, sym, subst, slice_get}
+use Rattle.std.proofs.Common.{◌≡◌, inr, ◌∙◌, ℕ, suc, Bool, true, false, List, [], ◌∷◌, ◌++◌, map, length, find, Option, Some, None, Ok, Err, refl, ap, sym, subst, slice_get}
 use Rattle.std.specs.Prelude.{Result, if◌then◌else◌, get_or}
 use Rattle.std.specs.Option.{option_map, option_or, is_none}
 use Rattle.std.specs.List.{AllByRecursion, AllZip}
@@ -221,7 +221,7 @@ module _ (e : Engine) where
   row_reads : (params : List Value) (mask : List Bool) (o : Ordered) → Seen places mask o → (c : Row) → (exact e.host params).value o (masked mask c) ≡ (exact e.host params).value o c
   row_reads params mask o h c =
       ap value_of (reads_law o.expr (at_row (limit_of None o.expr) e.host params (masked mask c)) (at_row (limit_of None o.expr) e.host params c)
-      (record { most = refl; params = refl; shown = refl; host = refl; row = agrees mask c (columns o.expr) h; group = tt }))
+      (record { most = refl; params = refl; shown = refl; host = refl; row = agrees mask c (columns o.expr) h; group = inr tt }))
 
   abbrev no_mask : List Bool
   no_mask = []
@@ -230,7 +230,7 @@ module _ (e : Engine) where
       → (exact e.host params).over o (record { shown = k; members = map (masked mask) cs }) ≡ (exact e.host params).over o (record { shown = k; members = cs })
   group_reads params mask o h k cs =
       ap value_of (reads_law o.expr (at_group None e.host params (record { shown = k; members = map (masked mask) cs })) (at_group None e.host params (record { shown = k; members = cs }))
-      (record { most = refl; params = refl; shown = refl; host = refl; row = agrees no_mask [] (columns o.expr) (past (columns o.expr)); group = rows_agree mask cs (columns o.expr) h })) where
+      (record { most = refl; params = refl; shown = refl; host = refl; row = agrees no_mask [] (columns o.expr) (past (columns o.expr)); group = inr (rows_agree mask cs (columns o.expr) h) })) where
         past : (fs : List Field) → AllByRecursion (λ p. get_or no_mask p true ≡ true) (map (λ c. c.at) fs)
         past [] = tt
         past (f ∷ fs) = (refl, past fs)

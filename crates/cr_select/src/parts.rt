@@ -58,7 +58,7 @@ pub fn terms_of(alloc: Global, condition: Option<Boxed<Expr>>) -> Result<Items<E
 }
 
 /// Whether one of two holds. A function of its own, so that a loop that asks has one path.
-pub(crate) fn either(left: bool, right: bool) -> bool
+pub fn either(left: bool, right: bool) -> bool
     ensures { result ≡ (left || right) }
 {
     left || right

@@ -1,5 +1,5 @@
 //! What a statement of one table sees whose WHERE tells no keys. A replicated table is read page by page: a query sees the rows that its
-//! WHERE may keep, or the answer, where its results are aggregates of columns; a write sees the keys of these rows, if they are few. Of
+//! WHERE may keep, or the answer, where its results are aggregates; a write sees the keys of these rows, if they are few. Of
 //! another table what is kept is seen.
 
 ghost use Rattle.std.specs.Prelude.{◌≡◌, []};
@@ -136,7 +136,7 @@ impl<C: Cells> Session<C> {
     }
 
     /// The keys of the rows of the replicated table of a name that a WHERE of these terms may keep: on rows of other keys the terms are
-    /// known not to be all true. `None` where there are more than 4,096, where there is no such table, and where there are no terms.
+    /// known not to be all true. `None` where they are not told: they are more than 4,096, there is no such table, or there are no terms.
     ///
     /// # Errors
     /// `Memory`, or `Store(Refused)`.

@@ -48,7 +48,7 @@ true_for means params most (inr is) terms r so = subst (λ (n : Option ℕ). hol
 -- ---- what the group shows
 
 -- the value of each result
-each_value : (means : Means) (params : List Value) (most : Option ℕ) → IsLimit most → (results : List ResultColumn) (rows : List Row) (ts : List Tally) (row : Row) → TellAll means results rows ts → AllZip Worth ts row
+each_value : (means : Means) (params : List Value) (most : Option ℕ) → IsLimit most → (results : List ResultColumn) (rows : List Row) (ts : List Tally) (row : Row) → TellAll means params results rows ts → AllZip Worth ts row
     → each (λ e. (meaning most means params).over e (record { shown = []; members = rows })) (map view.result_term results) ≡ Some row
 each_value means params most limit [] rows [] [] tells worths = refl
 each_value means params most limit [] rows [] (v ∷ vs) tells worths = absurd worths
@@ -56,7 +56,7 @@ each_value means params most limit [] rows (t ∷ ts) row tells worths = absurd 
 each_value means params most limit (c ∷ cs) rows [] row tells worths = absurd tells
 each_value means params most limit (c ∷ cs) rows (t ∷ ts) [] tells worths = absurd worths
 each_value means params most limit (c ∷ cs) rows (t ∷ ts) (v ∷ vs) tells worths =
-    λ i. joins (option_map single (worths.0 means c.expr rows tells.0 params most limit i)) (each_value means params most limit cs rows ts vs tells.1 worths.1 i)
+    λ i. joins (option_map single (worths.0 means params c.expr rows tells.0 most limit i)) (each_value means params most limit cs rows ts vs tells.1 worths.1 i)
 
 module _ (means : Means) (params : List Value) (most : Option ℕ) (limit : IsLimit most) (q : Query) (one : IsOfOneTable q) (of : IsOfAggregates q) (all : List Row)
     (true_of : AllByRecursion (AreTrue means params q.filter) (filter (passes means params q.filter) all)) where
@@ -93,14 +93,14 @@ module _ (means : Means) (params : List Value) (most : Option ℕ) (limit : IsLi
       groups_over : List GroupTerm → Option (List Group)
       groups_over gs = groups by (map view.group_term gs) found
 
-  pub answered : (ts : List Tally) (row : Row) → TellAll means q.results found ts → AllZip Worth ts row
+  pub answered : (ts : List Tally) (row : Row) → TellAll means params q.results found ts → AllZip Worth ts row
       → answer by (view.query q) (single all) ≡ Some (finished by (view.query q) (single (record { row = row; keys = [] })))
   answered ts row tells worths =
       ap (λ o. option_map (finished by (view.query q)) (option_and_then (shown by (view.query q)) o)) combinations
       ∙ ap (option_map (finished by (view.query q))) (group_shows row (each_value means params most limit q.results found ts row tells worths))
 
 pub answers_both : (means : Means) (params : List Value) (q : Query) → IsOfOneTable q → IsOfAggregates q → (all : List Row) (ts : List Tally) (rows : List Row) → AllByRecursion (AreTrue means params q.filter) (filter (passes means params q.filter) all)
-    → TellAll means q.results (filter (passes means params q.filter) all) ts → Finishes means q ts rows → IsBoth means params (λ m. answer m (view.query q) (single all)) rows
+    → TellAll means params q.results (filter (passes means params q.filter) all) ts → Finishes means q ts rows → IsBoth means params (λ m. answer m (view.query q) (single all)) rows
 answers_both means params q one of all ts rows so tells fin = record {
   exact = answered means params None (inl refl) q one of all so ts fin.row tells fin.worth ∙ ap (λ (rs : List Row). Some rs) (sym (fin.are params None));
   sized = answered means params byte_limit (inr refl) q one of all so ts fin.row tells fin.worth ∙ ap (λ (rs : List Row). Some rs) (sym (fin.are params byte_limit));

@@ -1,24 +1,29 @@
 -- What an aggregate told of the rows of a group is its value over the group.
-use Rattle.std.proofs.Common.{◌≡◌, inl, inr, ◌∙◌, ℕ, true, List, [], ◌∷◌, length, map, Option, Some, None, Ok, Result, get_or, refl, sym, ap}
-use Rattle.std.specs.List.{AllByRecursion}
+use Rattle.std.proofs.Common.{◌≡◌, inl, inr, ◌∙◌, ℕ, true, not, List, [], ◌∷◌, ◌++◌, length, map, Option, Some, None, Ok, Err, Result, refl, sym, ap}
+use Rattle.std.specs.Prelude.{nat_le}
+use Rattle.std.specs.List.{AllByRecursion, AllZip}
 use Rattle.cr_value.specs.declared.value.Value.{Value}
-use Rattle.cr_value.specs.declared.value.Value.TheVariants.{Null}
+use Rattle.cr_term.specs.Parts.{columns}
 use Rattle.cr_term.specs.declared.expr.Column.{Column}
 use Rattle.cr_term.specs.declared.expr.Expr.{Expr}
 use Rattle.cr_term.specs.declared.expr.Expr as e
 use Rattle.cr_term.specs.declared.operator.Aggregate.{Aggregate}
 use Rattle.cr_term.specs.declared.operator.Aggregate.TheVariants.{CountAll, Count, Max, Min, Sum, Host}
+use Rattle.cr_scalar.specs.Host.{Host as Means}
 use Rattle.cr_scalar.specs.Compare.{Orders}
 use Rattle.cr_scalar.specs.Meaning.{Meant, Outcome, and_then, bounded, byte_limit}
 use Rattle.cr_scalar.specs.Functions.{all_of}
 use Rattle.cr_scalar.specs.Aggregates.{aggregate_of}
+use Rattle.cr_expr.specs.Laws.{AgreeOn}
 use Rattle.cr_expr.specs.Setting.{Setting, over}
 use Rattle.cr_expr.specs.Eval.{each, eval_of, meaning}
+use Rattle.cr_expr.proofs.LimitLaw.{limit_law}
 use Rattle.cr_expr.proofs.Nodes.{aggregate_node, one_node}
+use Rattle.cr_expr.proofs.ReadsLaw.{reads_law}
 use Rattle.cr_query.specs.Query.{Row}
-use Rattle.cr_meaning.specs.Meaning.{IsLimit, at_group, value_of}
+use Rattle.cr_meaning.specs.Meaning.{IsLimit, at_group, at_row, value_of}
 use Rattle.cr_tally.specs.declared.tally.Tally.{Tally}
-use Rattle.cr_tally.specs.Tallies.{AreSmall, IsPlace, Worth, arguments, is_built_in}
+use Rattle.cr_tally.specs.Tallies.{AreArguments, IsAlone, Worth, is_built_in}
 
 small_for : (most : Option ℕ) → IsLimit most → (v : Value) → bounded byte_limit v ≡ Ok v → bounded most v ≡ Ok v
 small_for most (inl none) v small = ap (λ (m : Option ℕ). bounded m v) none
@@ -26,25 +31,52 @@ small_for most (inr is) v small = ap (λ (m : Option ℕ). bounded m v) is ∙ s
 
 -- ---- arguments
 
-column_value : (c : Column) (s : Setting) → bounded s.most (get_or s.row c.at Null) ≡ Ok (get_or s.row c.at Null) → eval_of s (e.Column c) ≡ Ok (get_or s.row c.at Null)
-unfolding e.out-Expr denote.Hole.Carrier.out
-column_value c s small = one_node s (e.Column c) ∙ small
-
-row_read : (s : Setting) → IsLimit s.most → (args : List Expr) (place : Option ℕ) → IsPlace args place → (row : Row) → AreSmall (arguments place row)
-    → all_of (each (map meaning args) (over s row)) ≡ Ok (arguments place row)
-row_read s limit args None is row small = ap (λ (es : List Expr). all_of (each (map meaning es) (over s row))) is
-row_read s limit args (Some at) (c, at_is, is) row small =
-    ap (λ (es : List Expr). all_of (each (map meaning es) (over s row))) is
-    ∙ ap (λ (m : Meant). all_of (m ∷ [])) (column_value c (over s row) (ap (λ (n : ℕ). bounded s.most (get_or row n Null)) at_is ∙ small_for s.most limit (get_or row at Null) small.0 ∙ ap (λ (n : ℕ). Ok (get_or row n Null)) (sym at_is)))
-    ∙ ap (λ (n : ℕ). Ok (get_or row n Null ∷ [])) at_is
+pub none_there : (ks : List Aggregate) → not (not (nat_le (length (ks ++ [])) 0)) ≡ true → ks ≡ []
+none_there [] is = refl
+none_there (k ∷ ks) is = absurd cc
 
 one_more : (o : Outcome (List Value)) (os : Outcome (List (List Value))) (r : List Value) (rs : List (List Value)) → o ≡ Ok r → os ≡ Ok rs → and_then o (λ v. and_then os (λ vs. Ok (v ∷ vs))) ≡ Ok (r ∷ rs)
 one_more o os r rs first later = ap (λ (p : Outcome (List Value)). and_then p (λ v. and_then os (λ vs. Ok (v ∷ vs)))) first ∙ ap (λ (ps : Outcome (List (List Value))). and_then ps (λ vs. Ok (r ∷ vs))) later
 
-rows_read : (s : Setting) → IsLimit s.most → (args : List Expr) (place : Option ℕ) → IsPlace args place → (rows : List Row) → AllByRecursion (λ row. AreSmall (arguments place row)) rows
-    → all_of (map (λ row. all_of (each (map meaning args) (over s row))) rows) ≡ Ok (map (arguments place) rows)
-rows_read s limit args place is [] small = refl
-rows_read s limit args place is (row ∷ rows) small = one_more _ _ (arguments place row) (map (arguments place) rows) (row_read s limit args place is row small.0) (rows_read s limit args place is rows small.1)
+rows_read : (means : Means) (params : List Value) (args : List Expr) (most : Option ℕ) (members : List Row) → IsLimit most → (rows : List Row) (given : List (List Value)) → AllZip (AreArguments means params args) rows given
+    → all_of (map (λ row. all_of (each (map meaning args) (over (at_group most means params (record { shown = []; members = members })) row))) rows) ≡ Ok given
+rows_read means params args most members limit [] [] all = refl
+rows_read means params args most members limit [] (vs ∷ given) all = absurd all
+rows_read means params args most members limit (row ∷ rows) [] all = absurd all
+rows_read means params args most members limit (row ∷ rows) (vs ∷ given) all = one_more _ _ vs given (all.0 most members limit) (rows_read means params args most members limit rows given all.1)
+
+-- the values of expressions over a row alone, under the limit, are those over it in any group
+module _ (means : Means) (params : List Value) (row : Row) (most : Option ℕ) (members : List Row) (limit : IsLimit most) where
+  abbrev alone : Setting
+  alone = at_row byte_limit means params row
+
+  abbrev there : Setting
+  there = over (at_group most means params (record { shown = []; members = members })) row
+
+  agree : (cs : List Column) (r : Row) → AgreeOn cs r r
+  agree [] r = tt
+  agree (c ∷ cs) r = (refl, agree cs r)
+
+  one_there : (x : Expr) → IsAlone x → (v : Value) → eval_of alone x ≡ Ok v → eval_of there x ≡ Ok v
+  one_there x none v is =
+      sym (reads_law x (over (at_group most means params (record { shown = []; members = [] })) row) there (record { most = refl; params = refl; shown = refl; host = refl; row = agree (columns x) row; group = inl none }))
+      ∙ under most limit
+    where
+      under : (n : Option ℕ) → IsLimit n → eval_of (over (at_group n means params (record { shown = []; members = [] })) row) x ≡ Ok v
+      under n (inl no) = ap (λ (m : Option ℕ). eval_of (at_row m means params row) x) no ∙ limit_law x alone (λ big. absurd cc) ∙ is
+      under n (inr at) = ap (λ (m : Option ℕ). eval_of (at_row m means params row) x) at ∙ is
+
+  pub all_there : (args : List Expr) → AllByRecursion IsAlone args → (vs : List Value) → all_of (each (map meaning args) alone) ≡ Ok vs → all_of (each (map meaning args) there) ≡ Ok vs
+  all_there [] none vs is = is
+  all_there (x ∷ xs) none vs is = by_parts (eval_of alone x) (all_of (each (map meaning xs) alone)) refl refl is where
+    by_parts : (o : Meant) (os : Outcome (List Value)) → eval_of alone x ≡ o → all_of (each (map meaning xs) alone) ≡ os → and_then o (λ w. and_then os (λ ws. Ok (w ∷ ws))) ≡ Ok vs
+        → and_then (eval_of there x) (λ w. and_then (all_of (each (map meaning xs) there)) (λ ws. Ok (w ∷ ws))) ≡ Ok vs
+    by_parts (Err f) os e es so = absurd cc
+    by_parts (Ok w) (Err f) e es so = absurd cc
+    by_parts (Ok w) (Ok ws) e es so =
+        ap (λ (m : Meant). and_then m (λ u. and_then (all_of (each (map meaning xs) there)) (λ us. Ok (u ∷ us)))) (one_there x none.0 w e)
+        ∙ ap (λ (ms : Outcome (List Value)). and_then ms (λ us. Ok (w ∷ us))) (all_there xs none.1 ws es)
+        ∙ so
 
 -- ---- the value
 
@@ -59,18 +91,18 @@ own_alone order f g Sum rows own = refl
 own_alone order f g (Host name) rows own = absurd cc
 
 pub worth : (t : Tally) (v : Value) → bounded byte_limit t.value ≡ Ok t.value → v ≡ t.value → Worth t v
-worth t v small is means expr rows tells params most limit =
+worth t v small is means params expr rows tells most limit =
     let s : Setting = at_group most means params (record { shown = []; members = rows }) in
     let kind = t.kind.now in
-    let args = tells.args in
-    let given = aggregate_of means.order (λ name. means.aggregate name (length (map meaning args))) kind in
+    let args = t.args.now in
+    let by_name = λ (name : List ℕ). means.aggregate name (length (map meaning args)) in
     let node : eval_of s expr ≡ Ok t.value =
     ap (eval_of s) tells.is
     ∙ one_node s (e.Aggregate kind args)
     ∙ ap (λ (m : Meant). and_then m (bounded most))
     (aggregate_node s kind args
-    ∙ ap (λ (o : Outcome (List (List Value))). and_then o given) (rows_read s limit args t.place tells.place rows tells.small)
-    ∙ own_alone means.order (λ name. means.aggregate name (length (map meaning args))) (λ name. means.aggregate name 1) kind (map (arguments t.place) rows) tells.built_in
+    ∙ ap (λ (o : Outcome (List (List Value))). and_then o (aggregate_of means.order by_name kind)) (rows_read means params args most rows limit rows tells.given tells.arguments)
+    ∙ own_alone means.order by_name (λ name. means.aggregate name 1) kind tells.given tells.built_in
     ∙ tells.value)
     ∙ small_for most limit t.value small in
     ap value_of node ∙ ap (λ w. Some w) (sym is)

@@ -22,8 +22,8 @@ pub record IsOfAggregates (q : Query) : Type 0 where
   pub no_order : q.order ≡ []
 
 -- whatever results the one tell of no rows, the others tell of these
-abbrev pub TellsFrom : Means → List Tally → List Row → List Tally → Type 0
-TellsFrom means ts rows us = (results : List ResultColumn) → TellAll means results [] ts → TellAll means results rows us
+abbrev pub TellsFrom : Means → List Value → List Tally → List Row → List Tally → Type 0
+TellsFrom means params ts rows us = (results : List ResultColumn) → TellAll means params results [] ts → TellAll means params results rows us
 
 -- the terms are all true on the row, without a limit on values and with it
 abbrev pub AreTrue : Means → List Value → List Expr → Row → Type 0
@@ -32,7 +32,7 @@ AreTrue means params terms row = IsBoth means params (λ m. holds m (map view.pl
 -- the terms are all true on each of the rows, of which these tell
 pub record TellsOf (means : Means) (params : List Value) (terms : List Expr) (ts : List Tally) (rows : List Row) (us : List Tally) : Type 0 where
   pub are_true : AllByRecursion (AreTrue means params terms) rows
-  pub tells : TellsFrom means ts rows us
+  pub tells : TellsFrom means params ts rows us
 
 -- the rows of an answer whose one group shows what these are worth
 pub record Finishes (means : Means) (q : Query) (ts : List Tally) (answer : List Row) : Type 0 where

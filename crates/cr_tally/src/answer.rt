@@ -1,4 +1,4 @@
-//! What a SELECT of one table answers whose results are aggregates of columns.
+//! What a SELECT of one table answers whose results are aggregates.
 
 ghost use Rattle.std.specs.Prelude.{◌≡◌, true, IfOk, IsTrue};
 ghost use Rattle.std.specs.List.{AllByRecursion};
@@ -95,7 +95,7 @@ fn tallied<'q, C: Cells, F: Functions>(
         if !are_true(alloc, functions, &page, terms, params)? {
             return Ok(None);
         }
-        match with_rows(alloc, functions, tallies, &page) {
+        match with_rows(alloc, functions, tallies, &page, params) {
             Ok(Some(next)) => tallies = next,
             Ok(None) => return Ok(None),
             Err(_) => return Err(CellsError::Memory),
@@ -126,8 +126,9 @@ fn answer_of<F: Functions>(
 }
 
 /// What a SELECT of one table answers: of what is kept, and with it of further changes, as those of an open transaction, in any order
-/// and of any tables. `None` where its results are not all aggregates of a column, or of no arguments, that SQLite has, where it has
-/// GROUP BY, HAVING or ORDER BY, where a value is over the limit of 1,000,000 bytes, and where a term or an aggregate has a fault. The table is read page by page, and beside a page one value is held for each aggregate.
+/// and of any tables. `None` where its results are not all aggregates that SQLite has, where it has GROUP BY, HAVING or ORDER BY, where
+/// a value is over the limit of 1,000,000 bytes, and where a term, an argument or an aggregate has a fault. The table is read page by
+/// page, and beside a page one value is held for each aggregate.
 ///
 /// `params` are the parameters' values, from number 1 on.
 ///

@@ -1,8 +1,9 @@
 //! The aggregates of a query, one beside another.
 
-ghost use Rattle.std.specs.Prelude.{[], IfOk};
+ghost use Rattle.std.specs.Prelude.{[], List, IfOk};
 ghost use Rattle.std.specs.List.{AllZip};
 ghost use Rattle.std.specs.Option.{ForSome};
+ghost use Rattle.cr_value.specs.declared.value.Value.{Value};
 ghost use Rattle.cr_tally.specs.Tallies.{Step, TellAll, Worth};
 
 use crate::tally::Tally;
@@ -10,16 +11,17 @@ use cr_expr::given::Hosted;
 use cr_host::functions::Functions;
 use cr_lattice::table::{Items, Row};
 use cr_term::query::ResultColumn;
+use cr_value::value::Value;
 use std::alloc::{AllocError, Global};
 
-/// What the results of a query give of no rows; `None` where one is not an aggregate of a column, or of no arguments, that SQLite has.
+/// What the results of a query give of no rows; `None` where one is not an aggregate that SQLite has.
 pub fn tallies_of<'q, F: Functions>(
     alloc: Global,
     functions: &F,
     results: &'q [ResultColumn],
 ) -> Result<Option<Vec<Tally<'q>>>, AllocError>
     requires { F.is_faithful functions.now }
-    ensures { IfOk result (λ o. ForSome o (λ v. TellAll (⟦<F as Hosted>⟧.means functions.now) results.now [] v.items)) }
+    ensures { IfOk result (λ o. ForSome o (λ v. (params : List Value) → TellAll (⟦<F as Hosted>⟧.means functions.now) params results.now [] v.items)) }
 {
     let mut out = Vec::new(alloc);
     for column in results {
@@ -31,20 +33,20 @@ pub fn tallies_of<'q, F: Functions>(
     Ok(Some(out))
 }
 
-/// Each with more rows behind those that were seen so far; `None` where one cannot be told so: an argument is over the limit of
-/// 1,000,000 bytes, or an aggregate has a fault.
+/// Each with more rows behind those that were seen so far; `None` where one cannot be told so: an argument or an aggregate has a fault.
 pub fn with_rows<'q, F: Functions>(
     alloc: Global,
     functions: &F,
     tallies: Vec<Tally<'q>>,
     rows: &[Row],
+    params: &[Value],
 ) -> Result<Option<Vec<Tally<'q>>>, AllocError>
     requires { F.is_faithful functions.now }
-    ensures { IfOk result (λ o. ForSome o (λ v. AllZip (Step (⟦<F as Hosted>⟧.means functions.now) rows.now) tallies.entry.items v.items)) }
+    ensures { IfOk result (λ o. ForSome o (λ v. AllZip (Step (⟦<F as Hosted>⟧.means functions.now) params.now rows.now) tallies.entry.items v.items)) }
 {
     let mut out = Vec::new(alloc);
     for tally in tallies {
-        let Some(next) = tally.with(alloc, functions, rows)? else {
+        let Some(next) = tally.with(alloc, functions, rows, params)? else {
             return Ok(None);
         };
         out.push(next)?;

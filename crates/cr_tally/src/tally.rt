@@ -1,16 +1,19 @@
-//! An aggregate of a column: what it gives of the rows that were seen so far.
+//! An aggregate: what it gives of the rows that were seen so far.
 
 ghost use Rattle.std.specs.Prelude.{◌≡◌, ◌∷◌, ◌++◌, [], true, false, IsTrue, List, Ok, IfOk};
+ghost use Rattle.std.specs.List.{AllByRecursion, AllZip};
 ghost use Rattle.cr_value.specs.declared.value.Value.{Value as Content};
 ghost use Rattle.std.specs.Option.{ForSome};
 ghost use Rattle.cr_scalar.specs.Meaning.{bounded, byte_limit};
-ghost use Rattle.cr_tally.specs.Tallies.{ArgumentsOf, IsPlace, arguments, gives, is_built_in, is_count, AreSmall};
+ghost use Rattle.cr_tally.specs.Tallies.{AreArguments, IsAlone, gives, is_built_in, is_count};
 
-use cr_expr::given::Hosted;
+use cr_expr::eval::eval_row;
+use cr_expr::given::{Given, Hosted};
 use cr_host::functions::Functions;
 use cr_lattice::table::{Items, Row};
 use cr_scalar::aggregate::aggregate;
 use cr_scalar::fault::EvalFault;
+use cr_select::aggregates::has_aggregate;
 use cr_term::expr::Expr;
 use cr_term::operator::Aggregate;
 use cr_value::value::Value;
@@ -19,12 +22,11 @@ use std::alloc::{AllocError, Global};
 /// The greatest size of a value in bytes.
 const MOST_BYTES: usize = 1_000_000;
 
-/// An aggregate of a column, or of no arguments, and what it gives of the rows that were seen so far.
+/// An aggregate with its arguments, and what it gives of the rows that were seen so far.
 #[derive(Drop)]
 pub struct Tally<'q> {
     kind: &'q Aggregate,
-    // The place of the column in a row.
-    place: Option<usize>,
+    args: &'q [Expr],
     value: Value,
 }
 
@@ -40,20 +42,23 @@ fn is_count(kind: &Aggregate) -> bool
     matches!(kind, Aggregate::CountAll | Aggregate::Count)
 }
 
-// The place of the column that is the only argument, if there is an argument; `None` for other arguments.
-fn place_of(args: &[Expr]) -> Option<Option<usize>>
-    ensures { ForSome result (IsPlace args.now) }
+// Whether no aggregate stands in an expression.
+fn is_alone(expr: &Expr) -> bool
+    ensures { result ≡ true → IsAlone expr.now }
 {
-    let Some((arg, others)) = args.split_first() else {
-        return Some(None);
-    };
-    if !others.is_empty() {
-        return None;
+    !has_aggregate(expr)
+}
+
+// Whether none stands in one of several.
+fn are_alone(exprs: &[Expr]) -> bool
+    ensures { result ≡ true → AllByRecursion IsAlone exprs.now }
+{
+    for expr in exprs {
+        if !is_alone(expr) {
+            return false;
+        }
     }
-    match arg {
-        Expr::Column(column) => Some(Some(column.at)),
-        _ => None,
-    }
+    true
 }
 
 // Whether a value is within the limit of 1,000,000 bytes.
@@ -77,38 +82,44 @@ fn row_of(alloc: Global, value: Value) -> Result<Row, AllocError>
     Ok(Items::new(values))
 }
 
-// The arguments on a row; `None` where one is over the limit.
-fn arguments_on(
+// The arguments on a row; `None` where one has a fault.
+fn arguments_on<F: Functions>(
     alloc: Global,
-    place: Option<usize>,
+    functions: &F,
+    args: &[Expr],
     row: &[Value],
+    params: &[Value],
 ) -> Result<Option<Row>, AllocError>
-    ensures { IfOk result (λ o. ForSome o (λ given. (given ≡ arguments place row.now) × AreSmall (arguments place row.now))) }
+    requires { F.is_faithful functions.now }
+    ensures { IfOk result (λ o. ForSome o (λ given. AllByRecursion IsAlone args.now → AreArguments (⟦<F as Hosted>⟧.means functions.now) params.now args.now row.now given)) }
 {
-    let Some(at) = place else {
-        return Ok(Some(Items::new(Vec::new(alloc))));
+    let given = Given {
+        row,
+        params,
+        group: &[],
+        shown: &[],
     };
-    let value = match row.get(at) {
-        Some(value) => value.copy(alloc)?,
-        None => Value::Null,
-    };
-    if !is_small(&value) {
-        return Ok(None);
+    match eval_row(alloc, args, &given, functions) {
+        Ok(values) => Ok(Some(values)),
+        Err(EvalFault::Memory) => Err(AllocError),
+        Err(_) => Ok(None),
     }
-    Ok(Some(row_of(alloc, value)?))
 }
 
-// The arguments on each of some rows; `None` where one is over the limit.
-fn arguments_of(
+// The arguments on each of some rows; `None` where one has a fault.
+fn arguments_of<F: Functions>(
     alloc: Global,
-    place: Option<usize>,
+    functions: &F,
+    args: &[Expr],
     rows: &[Row],
+    params: &[Value],
 ) -> Result<Option<Vec<Row>>, AllocError>
-    ensures { IfOk result (λ o. ForSome o (λ v. ArgumentsOf place rows.now v.items)) }
+    requires { F.is_faithful functions.now }
+    ensures { IfOk result (λ o. ForSome o (λ v. AllByRecursion IsAlone args.now → AllZip (AreArguments (⟦<F as Hosted>⟧.means functions.now) params.now args.now) rows.now v.items)) }
 {
     let mut out = Vec::new(alloc);
     for row in rows {
-        let Some(given) = arguments_on(alloc, place, row.as_slice())? else {
+        let Some(given) = arguments_on(alloc, functions, args, row.as_slice(), params)? else {
             return Ok(None);
         };
         out.push(given)?;
@@ -196,55 +207,54 @@ fn next_value<F: Functions>(
 }
 
 impl<'q> Tally<'q> {
-    ghost use Rattle.std.specs.Prelude.{[], IfOk};
+    ghost use Rattle.std.specs.Prelude.{[], List, IfOk};
     ghost use Rattle.std.specs.Option.{ForSome};
+    ghost use Rattle.cr_value.specs.declared.value.Value.{Value};
     ghost use Rattle.cr_tally.specs.Tallies.{Step, Tells, Worth};
 
-    /// What an expression gives of no rows; `None` where it is not an aggregate of a column, or of no arguments, that SQLite has.
+    /// What an expression gives of no rows; `None` where it is not an aggregate that SQLite has.
     pub fn new<F: Functions>(
         alloc: Global,
         functions: &F,
         expr: &'q Expr,
     ) -> Result<Option<Tally<'q>>, AllocError>
         requires { F.is_faithful functions.now }
-        ensures { IfOk result (λ o. ForSome o (Tells (⟦<F as Hosted>⟧.means functions.now) expr.now [])) }
+        ensures { IfOk result (λ o. ForSome o (λ t. (params : List Value) → Tells (⟦<F as Hosted>⟧.means functions.now) params expr.now [] t)) }
     {
         let Expr::Aggregate(kind, args) = expr else {
             return Ok(None);
         };
-        if !is_built_in(kind) {
+        let args = args.as_slice();
+        if !is_built_in(kind) || !are_alone(args) {
             return Ok(None);
         }
-        let Some(place) = place_of(args.as_slice()) else {
-            return Ok(None);
-        };
         match given(alloc, functions, kind, Vec::new(alloc))? {
-            Some(value) => Ok(Some(Tally { kind, place, value })),
+            Some(value) => Ok(Some(Tally { kind, args, value })),
             None => Ok(None),
         }
     }
 
-    /// The same with more rows behind those that were seen so far; `None` where an argument is over the limit of 1,000,000 bytes or
-    /// the aggregate has a fault.
+    /// The same with more rows behind those that were seen so far; `None` where an argument or the aggregate has a fault.
     pub fn with<F: Functions>(
         self,
         alloc: Global,
         functions: &F,
         rows: &[Row],
+        params: &[Value],
     ) -> Result<Option<Tally<'q>>, AllocError>
         requires { F.is_faithful functions.now }
-        ensures { IfOk result (λ o. ForSome o (Step (⟦<F as Hosted>⟧.means functions.now) rows.now self.entry)) }
+        ensures { IfOk result (λ o. ForSome o (Step (⟦<F as Hosted>⟧.means functions.now) params.now rows.now self.entry)) }
     {
         if !is_built_in(self.kind) {
             return Ok(None);
         }
-        let Some(arguments) = arguments_of(alloc, self.place, rows)? else {
+        let Some(arguments) = arguments_of(alloc, functions, self.args, rows, params)? else {
             return Ok(None);
         };
         match next_value(alloc, functions, self.kind, self.value, arguments)? {
             Some(value) => Ok(Some(Tally {
                 kind: self.kind,
-                place: self.place,
+                args: self.args,
                 value,
             })),
             None => Ok(None),

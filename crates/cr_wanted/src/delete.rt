@@ -8,7 +8,7 @@ ghost use Rattle.cr_exec.specs.Answers.{Adds};
 ghost use Rattle.cr_exec.specs.Streamed.{Selects, is_store};
 ghost use Rattle.cr_wanted.specs.Rows.{kept_by};
 
-use crate::push::push;
+use cr_exec::push::push;
 use cr_exec::streamed::SourceFault;
 use cr_exec::terms::{all_true, with_quiet_first};
 use cr_expr::given::Hosted;

@@ -7,8 +7,8 @@ ghost use Rattle.cr_meaning.specs.View as view;
 ghost use Rattle.cr_exec.specs.Answers.{Answers};
 
 use crate::exprs::there_of;
-use crate::push::push;
 use crate::put::{defaults, put_all};
+use cr_exec::push::push;
 use cr_exec::value::{Scope, values_in};
 use cr_expr::given::Hosted;
 use cr_host::functions::Functions;

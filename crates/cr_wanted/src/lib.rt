@@ -10,6 +10,6 @@ pub mod keyed;
 pub mod laws;
 pub mod long;
 pub mod nulls;
-mod push;
 pub mod put;
 pub mod update;
+pub mod values;

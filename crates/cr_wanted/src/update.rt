@@ -9,8 +9,8 @@ ghost use Rattle.cr_exec.specs.Streamed.{Selects, is_store};
 ghost use Rattle.cr_wanted.specs.Rows.{assigned_by, updated_by};
 
 use crate::exprs::{exprs_of, places_of};
-use crate::push::push;
 use crate::put::put_all;
+use cr_exec::push::push;
 use cr_exec::streamed::SourceFault;
 use cr_exec::terms::{all_true, with_quiet_first};
 use cr_exec::value::{Scope, values_in};

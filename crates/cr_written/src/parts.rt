@@ -1,6 +1,5 @@
 //! The table of an UPDATE or a DELETE with its WHERE, and where aggregates may stand.
 
-ghost use Rattle.std.specs.Prelude.{◌≡◌, ◌||◌};
 ghost use Rattle.cr_resolve.specs.declared.refusal.Refusal.TheVariants.{Misaggregate};
 ghost use Rattle.cr_resolve.specs.Reading.{when};
 ghost use Rattle.cr_resolve.specs.Told.{Finds, Passes, Reads};
@@ -18,13 +17,6 @@ use cr_value::text::Text;
 use sqlite_items::Items;
 use std::alloc::Global;
 use std::slice;
-
-/// Whether one of two holds. A function of its own, so that who asks has one path.
-pub(crate) fn either(left: bool, right: bool) -> bool
-    ensures { result ≡ (left || right) }
-{
-    left || right
-}
 
 /// Tests that no aggregate stands where none may.
 ///

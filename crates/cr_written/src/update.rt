@@ -7,13 +7,14 @@ ghost use Rattle.cr_resolve.specs.Told.{Finds, Reads};
 ghost use Rattle.cr_resolve.specs.Writes.{assignments, update as meant};
 ghost use Rattle.cr_written.specs.Updates.{assignment};
 
-use crate::parts::{check_placed, either, filter_of, source_of};
+use crate::parts::{check_placed, filter_of, source_of};
 use crate::targets::target;
 use cr_resolve::expressions::expr;
 use cr_resolve::naming::Naming;
 use cr_resolve::reading::Made;
 use cr_resolve::refusal::Refusal;
 use cr_resolve::scope::Source;
+use cr_select::parts::either;
 use cr_term::query::{Assignment, Update};
 use cr_tree::statement::{Assignment as AssignmentTree, Update as UpdateTree};
 use cr_value::text::Text;

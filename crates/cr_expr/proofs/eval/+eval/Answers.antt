@@ -62,9 +62,9 @@ eval_node-returns g t c =
 pub eval_aggregate-loop-row-preserved : goal.eval_aggregate-loop-row-preserved
 eval_aggregate-loop-row-preserved g t c =
     let s = (setting byte_limit (host (g.F.Functions.function_of c.args.functions.now) (g.F.Functions.scalar c.args.functions.now) (g.F.Functions.step c.args.functions.now) (g.F.Functions.finish c.args.functions.now) (g.F.Functions.order_of c.args.functions.now)) c.args.given.now) in
-    let one : all_of (each (map meaning c.args.args.now) (over s c.row-item.result)) ≡ Ok c.in_ok-values-2.values =
-    ap (λ r. all_of (each (map meaning c.args.args.now) (over s r))) (sym c.as_slice.ensures) ∙ c.in_ok-values.ensures ∙ ap Ok (sym c.in_ok-values-2.ensures) in
-    let next = row_next s (map meaning c.args.args.now) c.args.given.now.group.now c.loop-row.row-index c.row-item.result c.in_ok-values-2.values c.loop-row.rows.items (argument_rows (map meaning c.args.args.now) s)
+    let one : all_of (each (map meaning c.args.args.now) (over s c.row-item.result)) ≡ Ok c.in_ok-values.values =
+    ap (λ r. all_of (each (map meaning c.args.args.now) (over s r))) (sym c.as_slice.ensures) ∙ c.in_ok-values.ensures in
+    let next = row_next s (map meaning c.args.args.now) c.args.given.now.group.now c.loop-row.row-index c.row-item.result c.in_ok-values.values c.loop-row.rows.items (argument_rows (map meaning c.args.args.now) s)
     c.loop-row-test.true c.row-item.is one c.loop-row.invariant in
     rw c.in_ok-push.ensures.items next
 

@@ -19,7 +19,7 @@ returns-in_ok-answer_of-in-Ok-Some-clause-reads g c clean =
     let q = c.args.query.now in
     let all : List Row = rows (join (kept_of (g.C.Cells.holding c.args.replica.now)) c.args.changes.now) c.args.def.now in
     let read = c.in-Ok-Some.ensures.reads clean in
-    let begin = subst (λ (cs : List ResultColumn). TellAll by cs [] c.in-Some.tallies.items) c.as_slice.ensures (c.in_ok-tallies.ensures c.in-Some.tallies c.in-Some.is) in
+    let begin = subst (λ (cs : List ResultColumn). TellAll by c.args.params.now cs [] c.in-Some.tallies.items) c.as_slice.ensures (c.in_ok-tallies.ensures c.in-Some.tallies c.in-Some.is c.args.params.now) in
     let told = read.answers c.in-Ok-Some.tallies c.in-Ok-Some.field-0-is in
     let of = subst (λ (terms : List Expr). TellsOf by c.args.params.now terms c.in-Some.tallies.items (filter (passes by c.args.params.now terms) all) c.in-Ok-Some.tallies.items) c.as_slice-terms.ensures told in
     record {

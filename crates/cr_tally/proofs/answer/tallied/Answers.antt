@@ -58,7 +58,7 @@ loop-preserved g c =
               are_true =
                   all-append (AreTrue by c.args.params.now c.args.terms.now) seen.0 c.in-Ok.page.items seen.2.are_true
                   (subst (AllByRecursion (AreTrue by c.args.params.now c.args.terms.now)) c.deref-in-loop.ensures.value (c.in_ok-are_true.ensures c.if-not-branch.false));
-              tells = told_on by c.args.tallies.items c.loop.tallies.items c.in-Ok-Some.next.items seen.0 c.in-Ok.page.items c.deref-in-loop-2.result.now c.deref-in-loop-2.ensures.value seen.2.tells (c.in-Ok-Some.ensures c.in-Ok-Some.next c.in-Ok-Some.field-0-is);
+              tells = told_on by c.args.params.now c.args.tallies.items c.loop.tallies.items c.in-Ok-Some.next.items seen.0 c.in-Ok.page.items c.deref-in-loop-2.result.now c.deref-in-loop-2.ensures.value seen.2.tells (c.in-Ok-Some.ensures c.in-Ok-Some.next c.in-Ok-Some.field-0-is);
             },
           );
     }
