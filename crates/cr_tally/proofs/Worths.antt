@@ -1,6 +1,7 @@
 -- What an aggregate told of the rows of a group is its value over the group.
-use Rattle.std.proofs.Common.{◌≡◌, inl, inr, ◌∙◌, ℕ, true, not, List, [], ◌∷◌, ◌++◌, length, map, Option, Some, None, Ok, Err, Result, refl, sym, ap}
+use Rattle.std.proofs.Common.{◌≡◌, inl, inr, ◌∙◌, ℕ, true, false, not, List, [], ◌∷◌, ◌++◌, length, map, Option, Some, Ok, Err, Result, refl, sym, ap, subst}
 use Rattle.std.specs.Prelude.{nat_le}
+use Rattle.std.proofs.Math.Dec.{leb-suc-zero}
 use Rattle.std.specs.List.{AllByRecursion, AllZip}
 use Rattle.cr_value.specs.declared.value.Value.{Value}
 use Rattle.cr_term.specs.Parts.{columns}
@@ -11,7 +12,7 @@ use Rattle.cr_term.specs.declared.operator.Aggregate.{Aggregate}
 use Rattle.cr_term.specs.declared.operator.Aggregate.TheVariants.{CountAll, Count, Max, Min, Sum, Host}
 use Rattle.cr_scalar.specs.Host.{Host as Means}
 use Rattle.cr_scalar.specs.Compare.{Orders}
-use Rattle.cr_scalar.specs.Meaning.{Meant, Outcome, and_then, bounded, byte_limit}
+use Rattle.cr_scalar.specs.Meaning.{Meant, Outcome, Evaluates, and_then, bounded, byte_limit}
 use Rattle.cr_scalar.specs.Functions.{all_of}
 use Rattle.cr_scalar.specs.Aggregates.{aggregate_of}
 use Rattle.cr_expr.specs.Laws.{AgreeOn}
@@ -33,7 +34,7 @@ small_for most (inr is) v small = ap (λ (m : Option ℕ). bounded m v) is ∙ s
 
 pub none_there : (ks : List Aggregate) → not (not (nat_le (length (ks ++ [])) 0)) ≡ true → ks ≡ []
 none_there [] is = refl
-none_there (k ∷ ks) is = absurd cc
+none_there (k ∷ ks) is = let so : false ≡ true = ap (λ b. not (not b)) (sym (leb-suc-zero (length (ks ++ [])))) ∙ is in absurd cc
 
 one_more : (o : Outcome (List Value)) (os : Outcome (List (List Value))) (r : List Value) (rs : List (List Value)) → o ≡ Ok r → os ≡ Ok rs → and_then o (λ v. and_then os (λ vs. Ok (v ∷ vs))) ≡ Ok (r ∷ rs)
 one_more o os r rs first later = ap (λ (p : Outcome (List Value)). and_then p (λ v. and_then os (λ vs. Ok (v ∷ vs)))) first ∙ ap (λ (ps : Outcome (List (List Value))). and_then ps (λ vs. Ok (r ∷ vs))) later
@@ -44,6 +45,9 @@ rows_read means params args most members limit [] [] all = refl
 rows_read means params args most members limit [] (vs ∷ given) all = absurd all
 rows_read means params args most members limit (row ∷ rows) [] all = absurd all
 rows_read means params args most members limit (row ∷ rows) (vs ∷ given) all = one_more _ _ vs given (all.0 most members limit) (rows_read means params args most members limit rows given all.1)
+
+pub evaluated : {A : Type 0} (m r : Outcome A) (v : A) → r ≡ Ok v → Evaluates m r → m ≡ Ok v
+evaluated m r v is told = subst (Evaluates m) is told
 
 -- the values of expressions over a row alone, under the limit, are those over it in any group
 module _ (means : Means) (params : List Value) (row : Row) (most : Option ℕ) (members : List Row) (limit : IsLimit most) where
@@ -63,19 +67,19 @@ module _ (means : Means) (params : List Value) (row : Row) (most : Option ℕ) (
       ∙ under most limit
     where
       under : (n : Option ℕ) → IsLimit n → eval_of (over (at_group n means params (record { shown = []; members = [] })) row) x ≡ Ok v
-      under n (inl no) = ap (λ (m : Option ℕ). eval_of (at_row m means params row) x) no ∙ limit_law x alone (λ big. absurd cc) ∙ is
+      under n (inl endless) = ap (λ (m : Option ℕ). eval_of (at_row m means params row) x) endless ∙ limit_law x alone (λ big. absurd cc) ∙ is
       under n (inr at) = ap (λ (m : Option ℕ). eval_of (at_row m means params row) x) at ∙ is
 
   pub all_there : (args : List Expr) → AllByRecursion IsAlone args → (vs : List Value) → all_of (each (map meaning args) alone) ≡ Ok vs → all_of (each (map meaning args) there) ≡ Ok vs
   all_there [] none vs is = is
-  all_there (x ∷ xs) none vs is = by_parts (eval_of alone x) (all_of (each (map meaning xs) alone)) refl refl is where
-    by_parts : (o : Meant) (os : Outcome (List Value)) → eval_of alone x ≡ o → all_of (each (map meaning xs) alone) ≡ os → and_then o (λ w. and_then os (λ ws. Ok (w ∷ ws))) ≡ Ok vs
+  all_there (x ∷ xs) none vs is = by_parts (all_there xs none.1) (eval_of alone x) (all_of (each (map meaning xs) alone)) refl refl is where
+    by_parts : ((ws : List Value) → all_of (each (map meaning xs) alone) ≡ Ok ws → all_of (each (map meaning xs) there) ≡ Ok ws) → (o : Meant) (os : Outcome (List Value)) → eval_of alone x ≡ o → all_of (each (map meaning xs) alone) ≡ os → and_then o (λ w. and_then os (λ ws. Ok (w ∷ ws))) ≡ Ok vs
         → and_then (eval_of there x) (λ w. and_then (all_of (each (map meaning xs) there)) (λ ws. Ok (w ∷ ws))) ≡ Ok vs
-    by_parts (Err f) os e es so = absurd cc
-    by_parts (Ok w) (Err f) e es so = absurd cc
-    by_parts (Ok w) (Ok ws) e es so =
+    by_parts later (Err f) os e es so = absurd cc
+    by_parts later (Ok w) (Err f) e es so = absurd cc
+    by_parts later (Ok w) (Ok ws) e es so =
         ap (λ (m : Meant). and_then m (λ u. and_then (all_of (each (map meaning xs) there)) (λ us. Ok (u ∷ us)))) (one_there x none.0 w e)
-        ∙ ap (λ (ms : Outcome (List Value)). and_then ms (λ us. Ok (w ∷ us))) (all_there xs none.1 ws es)
+        ∙ ap (λ (ms : Outcome (List Value)). and_then ms (λ us. Ok (w ∷ us))) (later ws es)
         ∙ so
 
 -- ---- the value
