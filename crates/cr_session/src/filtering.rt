@@ -1,5 +1,5 @@
 //! What a statement of one table sees whose WHERE tells no keys. A replicated table is read page by page: a query sees the rows that its
-//! WHERE may keep, or the answer, where its results are aggregates; a write sees the keys of these rows, if they are few. Of
+//! WHERE may keep, or the answer, where its results are made of aggregates; a write sees the keys of these rows, if they are few. Of
 //! another table what is kept is seen.
 
 ghost use Rattle.std.specs.Prelude.{◌≡◌, []};

@@ -2,3 +2,4 @@ pub mod Steps
 pub mod Lists
 pub mod Worths
 pub mod Whole
+pub mod Shows

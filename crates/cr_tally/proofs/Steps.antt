@@ -19,10 +19,10 @@ use Rattle.cr_scalar.specs.Aggregates.{or_zero, ranks_before, sum_of, total, val
 use Rattle.cr_touched.proofs.Parts.{filter-append}
 use Rattle.cr_tally.specs.Tallies.{gives, is_built_in, is_count}
 
-abbrev fine : {A : Type 0} → A → Outcome A
+abbrev pub fine : {A : Type 0} → A → Outcome A
 fine x = Ok x
 
-ok_is : {A : Type 0} {x y : A} → fine x ≡ fine y → x ≡ y
+pub ok_is : {A : Type 0} {x y : A} → fine x ≡ fine y → x ≡ y
 ok_is e = cc
 
 -- ---- the values of rows

@@ -1,5 +1,5 @@
 -- A query of aggregates answers what its aggregates are worth.
-use Rattle.std.proofs.Common.{◌≡◌, ◌∙◌, inl, inr, ℕ, Bool, true, false, cond, List, [], ◌∷◌, ◌++◌, map, Option, Some, None, option_map, refl, sym, ap, subst}
+use Rattle.std.proofs.Common.{◌≡◌, ◌∙◌, inl, inr, ℕ, Bool, true, false, cond, List, [], ◌∷◌, ◌++◌, map, Option, Some, None, Ok, Err, option_map, refl, sym, ap, subst}
 use Rattle.std.specs.Prelude.{filter}
 use Rattle.std.specs.List.{AllByRecursion, AllZip, flat_map}
 use Rattle.std.specs.Option.{option_and_then}
@@ -15,15 +15,24 @@ use Rattle.cr_query.specs.Query.{Row, Group, Meaning as Meant_by, answer, finish
 use Rattle.cr_query.proofs.PlanLaws.{joined_one, step}
 use Rattle.cr_meaning.specs.View.{Ordered}
 use Rattle.cr_meaning.specs.View as view
-use Rattle.cr_meaning.specs.Meaning.{IsLimit, meaning}
-use Rattle.cr_scalar.specs.Meaning.{byte_limit}
+use Rattle.cr_meaning.specs.Meaning.{IsLimit, at_group, meaning, value_of}
+use Rattle.cr_scalar.specs.Functions.{all_of}
+use Rattle.cr_scalar.specs.Meaning.{Meant, Outcome, and_then, byte_limit}
+use Rattle.cr_expr.specs.Setting.{Setting}
+use Rattle.cr_expr.specs.Eval.{eval_of}
+use Rattle.cr_expr.specs.Eval.{each as of_each}
+use Rattle.cr_expr.specs.Eval as eval
 use Rattle.cr_exec.specs.Answers.{IsBoth}
 use Rattle.cr_exec.specs.Combinations.{IsOfOneTable}
 use Rattle.cr_pushdown.specs.Passing.{passes}
 use Rattle.cr_pushdown.proofs.Answers.{holds_for, known_false}
 use Rattle.cr_tally.specs.declared.tally.Tally.{Tally}
+use Rattle.cr_tally.specs.declared.show.Call.{Call}
+use Rattle.cr_tally.specs.Showing.{AreKnown, ShowsAll, showing}
 use Rattle.cr_tally.specs.Tallies.{TellAll, Worth}
-use Rattle.cr_tally.specs.Queries.{AreTrue, Finishes, IsOfAggregates}
+use Rattle.cr_tally.specs.Queries.{AreTrue, Finishes, IsOfAggregates, TellsOf}
+use Rattle.cr_tally.proofs.Steps.{ok_is}
+use Rattle.cr_tally.proofs.Worths.{under_each}
 
 -- ---- the rows of the group
 
@@ -47,16 +56,27 @@ true_for means params most (inr is) terms r so = subst (λ (n : Option ℕ). hol
 
 -- ---- what the group shows
 
+known_of : (means : Means) (params : List Value) (rows : List Row) (most : Option ℕ) → IsLimit most → (ts : List Tally) (values : List Value) → TellAll means params rows ts → AllZip Worth ts values
+    → AreKnown (at_group most means params (record { shown = []; members = rows })) (map (λ t. t.call) ts) values
+known_of means params rows most limit [] values tells worths = tt
+known_of means params rows most limit (t ∷ ts) [] tells worths = absurd worths
+known_of means params rows most limit (t ∷ ts) (v ∷ vs) tells worths = (worths.0 means params rows tells.0 most limit, known_of means params rows most limit ts vs tells.1 worths.1)
+
 -- the value of each result
-each_value : (means : Means) (params : List Value) (most : Option ℕ) → IsLimit most → (results : List ResultColumn) (rows : List Row) (ts : List Tally) (row : Row) → TellAll means params results rows ts → AllZip Worth ts row
+each_of : (means : Means) (params : List Value) (most : Option ℕ) (rows : List Row) (results : List ResultColumn) (row : Row)
+    → all_of (of_each (map eval.meaning (map (λ c. c.expr) results)) (at_group most means params (record { shown = []; members = rows }))) ≡ Ok row
     → each (λ e. (meaning most means params).over e (record { shown = []; members = rows })) (map view.result_term results) ≡ Some row
-each_value means params most limit [] rows [] [] tells worths = refl
-each_value means params most limit [] rows [] (v ∷ vs) tells worths = absurd worths
-each_value means params most limit [] rows (t ∷ ts) row tells worths = absurd tells
-each_value means params most limit (c ∷ cs) rows [] row tells worths = absurd tells
-each_value means params most limit (c ∷ cs) rows (t ∷ ts) [] tells worths = absurd worths
-each_value means params most limit (c ∷ cs) rows (t ∷ ts) (v ∷ vs) tells worths =
-    λ i. joins (option_map single (worths.0 means params c.expr rows tells.0 most limit i)) (each_value means params most limit cs rows ts vs tells.1 worths.1 i)
+each_of means params most rows [] row is = ap (λ r. Some r) (ok_is is)
+each_of means params most rows (c ∷ cs) row is = by_parts (λ ws so. each_of means params most rows cs ws so) (eval_of s c.expr) (all_of (of_each (map eval.meaning (map (λ x. x.expr) cs)) s)) refl refl is where
+  s : Setting
+  s = at_group most means params (record { shown = []; members = rows })
+
+  by_parts : ((ws : Row) → all_of (of_each (map eval.meaning (map (λ x. x.expr) cs)) s) ≡ Ok ws → each (λ e. (meaning most means params).over e (record { shown = []; members = rows })) (map view.result_term cs) ≡ Some ws)
+      → (o : Meant) (os : Outcome (List Value)) → eval_of s c.expr ≡ o → all_of (of_each (map eval.meaning (map (λ x. x.expr) cs)) s) ≡ os → and_then o (λ w. and_then os (λ ws. Ok (w ∷ ws))) ≡ Ok row
+      → each (λ e. (meaning most means params).over e (record { shown = []; members = rows })) (map view.result_term (c ∷ cs)) ≡ Some row
+  by_parts later (Err f) os e es so = absurd cc
+  by_parts later (Ok w) (Err f) e es so = absurd cc
+  by_parts later (Ok w) (Ok ws) e es so = (λ i. joins (option_map single (value_of (e i))) (later ws es i)) ∙ ap (λ r. Some r) (ok_is so)
 
 module _ (means : Means) (params : List Value) (most : Option ℕ) (limit : IsLimit most) (q : Query) (one : IsOfOneTable q) (of : IsOfAggregates q) (all : List Row)
     (true_of : AllByRecursion (AreTrue means params q.filter) (filter (passes means params q.filter) all)) where
@@ -93,15 +113,23 @@ module _ (means : Means) (params : List Value) (most : Option ℕ) (limit : IsLi
       groups_over : List GroupTerm → Option (List Group)
       groups_over gs = groups by (map view.group_term gs) found
 
-  pub answered : (ts : List Tally) (row : Row) → TellAll means params q.results found ts → AllZip Worth ts row
+  pub answered : (exprs : List Expr) (calls : List Call) (ts : List Tally) (values : List Value) (row : Row) → ShowsAll [] calls (map (λ c. c.expr) q.results) exprs → map (λ t. t.call) ts ≡ calls
+      → TellAll means params found ts → AllZip Worth ts values → all_of (of_each (map eval.meaning exprs) (showing (at_group byte_limit means params (record { shown = []; members = [] })) values)) ≡ Ok row
       → answer by (view.query q) (single all) ≡ Some (finished by (view.query q) (single (record { row = row; keys = [] })))
-  answered ts row tells worths =
+  answered exprs calls ts values row shows same tells worths is =
+      let s : Setting = at_group most means params (record { shown = []; members = found }) in
+      let known : AreKnown s calls values = subst (λ (cs : List Call). AreKnown s cs values) same (known_of means params found most limit ts values tells worths) in
+      let results : all_of (of_each (map eval.meaning (map (λ c. c.expr) q.results)) s) ≡ Ok row = ap all_of (shows.same s values refl known) ∙ under_each means params values exprs row is most limit in
       ap (λ o. option_map (finished by (view.query q)) (option_and_then (shown by (view.query q)) o)) combinations
-      ∙ ap (option_map (finished by (view.query q))) (group_shows row (each_value means params most limit q.results found ts row tells worths))
+      ∙ ap (option_map (finished by (view.query q))) (group_shows row (each_of means params most found q.results row results))
 
-pub answers_both : (means : Means) (params : List Value) (q : Query) → IsOfOneTable q → IsOfAggregates q → (all : List Row) (ts : List Tally) (rows : List Row) → AllByRecursion (AreTrue means params q.filter) (filter (passes means params q.filter) all)
-    → TellAll means params q.results (filter (passes means params q.filter) all) ts → Finishes means q ts rows → IsBoth means params (λ m. answer m (view.query q) (single all)) rows
-answers_both means params q one of all ts rows so tells fin = record {
-  exact = answered means params None (inl refl) q one of all so ts fin.row tells fin.worth ∙ ap (λ (rs : List Row). Some rs) (sym (fin.are params None));
-  sized = answered means params byte_limit (inr refl) q one of all so ts fin.row tells fin.worth ∙ ap (λ (rs : List Row). Some rs) (sym (fin.are params byte_limit));
-}
+pub answers_both : (means : Means) (params : List Value) (q : Query) → IsOfOneTable q → IsOfAggregates q → (all : List Row) (exprs : List Expr) (calls : List Call) (first ts : List Tally) (rows : List Row)
+    → ShowsAll [] calls (map (λ c. c.expr) q.results) exprs → map (λ t. t.call) first ≡ calls → TellAll means params [] first
+    → TellsOf means params q.filter first (filter (passes means params q.filter) all) ts → Finishes means params q exprs ts rows → IsBoth means params (λ m. answer m (view.query q) (single all)) rows
+answers_both means params q one of all exprs calls first ts rows shows of_calls begin told fin =
+    let same = told.tells.same ∙ of_calls in
+    let tells = told.tells.tells begin in
+    record {
+      exact = answered means params None (inl refl) q one of all told.are_true exprs calls ts fin.values fin.row shows same tells fin.worth fin.shows ∙ ap (λ (rs : List Row). Some rs) (sym (fin.are None));
+      sized = answered means params byte_limit (inr refl) q one of all told.are_true exprs calls ts fin.values fin.row shows same tells fin.worth fin.shows ∙ ap (λ (rs : List Row). Some rs) (sym (fin.are byte_limit));
+    }

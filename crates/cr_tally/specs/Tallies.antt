@@ -1,5 +1,5 @@
 -- What an aggregate gives of the rows that were seen so far. Source: this project's own.
-use Rattle.std.specs.Prelude.{◌≡◌, ℕ, Bool, true, false, List, [], ◌++◌, map, Option, Some, Ok}
+use Rattle.std.specs.Prelude.{◌≡◌, ℕ, Bool, true, false, List, [], ◌++◌, map, Option, Ok}
 use Rattle.std.specs.List.{AllByRecursion, AllZip}
 use Rattle.cr_value.specs.declared.value.Value.{Value}
 use Rattle.cr_term.specs.Parts.{aggregates}
@@ -7,17 +7,16 @@ use Rattle.cr_term.specs.declared.expr.Expr.{Expr}
 use Rattle.cr_term.specs.declared.expr.Expr as e
 use Rattle.cr_term.specs.declared.operator.Aggregate.{Aggregate}
 use Rattle.cr_term.specs.declared.operator.Aggregate.TheVariants.{CountAll, Count, Max, Min, Sum, Host}
-use Rattle.cr_term.specs.declared.query.ResultColumn.{ResultColumn}
 use Rattle.cr_scalar.specs.Host.{Host as Means}
 use Rattle.cr_scalar.specs.Meaning.{Meant}
 use Rattle.cr_scalar.specs.Functions.{all_of}
 use Rattle.cr_scalar.specs.Aggregates.{aggregate_of}
 use Rattle.cr_expr.specs.Setting.{over}
-use Rattle.cr_expr.specs.Eval.{each}
+use Rattle.cr_expr.specs.Eval.{each, eval_of}
 use Rattle.cr_expr.specs.Eval as eval
 use Rattle.cr_query.specs.Query.{Row}
-use Rattle.cr_meaning.specs.View.{plain}
-use Rattle.cr_meaning.specs.Meaning.{IsLimit, at_group, meaning}
+use Rattle.cr_meaning.specs.Meaning.{IsLimit, at_group}
+use Rattle.cr_tally.specs.declared.show.Call.{Call}
 use Rattle.cr_tally.specs.declared.tally.Tally.{Tally}
 
 abbrev pub is_built_in : Aggregate → Bool
@@ -53,27 +52,26 @@ gives means kind rows = aggregate_of means.order (λ name. means.aggregate name 
 
 -- ---- what is told
 
--- the expression is that aggregate, and the value is what it gives of the rows
-pub record Tells (means : Means) (params : List Value) (expr : Expr) (rows : List Row) (t : Tally) : Type 0 where
-  pub is : expr ≡ e.Aggregate t.kind.now t.args.now
-  pub built_in : is_built_in t.kind.now ≡ true
-  pub alone : AllByRecursion IsAlone t.args.now
+-- the value is what the aggregate gives of the rows
+pub record Tells (means : Means) (params : List Value) (rows : List Row) (t : Tally) : Type 0 where
+  pub built_in : is_built_in t.call.kind.now ≡ true
+  pub alone : AllByRecursion IsAlone t.call.args.now
   pub given : List (List Value)
-  pub arguments : AllZip (AreArguments means params t.args.now) rows given
-  pub value : gives means t.kind.now given ≡ Ok t.value
+  pub arguments : AllZip (AreArguments means params t.call.args.now) rows given
+  pub value : gives means t.call.kind.now given ≡ Ok t.value
 
--- what tells of some rows becomes what tells of these and more
-abbrev pub Step : Means → List Value → List Row → Tally → Tally → Type 0
-Step means params more t u = (expr : Expr) (rows : List Row) → Tells means params expr rows t → Tells means params expr (rows ++ more) u
+-- what tells of some rows becomes what tells the same of these and more
+pub record Step (means : Means) (params : List Value) (more : List Row) (t u : Tally) : Type 0 where
+  pub same : u.call ≡ t.call
+  pub tells : (rows : List Row) → Tells means params rows t → Tells means params (rows ++ more) u
 
--- the value of the expression over the one group of the rows, whatever limit there is on values
-abbrev pub IsValue : Means → List Value → Expr → List Row → Value → Type 0
-IsValue means params expr rows v = (most : Option ℕ) → IsLimit most → (meaning most means params).over (plain expr) (record { shown = []; members = rows }) ≡ Some v
+-- the value of an aggregate over the one group of the rows, whatever limit there is on values
+abbrev pub IsValue : Means → List Value → List Row → Call → Value → Type 0
+IsValue means params rows c v = (most : Option ℕ) → IsLimit most → eval_of (at_group most means params (record { shown = []; members = rows })) (e.Aggregate c.kind.now c.args.now) ≡ Ok v
 
 -- and what it is worth: the value that it stands for
 abbrev pub Worth : Tally → Value → Type 0
-Worth t v = (means : Means) (params : List Value) (expr : Expr) (rows : List Row) → Tells means params expr rows t → IsValue means params expr rows v
+Worth t v = (means : Means) (params : List Value) (rows : List Row) → Tells means params rows t → IsValue means params rows t.call v
 
--- one for each result of a query
-abbrev pub TellAll : Means → List Value → List ResultColumn → List Row → List Tally → Type 0
-TellAll means params results rows ts = AllZip (λ column t. Tells means params column.expr rows t) results ts
+abbrev pub TellAll : Means → List Value → List Row → List Tally → Type 0
+TellAll means params rows ts = AllByRecursion (Tells means params rows) ts

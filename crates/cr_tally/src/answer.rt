@@ -1,6 +1,6 @@
 //! What a SELECT of one table answers whose results are aggregates.
 
-ghost use Rattle.std.specs.Prelude.{◌≡◌, true, IfOk, IsTrue};
+ghost use Rattle.std.specs.Prelude.{◌≡◌, true, map, IfOk, IsTrue};
 ghost use Rattle.std.specs.List.{AllByRecursion};
 ghost use Rattle.std.specs.Option.{ForSome};
 ghost use Rattle.cr_bags.specs.Bags.{single};
@@ -13,15 +13,17 @@ ghost use Rattle.cr_lattice.specs.Rows.{rows};
 ghost use Rattle.cr_query.specs.Query.{answer};
 ghost use Rattle.cr_meaning.specs.View as view;
 ghost use Rattle.cr_pushdown.specs.Passing.{passing};
+ghost use Rattle.cr_tally.specs.Showing.{ShowsAll};
 ghost use Rattle.cr_tally.specs.Queries.{AreTrue, Finishes, IsOfAggregates, TellsOf};
 
+use crate::show::{Call, show};
 use crate::tallies::{tallies_of, values_of, with_rows};
-use crate::tally::Tally;
+use crate::tally::{Tally, values_over};
 use cr_cells::store::{Cells, CellsError, StoreFault};
 use cr_exec::order::finished;
 use cr_exec::show::Shown;
 use cr_exec::terms::{all_true, with_quiet_first};
-use cr_expr::given::Hosted;
+use cr_expr::given::{Given, Hosted};
 use cr_host::functions::Functions;
 use cr_lattice::change::Change;
 use cr_lattice::table::{Items, Row, TableDef};
@@ -29,7 +31,7 @@ use cr_pushdown::scan::{MOST_PAGES, Scan, own_changes};
 use cr_replica::replica::Replica;
 use cr_scalar::fault::EvalFault;
 use cr_term::expr::Expr;
-use cr_term::query::Query;
+use cr_term::query::{Query, ResultColumn};
 use cr_value::value::Value;
 use std::alloc::{AllocError, Global};
 
@@ -104,17 +106,45 @@ fn tallied<'q, C: Cells, F: Functions>(
     Err(CellsError::Store(StoreFault::Refused))
 }
 
-// The rows that a query answers whose one group shows these values.
+// The results of a query with their aggregates shown, which are put behind others.
+fn shown_results<'q>(
+    alloc: Global,
+    results: &'q [ResultColumn],
+    calls: &mut Vec<Call<'q>>,
+) -> Result<Vec<Expr>, AllocError>
+    ensures { IfOk result (λ v. ShowsAll calls.old.items calls.new.items (map (λ c. c.expr) results.now) v.items) }
+{
+    let mut out = Vec::new(alloc);
+    for column in results {
+        let shown = show(alloc, &column.expr, calls)?;
+        out.push(shown)?;
+    }
+    Ok(out)
+}
+
+// The rows that a query answers whose one group shows these expressions, where what the aggregates are worth is shown; `None` where one
+// has a fault.
 fn answer_of<F: Functions>(
     alloc: Global,
     functions: &F,
     query: &Query,
+    exprs: &[Expr],
     tallies: Vec<Tally<'_>>,
+    params: &[Value],
 ) -> Result<Option<Items<Row>>, AllocError>
     requires { F.is_faithful functions.now }
-    ensures { IfOk result (λ o. ForSome o (λ answer. Finishes (⟦<F as Hosted>⟧.means functions.now) query.now tallies.entry.items answer)) }
+    ensures { IfOk result (λ o. ForSome o (λ answer. Finishes (⟦<F as Hosted>⟧.means functions.now) params.now query.now exprs.now tallies.entry.items answer)) }
 {
-    let Some(row) = values_of(alloc, tallies)? else {
+    let Some(values) = values_of(alloc, tallies)? else {
+        return Ok(None);
+    };
+    let given = Given {
+        row: &[],
+        params,
+        group: &[],
+        shown: values.as_slice(),
+    };
+    let Some(row) = values_over(alloc, functions, exprs, &given)? else {
         return Ok(None);
     };
     let mut shown = Vec::new(alloc);
@@ -126,8 +156,8 @@ fn answer_of<F: Functions>(
 }
 
 /// What a SELECT of one table answers: of what is kept, and with it of further changes, as those of an open transaction, in any order
-/// and of any tables. `None` where its results are not all aggregates that SQLite has, where it has GROUP BY, HAVING or ORDER BY, where
-/// a value is over the limit of 1,000,000 bytes, and where a term, an argument or an aggregate has a fault. The table is read page by
+/// and of any tables. `None` where it has no aggregates, or such as SQLite does not have, where it has GROUP BY, HAVING or ORDER BY, where
+/// a value is over the limit of 1,000,000 bytes, and where a term, an argument, an aggregate or a result has a fault. The table is read page by
 /// page, and beside a page one value is held for each aggregate.
 ///
 /// `params` are the parameters' values, from number 1 on.
@@ -152,14 +182,16 @@ pub fn answer_by_tallies<C: Cells, F: Functions>(
     if !is_of_aggregates(query) {
         return Ok(None);
     }
-    let Some(tallies) = tallies_of(alloc, functions, query.results.as_slice())? else {
+    let mut calls = Vec::new(alloc);
+    let shown = shown_results(alloc, query.results.as_slice(), &mut calls)?;
+    let Some(tallies) = tallies_of(alloc, functions, &calls)? else {
         return Ok(None);
     };
     let terms = query.filter.as_slice();
     match tallied(
         alloc, replica, functions, def, changes, tallies, terms, params,
     ) {
-        Ok(Some(tallies)) => Ok(answer_of(alloc, functions, query, tallies)?),
+        Ok(Some(tallies)) => Ok(answer_of(alloc, functions, query, &shown, tallies, params)?),
         Ok(None) => Ok(None),
         Err(error) => Err(error),
     }

@@ -2,5 +2,6 @@
 #![tactic(auto)]
 
 pub mod answer;
+pub mod show;
 pub mod tallies;
 pub mod tally;

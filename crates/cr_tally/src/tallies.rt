@@ -1,31 +1,31 @@
 //! The aggregates of a query, one beside another.
 
-ghost use Rattle.std.specs.Prelude.{[], List, IfOk};
+ghost use Rattle.std.specs.Prelude.{◌≡◌, [], List, map, IfOk};
 ghost use Rattle.std.specs.List.{AllZip};
 ghost use Rattle.std.specs.Option.{ForSome};
 ghost use Rattle.cr_value.specs.declared.value.Value.{Value};
 ghost use Rattle.cr_tally.specs.Tallies.{Step, TellAll, Worth};
 
+use crate::show::Call;
 use crate::tally::Tally;
 use cr_expr::given::Hosted;
 use cr_host::functions::Functions;
 use cr_lattice::table::{Items, Row};
-use cr_term::query::ResultColumn;
 use cr_value::value::Value;
 use std::alloc::{AllocError, Global};
 
-/// What the results of a query give of no rows; `None` where one is not an aggregate that SQLite has.
+/// What aggregates give of no rows; `None` where one is none that SQLite has, or an aggregate stands in an argument.
 pub fn tallies_of<'q, F: Functions>(
     alloc: Global,
     functions: &F,
-    results: &'q [ResultColumn],
+    calls: &[Call<'q>],
 ) -> Result<Option<Vec<Tally<'q>>>, AllocError>
     requires { F.is_faithful functions.now }
-    ensures { IfOk result (λ o. ForSome o (λ v. (params : List Value) → TellAll (⟦<F as Hosted>⟧.means functions.now) params results.now [] v.items)) }
+    ensures { IfOk result (λ o. ForSome o (λ v. (map (λ t. t.call) v.items ≡ calls.now) × ((params : List Value) → TellAll (⟦<F as Hosted>⟧.means functions.now) params [] v.items))) }
 {
     let mut out = Vec::new(alloc);
-    for column in results {
-        let Some(tally) = Tally::new(alloc, functions, &column.expr)? else {
+    for call in calls {
+        let Some(tally) = Tally::new(alloc, functions, *call)? else {
             return Ok(None);
         };
         out.push(tally)?;

@@ -1,12 +1,17 @@
 //! An aggregate: what it gives of the rows that were seen so far.
 
-ghost use Rattle.std.specs.Prelude.{◌≡◌, ◌∷◌, ◌++◌, [], true, false, IsTrue, List, Ok, IfOk};
+ghost use Rattle.std.specs.Prelude.{◌≡◌, ◌∷◌, ◌++◌, [], true, false, map, IsTrue, List, Ok, IfOk};
 ghost use Rattle.std.specs.List.{AllByRecursion, AllZip};
 ghost use Rattle.cr_value.specs.declared.value.Value.{Value as Content};
 ghost use Rattle.std.specs.Option.{ForSome};
+ghost use Rattle.cr_scalar.specs.Functions.{all_of};
 ghost use Rattle.cr_scalar.specs.Meaning.{bounded, byte_limit};
+ghost use Rattle.cr_expr.specs.Eval.{each};
+ghost use Rattle.cr_expr.specs.Eval as eval;
+ghost use Rattle.cr_expr.specs.Setting.{setting};
 ghost use Rattle.cr_tally.specs.Tallies.{AreArguments, IsAlone, gives, is_built_in, is_count};
 
+use crate::show::Call;
 use cr_expr::eval::eval_row;
 use cr_expr::given::{Given, Hosted};
 use cr_host::functions::Functions;
@@ -22,11 +27,10 @@ use std::alloc::{AllocError, Global};
 /// The greatest size of a value in bytes.
 const MOST_BYTES: usize = 1_000_000;
 
-/// An aggregate with its arguments, and what it gives of the rows that were seen so far.
+/// An aggregate, and what it gives of the rows that were seen so far.
 #[derive(Drop)]
 pub struct Tally<'q> {
-    kind: &'q Aggregate,
-    args: &'q [Expr],
+    call: Call<'q>,
     value: Value,
 }
 
@@ -82,6 +86,23 @@ fn row_of(alloc: Global, value: Value) -> Result<Row, AllocError>
     Ok(Items::new(values))
 }
 
+/// The values of expressions, in memory of their own; `None` where one has a fault.
+pub fn values_over<F: Functions>(
+    alloc: Global,
+    functions: &F,
+    exprs: &[Expr],
+    given: &Given<'_>,
+) -> Result<Option<Row>, AllocError>
+    requires { F.is_faithful functions.now }
+    ensures { IfOk result (λ o. ForSome o (λ values. all_of (each (map eval.meaning exprs.now) (setting byte_limit (⟦<F as Hosted>⟧.means functions.now) given.now)) ≡ Ok values)) }
+{
+    match eval_row(alloc, exprs, given, functions) {
+        Ok(values) => Ok(Some(values)),
+        Err(EvalFault::Memory) => Err(AllocError),
+        Err(_) => Ok(None),
+    }
+}
+
 // The arguments on a row; `None` where one has a fault.
 fn arguments_on<F: Functions>(
     alloc: Global,
@@ -99,11 +120,7 @@ fn arguments_on<F: Functions>(
         group: &[],
         shown: &[],
     };
-    match eval_row(alloc, args, &given, functions) {
-        Ok(values) => Ok(Some(values)),
-        Err(EvalFault::Memory) => Err(AllocError),
-        Err(_) => Ok(None),
-    }
+    values_over(alloc, functions, args, &given)
 }
 
 // The arguments on each of some rows; `None` where one has a fault.
@@ -207,29 +224,25 @@ fn next_value<F: Functions>(
 }
 
 impl<'q> Tally<'q> {
-    ghost use Rattle.std.specs.Prelude.{[], List, IfOk};
+    ghost use Rattle.std.specs.Prelude.{◌≡◌, [], List, IfOk};
     ghost use Rattle.std.specs.Option.{ForSome};
     ghost use Rattle.cr_value.specs.declared.value.Value.{Value};
     ghost use Rattle.cr_tally.specs.Tallies.{Step, Tells, Worth};
 
-    /// What an expression gives of no rows; `None` where it is not an aggregate that SQLite has.
+    /// What an aggregate gives of no rows; `None` where it is none that SQLite has, or an aggregate stands in an argument.
     pub fn new<F: Functions>(
         alloc: Global,
         functions: &F,
-        expr: &'q Expr,
+        call: Call<'q>,
     ) -> Result<Option<Tally<'q>>, AllocError>
         requires { F.is_faithful functions.now }
-        ensures { IfOk result (λ o. ForSome o (λ t. (params : List Value) → Tells (⟦<F as Hosted>⟧.means functions.now) params expr.now [] t)) }
+        ensures { IfOk result (λ o. ForSome o (λ t. (t.call ≡ call.entry) × ((params : List Value) → Tells (⟦<F as Hosted>⟧.means functions.now) params [] t))) }
     {
-        let Expr::Aggregate(kind, args) = expr else {
-            return Ok(None);
-        };
-        let args = args.as_slice();
-        if !is_built_in(kind) || !are_alone(args) {
+        if !is_built_in(call.kind) || !are_alone(call.args) {
             return Ok(None);
         }
-        match given(alloc, functions, kind, Vec::new(alloc))? {
-            Some(value) => Ok(Some(Tally { kind, args, value })),
+        match given(alloc, functions, call.kind, Vec::new(alloc))? {
+            Some(value) => Ok(Some(Tally { call, value })),
             None => Ok(None),
         }
     }
@@ -245,18 +258,15 @@ impl<'q> Tally<'q> {
         requires { F.is_faithful functions.now }
         ensures { IfOk result (λ o. ForSome o (Step (⟦<F as Hosted>⟧.means functions.now) params.now rows.now self.entry)) }
     {
-        if !is_built_in(self.kind) {
+        let call = self.call;
+        if !is_built_in(call.kind) {
             return Ok(None);
         }
-        let Some(arguments) = arguments_of(alloc, functions, self.args, rows, params)? else {
+        let Some(arguments) = arguments_of(alloc, functions, call.args, rows, params)? else {
             return Ok(None);
         };
-        match next_value(alloc, functions, self.kind, self.value, arguments)? {
-            Some(value) => Ok(Some(Tally {
-                kind: self.kind,
-                args: self.args,
-                value,
-            })),
+        match next_value(alloc, functions, call.kind, self.value, arguments)? {
+            Some(value) => Ok(Some(Tally { call, value })),
             None => Ok(None),
         }
     }

@@ -28,7 +28,7 @@ loop-init g c =
           let kept = kept_of (g.C.Cells.holding c.args.replica.now) in (
             [],
             begins_whole by c.args.params.now c.args.terms.now c.args.def.now kept c.args.changes.now c.deref.result.now c.new-scan.result (c.deref.ensures.value ∙ c.in_ok-own.ensures.kept) c.new-scan.ensures.begins,
-            record { are_true = tt; tells = λ results tell. tell },
+            record { are_true = tt; tells = record { same = refl; tells = λ tell. tell } },
           );
     }
 
