@@ -1,4 +1,4 @@
-//! What a SELECT of one table answers whose results are aggregates.
+//! What a SELECT of one table answers whose results are made of aggregates.
 
 ghost use Rattle.std.specs.Prelude.{◌≡◌, true, map, IfOk, IsTrue};
 ghost use Rattle.std.specs.List.{AllByRecursion};
@@ -156,9 +156,9 @@ fn answer_of<F: Functions>(
 }
 
 /// What a SELECT of one table answers: of what is kept, and with it of further changes, as those of an open transaction, in any order
-/// and of any tables. `None` where it has no aggregates, or such as SQLite does not have, where it has GROUP BY, HAVING or ORDER BY, where
-/// a value is over the limit of 1,000,000 bytes, and where a term, an argument, an aggregate or a result has a fault. The table is read page by
-/// page, and beside a page one value is held for each aggregate.
+/// and of any tables. `None` where it has no aggregates, or such as SQLite does not have, where it has GROUP BY, HAVING or ORDER BY,
+/// where a value is over the limit of 1,000,000 bytes, and where a term, an argument, an aggregate or a result has a fault. The table
+/// is read page by page, and beside a page one value is held for each aggregate.
 ///
 /// `params` are the parameters' values, from number 1 on.
 ///

@@ -1,4 +1,4 @@
-//! SELECTs whose results are aggregates, without GROUP BY: of the rows of their table one value for each aggregate is held.
+//! SELECTs whose results are made of aggregates, without GROUP BY: of the rows of their table one value for each aggregate is held.
 #![tactic(auto)]
 
 pub mod answer;

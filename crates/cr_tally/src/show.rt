@@ -1,5 +1,4 @@
-//! Expressions over a group in which what stood as an aggregate is shown: so their values need no rows, once those of the aggregates are
-//! known.
+//! Expressions over a group in which what their aggregates give is shown: once that is known, their values need no rows.
 
 ghost use Rattle.std.specs.Prelude.{IfOk};
 ghost use Rattle.cr_tally.specs.Showing.{Shows, ShowsAll, ShowsArms, ShowsIfAny};
@@ -18,8 +17,8 @@ pub struct Call<'q> {
     pub args: &'q [Expr],
 }
 
-/// An expression over a group that shows nothing else, with its aggregates shown, which are put behind others: the value of the first of
-/// all these is shown at place 0.
+/// An expression over a group that shows no terms, with each of its aggregates put behind others, and what that gives shown in its
+/// place. It has the value of the expression wherever the values of all these aggregates are shown, in their order.
 ///
 /// # Errors
 /// `AllocError` where memory runs out.
@@ -145,12 +144,8 @@ fn show_if_any<'q>(
     }
 }
 
-/// The same of several expressions, from left to right.
-///
-/// # Errors
-/// `AllocError` where memory runs out.
 #[cycle(show)]
-pub fn show_all<'q>(
+fn show_all<'q>(
     alloc: Global,
     exprs: &'q [Expr],
     calls: &mut Vec<Call<'q>>,
