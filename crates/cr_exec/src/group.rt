@@ -46,8 +46,12 @@ fn has<F: Functions>(
     }
 }
 
-// Puts what a group shows behind others, if it has what HAVING asks.
-pub(crate) fn judge<F: Functions>(
+/// Puts what a group shows behind others, if it has what HAVING asks.
+///
+/// # Errors
+/// The fault of an expression that has no value, and `NotANumber` where HAVING has one that is no number; `TooBig` where a
+/// value on the way is over 1,000,000 bytes; `Memory`.
+pub fn judge<F: Functions>(
     alloc: Global,
     out: &mut Vec<Shown>,
     having: &Option<Expr>,

@@ -24,8 +24,11 @@ use cr_term::query::{OrderTerm, Query, ResultColumn};
 use cr_value::value::Value;
 use std::alloc::{AllocError, Global};
 
-// The expressions of results.
-fn exprs_of_results(alloc: Global, results: &[ResultColumn]) -> Result<Vec<&Expr>, AllocError>
+/// The expressions of results.
+///
+/// # Errors
+/// `AllocError` where memory runs out.
+pub fn exprs_of_results(alloc: Global, results: &[ResultColumn]) -> Result<Vec<&Expr>, AllocError>
     ensures { IfOk result (λ v. map there v.items ≡ map result_expr results.now) }
 {
     let mut exprs = Vec::new(alloc);
@@ -35,8 +38,11 @@ fn exprs_of_results(alloc: Global, results: &[ResultColumn]) -> Result<Vec<&Expr
     Ok(exprs)
 }
 
-// The expressions of the terms of ORDER BY.
-fn exprs_of_order(alloc: Global, terms: &[OrderTerm]) -> Result<Vec<&Expr>, AllocError>
+/// The expressions of the terms of ORDER BY.
+///
+/// # Errors
+/// `AllocError` where memory runs out.
+pub fn exprs_of_order(alloc: Global, terms: &[OrderTerm]) -> Result<Vec<&Expr>, AllocError>
     ensures { IfOk result (λ v. map there v.items ≡ map order_expr terms.now) }
 {
     let mut exprs = Vec::new(alloc);

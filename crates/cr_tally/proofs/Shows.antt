@@ -50,14 +50,14 @@ last_known s (d ∷ cs) c (v ∷ vs) all = last_known s cs c vs all.1
 same_here : (old : List Call) (Same : Setting → Setting → Type 0) → ((s : Setting) (vs : List Value) → s.shown ≡ [] → Same s (showing s vs)) → Known old old Same
 same_here old Same f = record { more = []; grown = sym (append-nil old); same = λ s vs none known. f s vs none }
 
-both_known : (old mid new : List Call) (A B : Setting → Setting → Type 0) → Known old mid A → Known mid new B → Known old new (λ s t. A s t × B s t)
+pub both_known : (old mid new : List Call) (A B : Setting → Setting → Type 0) → Known old mid A → Known mid new B → Known old new (λ s t. A s t × B s t)
 both_known old mid new A B h k = record {
   more = h.more ++ k.more;
   grown = k.grown ∙ ap (λ cs. cs ++ k.more) h.grown ∙ append_assoc old h.more k.more;
   same = λ s vs none known. (h.same s vs none (before s mid k.more vs (subst (λ cs. AreKnown s cs vs) k.grown known)), k.same s vs none known);
 }
 
-follows : (old new : List Call) (A B : Setting → Setting → Type 0) → ((s : Setting) (vs : List Value) → A s (showing s vs) → B s (showing s vs)) → Known old new A → Known old new B
+pub follows : (old new : List Call) (A B : Setting → Setting → Type 0) → ((s : Setting) (vs : List Value) → A s (showing s vs) → B s (showing s vs)) → Known old new A → Known old new B
 follows old new A B f h = record { more = h.more; grown = h.grown; same = λ s vs none known. f s vs (h.same s vs none known) }
 
 abbrev Same : Expr → Expr → Setting → Setting → Type 0
@@ -68,7 +68,7 @@ Same x y s t = eval_of s x ≡ eval_of t y
 both : {A B C : Type 0} (f : A → B → C) (a a' : A) (b b' : B) → a ≡ a' → b ≡ b' → f a b ≡ f a' b'
 both f a a' b b' p q = ap (λ x. f x b) p ∙ ap (f a') q
 
-three : {A B C D : Type 0} (f : A → B → C → D) (a a' : A) (b b' : B) (c c' : C) → a ≡ a' → b ≡ b' → c ≡ c' → f a b c ≡ f a' b' c'
+pub three : {A B C D : Type 0} (f : A → B → C → D) (a a' : A) (b b' : B) (c c' : C) → a ≡ a' → b ≡ b' → c ≡ c' → f a b c ≡ f a' b' c'
 three f a a' b b' c c' p q r = both (λ x y. f x y c) a a' b b' p q ∙ ap (f a' b') r
 
 rolled : (s : Setting) (y : Expr-F Expr When) → eval_of s (roll-Expr y) ≡ and_then (layer (map-Expr Expr When Meaning Arm meaning arm_of y) s) (bounded s.most)

@@ -17,7 +17,7 @@ use Rattle.cr_scalar.specs.Compare.{Orders}
 use Rattle.cr_scalar.specs.Meaning.{Meant, Outcome, and_then, bounded, byte_limit}
 use Rattle.cr_scalar.specs.Functions.{all_of}
 use Rattle.cr_scalar.specs.Aggregates.{aggregate_of}
-use Rattle.cr_expr.specs.Laws.{AgreeOn, unlimited}
+use Rattle.cr_expr.specs.Laws.{AgreeOn}
 use Rattle.cr_expr.specs.Setting.{Setting, over}
 use Rattle.cr_expr.specs.Eval.{each, eval_of, meaning}
 use Rattle.cr_expr.proofs.LimitLaw.{limit_law}
@@ -26,7 +26,6 @@ use Rattle.cr_expr.proofs.ReadsLaw.{reads_law}
 use Rattle.cr_query.specs.Query.{Row}
 use Rattle.cr_meaning.specs.Meaning.{IsLimit, at_group, at_row}
 use Rattle.cr_tally.specs.declared.tally.Tally.{Tally}
-use Rattle.cr_tally.specs.Showing.{showing}
 use Rattle.cr_tally.specs.Tallies.{AreArguments, IsAlone, Worth, is_built_in}
 
 small_for : (most : Option ℕ) → IsLimit most → (v : Value) → bounded byte_limit v ≡ Ok v → bounded most v ≡ Ok v
@@ -97,19 +96,6 @@ pub arguments_then : (means : Means) (params : List Value) (row : Row) (args : L
     → IfOk result (λ o. ForSome o (λ given. AllByRecursion IsAlone args → AreArguments means params args row given))
 arguments_then means params row args (Ok o) told = λ vs is alone most members limit. all_there means params row most members limit args alone vs (told vs is)
 arguments_then means params row args (Err x) told = tt
-
--- under each limit
-pub under_each : (means : Means) (params values : List Value) (exprs : List Expr) (vs : List Value) → all_of (each (map meaning exprs) (showing (at_group byte_limit means params (record { shown = []; members = [] })) values)) ≡ Ok vs
-    → (most : Option ℕ) → IsLimit most → all_of (each (map meaning exprs) (showing (at_group most means params (record { shown = []; members = [] })) values)) ≡ Ok vs
-under_each means params values exprs vs is most (inr at) = ap (λ (m : Option ℕ). all_of (each (map meaning exprs) (showing (at_group m means params (record { shown = []; members = [] })) values))) at ∙ is
-under_each means params values exprs vs is most (inl endless) =
-    let limited : Setting = showing (at_group byte_limit means params (record { shown = []; members = [] })) values in
-    ap (λ (m : Option ℕ). all_of (each (map meaning exprs) (showing (at_group m means params (record { shown = []; members = [] })) values))) endless
-    ∙ all_kept limited (unlimited limited) exprs (kept limited exprs) vs is
-  where
-    kept : (s : Setting) (es : List Expr) → AllByRecursion (Keeps s (unlimited s)) es
-    kept s [] = tt
-    kept s (x ∷ xs) = ((λ v so. limit_law x s (λ big. absurd cc) ∙ so), kept s xs)
 
 -- ---- the value
 

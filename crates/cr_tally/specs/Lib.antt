@@ -1,3 +1,4 @@
 pub mod Showing
+pub mod Over
 pub mod Tallies
 pub mod Queries

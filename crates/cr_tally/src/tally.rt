@@ -86,8 +86,8 @@ fn row_of(alloc: Global, value: Value) -> Result<Row, AllocError>
     Ok(Items::new(values))
 }
 
-/// The values of expressions, in memory of their own; `None` where one has a fault.
-pub fn values_over<F: Functions>(
+// The values of expressions, in memory of their own; `None` where one has a fault.
+fn values_over<F: Functions>(
     alloc: Global,
     functions: &F,
     exprs: &[Expr],

@@ -9,8 +9,11 @@ use cr_term::expr::Expr;
 use cr_term::query::Assignment;
 use std::alloc::{AllocError, Global};
 
-// The expressions of a list.
-pub(crate) fn there_of<'q>(alloc: Global, exprs: &'q [Expr]) -> Result<Vec<&'q Expr>, AllocError>
+/// The expressions of a list, where they stand.
+///
+/// # Errors
+/// `AllocError` where memory runs out.
+pub fn there_of<'q>(alloc: Global, exprs: &'q [Expr]) -> Result<Vec<&'q Expr>, AllocError>
     ensures { IfOk result (λ v. map there v.items ≡ map plain exprs.now) }
 {
     let mut out = Vec::new(alloc);

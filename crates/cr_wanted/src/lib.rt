@@ -3,7 +3,7 @@
 
 pub mod by_key;
 pub mod delete;
-mod exprs;
+pub mod exprs;
 pub mod insert;
 pub mod judged;
 pub mod keyed;
