@@ -25,7 +25,7 @@ use cr_value::text::Bytes;
 use cr_value::value::Value;
 use std::alloc::Global;
 
-/// How many keys a write looks up at most.
+/// How many keys a write looks up at most that it finds by its WHERE.
 const MOST_KEYS: usize = 4_096;
 
 /// What a query sees.

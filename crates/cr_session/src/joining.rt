@@ -1,7 +1,7 @@
 //! What a SELECT sees of tables that are joined: of each what is kept of the keys that its terms tell beside the rows of the tables
 //! before it, where they tell some, and else what is kept of the table.
 
-ghost use Rattle.std.specs.Prelude.{◌≡◌, ◌+◌, ◌++◌, ◌∷◌, [], IfOk, IsTrue};
+ghost use Rattle.std.specs.Prelude.{◌≡◌, ◌+◌, IfOk, IsTrue};
 ghost use Rattle.std.specs.List.{list_all, AllByRecursion};
 ghost use Rattle.std.specs.Option.{ForSome};
 ghost use Rattle.cr_sought.specs.Joins.{has_quiet_on, is_safe, width};
@@ -12,6 +12,7 @@ use crate::session::Session;
 use cr_cells::store::{Cells, CellsError};
 use cr_cells::tables::table_named;
 use cr_exec::binary::compares_bytes;
+use cr_exec::push::push;
 use cr_expr::given::Hosted;
 use cr_host::functions::Functions;
 use cr_lattice::table::{Items, Row, Table, TableDef};
@@ -67,10 +68,11 @@ fn place_behind(base: usize, joined: &Joined) -> Result<usize, AllocError>
     }
 }
 
+// Whether no ON can have a fault.
 fn have_quiet_ons(joined: &[Joined]) -> bool
     ensures { result ≡ list_all has_quiet_on joined.now }
 {
-    joined.iter().all(|joined| has_quiet_on(joined))
+    joined.iter().all(|one| has_quiet_on(one))
 }
 
 // Keys in the order of their bytes, each once.
@@ -124,13 +126,6 @@ fn told(
         Some(keys) => Ok(Some(in_order(keys)?)),
         None => Ok(None),
     }
-}
-
-fn push(seen: &mut Vec<Items<Row>>, rows: Items<Row>) -> Result<(), AllocError>
-    ensures { IfOk result (λ u. seen.new.items ≡ seen.old.items ++ rows ∷ []) }
-{
-    seen.push(rows)?;
-    Ok(())
 }
 
 impl<C: Cells> Session<C> {

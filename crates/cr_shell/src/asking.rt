@@ -173,7 +173,7 @@ impl Gathered {
         Ok(Asked::Nothing)
     }
 
-    // Whether a line is a command, or isn't UTF-8.
+    // Whether a line, which need not be UTF-8, is a command.
     fn is_command(&self, alloc: Global, line: &[u8]) -> Result<bool, AllocError>
         ensures { IfOk result (λ b. b ≡ is_command self.now line.now) }
     {
@@ -183,11 +183,12 @@ impl Gathered {
         Ok(!self.has_token(alloc)?)
     }
 
-    /// What a line asks, without the line feed that ends it: a command, if it begins with `.` and what is gathered has no
-    /// token; else it is gathered, and if its `;` is the last token then, all that is gathered is to be run.
+    /// What a line asks, without the line feed that ends it and a carriage return before that: a command, if it begins with `.`
+    /// and what is gathered has no token; else it is gathered, and if its `;` is the last token then, all that is gathered is to
+    /// be run. What is gathered is dropped where the line would make it too long, or isn't UTF-8.
     ///
     /// # Errors
-    /// Where there is no memory for it.
+    /// Where there is no memory for it; nothing is said of what is gathered then.
     #[tactic(auto, using(cr_value::proofs::Texts::utf8_tests), unfolding(crate::specs::Asking::asked))]
     pub fn ask(&mut self, alloc: Global, line: &[u8]) -> Result<Asked, AllocError>
         ensures value { IfOk result (λ it. (it, self.new) ≡ asked self.old line.now) }

@@ -25,7 +25,7 @@ const HELP: &str = ".open NAME SITE     opens a replica and uses it; SITE is 32 
 Any other line is SQL, which is run once a ; ends it.
 ";
 
-/// Prints a line for each command.
+/// Prints how each command is written, and what any other line is.
 #[tactic(auto, unfolding(crate::specs::Helping::help_text))]
 pub(crate) fn print_help<W: Write>(writer: &mut Watched<W>)
     ensures { Prints W.contents writer.old writer.new help_text }

@@ -160,7 +160,7 @@ pub fn print_reply<W: Write>(writer: &mut Watched<W>, reply: &FleetReply)
     }
 }
 
-/// Prints an answer: a reply as `print_reply` does, or a line for each command.
+/// Prints an answer: a reply as `print_reply` does, or how commands are written.
 pub fn print_answer<W: Write>(writer: &mut Watched<W>, answer: &Answer)
     ensures { Prints W.contents writer.old writer.new (answer_printed answer.now) }
 {

@@ -51,7 +51,10 @@ impl<D> Watched<D> {
 }
 
 impl<R: Read> Watched<R> {
-    /// Reads as the device does, and keeps whether that failed.
+    /// Reads as the device does.
+    ///
+    /// # Errors
+    /// Where the device failed, which is kept.
     pub fn read(&mut self, buf: &mut [u8]) -> Result<usize, Failed>
         ensures within { IfOk result (λ n. n ≤ length buf.new) }
         ensures bytes { ReadConsumes (R.remaining self.old.0) (R.remaining self.new.0) result buf.new }
