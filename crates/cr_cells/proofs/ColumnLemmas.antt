@@ -13,7 +13,8 @@ use Rattle.cr_lattice.specs.declared.change.Change.{Change}
 use Rattle.cr_lattice.specs.declared.table.ColumnDef.{ColumnDef}
 use Rattle.cr_lattice.specs.declared.table.Table.{Table}
 use Rattle.cr_lattice.specs.declared.table.TableDef.{TableDef}
-use Rattle.cr_lattice.specs.Check.{same_bytes, value_len, has_name, is_known, is_too_big, is_key_column, stands_at, key_affinity, is_fixed, key_fits, is_key, is_row_cid, is_key_name, is_cid, fault_of}
+use Rattle.cr_value.specs.Size.{value_len}
+use Rattle.cr_lattice.specs.Check.{same_bytes, has_name, is_known, is_too_big, is_key_column, stands_at, key_affinity, is_fixed, key_fits, is_key, is_row_cid, is_key_name, is_cid, fault_of}
 use Rattle.cr_cells.specs.Tables.{is_named, same_name, with_column, altered, with_added, IsNewColumn, is_table_of, fault_in, AreWellFormed}
 use Rattle.cr_cells.specs.Holding.{Holding, kept_of, IsSound}
 use Rattle.cr_cells.proofs.MemberLemmas.{split}

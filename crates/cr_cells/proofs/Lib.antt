@@ -1,4 +1,5 @@
 pub mod MemberLemmas
+pub mod SortLemmas
 pub mod CellLemmas
 pub mod CommitLemmas
 pub mod TableLemmas

@@ -9,18 +9,17 @@ ghost use Rattle.cr_lattice.specs.Change.{change_cmp};
 ghost use Rattle.cr_lattice.specs.Keep.{has, keep};
 ghost use Rattle.cr_lattice.specs.Rows.{is_of_row};
 ghost use Rattle.cr_lattice.specs.Sets.{set_of};
-ghost use Rattle.cr_cells.specs.Holding.{changes_of, cell_cmp, stamp_cmp, same_stamp, since, is_of_table, cells_of, cells_of_table};
+ghost use Rattle.cr_cells.specs.Holding.{changes_of, cell_cmp, same_stamp, since, is_of_table, cells_of, cells_of_table};
 ghost use Rattle.cr_cells.specs.Commit.{stamped};
 ghost use Rattle.cr_cells.specs.Advance.{IsNext, Advances};
 
+use crate::stamps::cmp_stamps;
 use crate::store::CellsError;
 use cr_lattice::change::Change;
 use cr_lattice::merge::merge;
-use cr_lattice::order::cmp_changes;
 use cr_lattice::stamped::Stamped;
 use cr_value::order::same_bytes;
 use std::alloc::{AllocError, Global};
-use std::cmp::Ordering;
 
 // Copies of the cells' changes.
 fn changes_of(alloc: Global, cells: &[Stamped]) -> Result<Vec<Change>, AllocError>
@@ -34,16 +33,6 @@ fn changes_of(alloc: Global, cells: &[Stamped]) -> Result<Vec<Change>, AllocErro
 }
 
 // ---- readings
-
-#[tactic(auto, unfolding(crate::specs::Holding::stamp_cmp))]
-fn cmp_stamps(a: &Stamped, b: &Stamped) -> Ordering
-    ensures { result ≡ stamp_cmp a.now b.now }
-{
-    a.version
-        .cmp(&b.version)
-        .then(a.seq.cmp(&b.seq))
-        .then(cmp_changes(&a.change, &b.change))
-}
 
 fn above(alloc: Global, cells: &[Stamped], version: i64) -> Result<Vec<Stamped>, AllocError>
     ensures { IfOk result (λ v. v.items ≡ filter (λ s. int_lt version s.version) cells.now) }

@@ -8,5 +8,6 @@ pub mod marks;
 pub mod newly;
 pub mod page;
 pub mod plain;
+pub mod stamps;
 pub mod store;
 pub mod tables;

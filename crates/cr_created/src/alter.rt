@@ -8,8 +8,7 @@ ghost use Rattle.cr_resolve.specs.Told.{Finds, Passes};
 ghost use Rattle.cr_created.specs.Drafts.{added_outside};
 
 use crate::column::{column_def, has_primary};
-use crate::profile::{is_default_too_long, is_named_row};
-use cr_lattice::profile::COLUMN_LIMIT;
+use cr_lattice::profile::{COLUMN_LIMIT, is_default_too_long, is_named_row};
 use cr_lattice::table::{ColumnDef, TableDef};
 use cr_resolve::known::{check_collation, table};
 use cr_resolve::naming::Naming;

@@ -18,6 +18,6 @@ use std::alloc::Global;
 pub fn marked_table<K: Naming>(alloc: Global, known: &K, name: &Text) -> Result<Relation, Refusal>
     ensures { Finds (meant (K.known known.now) (str_to_ascii_lowercase name.now)) result }
 {
-    let lower = Text::new(name.as_str().to_ascii_lowercase(alloc)?);
+    let lower = Text::folded(alloc, name.as_str())?;
     table(alloc, known, &lower)
 }

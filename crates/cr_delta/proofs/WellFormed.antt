@@ -13,7 +13,8 @@ use Rattle.cr_lattice.specs.declared.check.BadChange.TheVariants.{Size, Table, K
 use Rattle.cr_lattice.specs.declared.table.ColumnDef.{ColumnDef}
 use Rattle.cr_lattice.specs.declared.table.TableDef.{TableDef}
 use Rattle.cr_lattice.specs.Change.{row_cid}
-use Rattle.cr_lattice.specs.Check.{same_bytes, value_len, has_name, is_known, is_too_big, is_key, is_row_cid, is_key_column, is_key_name, is_cid, is_odd, has_lengths, first_failed, fault_of, IsWellFormed}
+use Rattle.cr_value.specs.Size.{value_len}
+use Rattle.cr_lattice.specs.Check.{same_bytes, has_name, is_known, is_too_big, is_key, is_row_cid, is_key_column, is_key_name, is_cid, is_odd, has_lengths, first_failed, fault_of, IsWellFormed}
 use Rattle.cr_lattice.specs.Keep.{keep}
 use Rattle.cr_lattice.specs.Rows.{is_alive, is_of_row, is_cell, kept_change}
 use Rattle.cr_lattice.proofs.KeepLaws.{In, kept_from}

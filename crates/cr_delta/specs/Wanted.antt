@@ -8,7 +8,8 @@ use Rattle.cr_value.specs.Packing.{size_limit}
 use Rattle.cr_lattice.specs.declared.change.Change.{Change}
 use Rattle.cr_lattice.specs.declared.table.ColumnDef.{ColumnDef}
 use Rattle.cr_lattice.specs.declared.table.TableDef.{TableDef}
-use Rattle.cr_lattice.specs.Check.{same_bytes, is_null, is_fixed, is_key_column, value_len, IsWellFormed}
+use Rattle.cr_value.specs.Size.{value_len}
+use Rattle.cr_lattice.specs.Check.{same_bytes, is_null, is_fixed, is_key_column, IsWellFormed}
 use Rattle.cr_lattice.specs.Keep.{keep, join}
 use Rattle.cr_lattice.specs.Profile.{key_count, has_key, has_row_cid, HasDistinctNames}
 use Rattle.cr_lattice.specs.Rows.{alive_keys, rows}

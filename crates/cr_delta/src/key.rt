@@ -13,8 +13,8 @@ use cr_value::text::Bytes;
 use cr_value::value::Value;
 use std::alloc::{AllocError, Global};
 
-// The row's value in the key column at a place.
-fn key_part<'a>(def: &TableDef, row: &'a [Value], place: u8) -> Option<&'a Value>
+/// The row's value in the key column at a place, counted from 1; `None` where the table has no such column. Takes no memory.
+pub fn key_part<'a>(def: &TableDef, row: &'a [Value], place: u8) -> Option<&'a Value>
     ensures { option_copied result ≡ key_part def.now row.now place }
 {
     for (column, value) in def.columns.as_slice().iter().zip(row) {
@@ -112,8 +112,8 @@ pub fn keys_of(alloc: Global, def: &TableDef, rows: &[Row]) -> Result<Vec<Bytes>
     Ok(keys)
 }
 
-/// The keys by their bytes, each once.
-pub(crate) fn in_order(mut keys: Vec<Bytes>) -> Result<Vec<Bytes>, AllocError>
+/// The keys by their bytes, each once. Fails for want of memory alone.
+pub fn in_order(mut keys: Vec<Bytes>) -> Result<Vec<Bytes>, AllocError>
     ensures { IfOk result (λ v. v.items ≡ keys_in_order keys.items) }
 {
     keys.sort()?;

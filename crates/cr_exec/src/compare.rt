@@ -7,7 +7,7 @@ ghost use Rattle.cr_scalar.specs.Compare.{value_cmp_by};
 ghost use Rattle.cr_query.specs.Query.{directed};
 ghost use Rattle.cr_exec.specs.Comparisons.{by_orders, held_order, term_order, result_order, group_order};
 
-use crate::value::value_at;
+use cr_expr::eval::value_at;
 use cr_host::function::FoundCollation;
 use cr_host::functions::Functions;
 use cr_lattice::table::Row;

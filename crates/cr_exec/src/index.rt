@@ -6,7 +6,7 @@ ghost use Rattle.cr_exec.specs.Equalities.{is_equal};
 ghost use Rattle.cr_exec.specs.Groups.{row_there};
 ghost use Rattle.cr_exec.specs.LookUps.{at_place, cell, IsIndexOf, IsInOrder};
 
-use crate::value::value_at;
+use cr_expr::eval::value_at;
 use cr_lattice::table::Row;
 use cr_scalar::compare::is_null;
 use cr_value::order::cmp_binary;

@@ -14,7 +14,7 @@ ghost use Rattle.cr_exec.specs.Values.{null_wanted, null_test, Limited, HasValue
 ghost use Rattle.cr_exec.specs.Scopes.{in_scope, is_so_in, there};
 
 use crate::push::push;
-use cr_expr::eval::eval;
+use cr_expr::eval::{eval, value_at};
 use cr_expr::given::{Given, Hosted};
 use cr_host::functions::Functions;
 use cr_lattice::table::{Items, Row};
@@ -34,16 +34,6 @@ pub enum Scope<'a> {
     Row(&'a [Value]),
     /// A group: the values that it shows for its terms, and its combinations.
     Group(&'a [Value], &'a [Row]),
-}
-
-// The value at a place, NULL where there is none.
-pub(crate) fn value_at<'a>(values: &'a [Value], at: usize) -> Operand<'a>
-    ensures { result ≡ get_or values.now at Null }
-{
-    match values.get(at) {
-        Some(value) => Operand::standing(value),
-        None => Operand::made(Value::Null),
-    }
 }
 
 // The value of a column, a literal or a parameter, possibly under COLLATE; none of another expression.

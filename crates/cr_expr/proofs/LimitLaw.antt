@@ -11,7 +11,8 @@ use Rattle.cr_term.specs.declared.expr.Expr.{Expr, roll-Expr, map-Expr}
 use Rattle.cr_term.specs.declared.expr.Expr.TheOpen.{Expr-F, When-F, Literal, Param, Column, Shown, Unary, Arithmetic, Join, Like, Logic, Compare, Collate, Cast, In, Between, Case, BuiltIn, Host, Aggregate, SiteId, DbVersion}
 use Rattle.cr_term.specs.declared.expr.Expr.TheFolds.{fold-roll-Expr, fold-roll-When, ind-Expr}
 use Rattle.cr_scalar.specs.declared.fault.EvalFault.TheVariants.{Overflow, NotANumber, NotUtf8, Host as Said, TooBig, Memory}
-use Rattle.cr_scalar.specs.Meaning.{Outcome, Meant, and_then, bounded, size, of_host}
+use Rattle.cr_value.specs.Size.{value_len}
+use Rattle.cr_scalar.specs.Meaning.{Outcome, Meant, and_then, bounded, of_host}
 use Rattle.cr_scalar.specs.Numbers.{truth, truth_value, is_null, decides, joins, unary_of, arithmetic_of}
 use Rattle.cr_scalar.specs.Compare.{Orders, compared}
 use Rattle.cr_scalar.specs.Texts.{join_of, like_of, cast_of}
@@ -180,7 +181,7 @@ layer_stays (DbVersion n) s = refl
 
 bound_under : (m : Option ℕ) (v : Value) → Under (bounded m v) (bounded None v)
 bound_under None v = refl
-bound_under (Some most) v = chosen (nat_le (size v) most)
+bound_under (Some most) v = chosen (nat_le (value_len v) most)
   where
     chosen : (b : Bool) → Under (if b then Ok v else Err TooBig) (Ok v)
     chosen true = refl

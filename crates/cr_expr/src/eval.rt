@@ -26,6 +26,7 @@ use cr_scalar::text::{cast_value, join, like};
 use cr_term::expr::{Expr, When};
 use cr_term::operator::{Aggregate, Arithmetic, BuiltIn, Comparison, Logic, Meeting};
 use cr_value::cast::CastTo;
+use cr_value::packing::SIZE_LIMIT;
 use cr_value::text::Text;
 use cr_value::value::Value;
 use sqlite_items::Boxed;
@@ -35,20 +36,15 @@ use std::alloc::{AllocError, Global};
 fn within_limit<'a>(operand: Operand<'a>) -> Result<Operand<'a>, EvalFault>
     ensures { result ≡ bounded byte_limit operand.entry }
 {
-    let size = match operand.get() {
-        Value::Null | Value::Int(_) => 0,
-        Value::Text(text) => text.as_str().len(),
-        Value::Blob(blob) => blob.as_slice().len(),
-    };
-    if size <= 1_000_000 {
+    if operand.get().byte_len() <= SIZE_LIMIT {
         Ok(operand)
     } else {
         Err(EvalFault::TooBig)
     }
 }
 
-// The value at a place, NULL where there is none.
-fn value_at<'a>(values: &'a [Value], at: usize) -> Operand<'a>
+/// The value at a place, NULL where there is none. Takes no memory.
+pub fn value_at<'a>(values: &'a [Value], at: usize) -> Operand<'a>
     ensures { result ≡ get_or values.now at Null }
 {
     match values.get(at) {

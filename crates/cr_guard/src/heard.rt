@@ -12,7 +12,7 @@ ghost use Rattle.cr_delta.specs.Key.{key_of, HasKey};
 ghost use Rattle.cr_guard.specs.Heard.{AreByKey, HasRowsByKey, are_rising, became, event, keys_of_both, heard, heard_of};
 
 use crate::event::{Event, EventKind};
-use cr_delta::key::{are_keyed, key_of};
+use cr_delta::key::{are_keyed, in_order, key_of, keys_of};
 use cr_lattice::table::{Items, Row, TableDef};
 use cr_value::order::cmp_bytes;
 use cr_value::text::Bytes;
@@ -41,26 +41,6 @@ fn became(before: Option<&Row>, after: Option<&Row>) -> Option<EventKind>
             }
         }
     }
-}
-
-fn keys_of(alloc: Global, def: &TableDef, rows: &[Row]) -> Result<Vec<Bytes>, AllocError>
-    requires { AllByRecursion (HasKey def.now) rows.now }
-    ensures { IfOk result (λ keys. keys.items ≡ map (key_of def.now) rows.now) }
-{
-    let mut keys = Vec::new(alloc);
-    for row in rows {
-        keys.push(key_of(alloc, def, row.as_slice())?)?;
-    }
-    Ok(keys)
-}
-
-// The keys by their bytes, each once.
-fn in_order(mut keys: Vec<Bytes>) -> Result<Vec<Bytes>, AllocError>
-    ensures { IfOk result (λ v. v.items ≡ keys_in_order keys.items) }
-{
-    keys.sort()?;
-    keys.dedup();
-    Ok(keys)
 }
 
 fn keys_of_both(

@@ -3,7 +3,6 @@
 ghost use Rattle.std.specs.Prelude.{◌≡◌, ◌≤◌, false, find, OnOk, OnErr, IfOk, IsOk};
 ghost use Rattle.std.specs.Option.{option_copied};
 ghost use Rattle.std.specs.Vec.{vec_len, vec_capacity};
-ghost use Rattle.cr_host.specs.Names.{folded};
 ghost use Rattle.cr_guard.specs.Policy.{is_kept, wants_memory, with_rule, with_read, without, no_rules, folded_rule, read_answer, rule_answer, passes, speaks_of};
 
 use crate::action::{Action, Auth};
@@ -54,19 +53,12 @@ fn speaks_of(rule: &ReadRule, table: &str, column: &str) -> bool
     folds_to(table, rule.table.as_str()) && folds_to(column, rule.column.as_str())
 }
 
-fn folded(alloc: Global, name: &str) -> Result<Text, AllocError>
-    ensures { IfOk result (λ t. t ≡ folded name.now) }
-{
-    let name = name.to_ascii_lowercase(alloc)?;
-    Ok(Text::new(name))
-}
-
 fn folded_rule(alloc: Global, rule: &ReadRule) -> Result<ReadRule, AllocError>
     ensures { IfOk result (λ r. r ≡ folded_rule rule.now) }
 {
     Ok(ReadRule {
-        table: folded(alloc, rule.table.as_str())?,
-        column: folded(alloc, rule.column.as_str())?,
+        table: Text::folded(alloc, rule.table.as_str())?,
+        column: Text::folded(alloc, rule.column.as_str())?,
         answer: rule.answer,
     })
 }

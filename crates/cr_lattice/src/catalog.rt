@@ -19,7 +19,8 @@ pub struct Catalog {
     pub db_version: i64,
 }
 
-fn copy_tables(alloc: Global, tables: &[Table]) -> Result<Items<Table>, AllocError>
+/// The same tables in memory of their own.
+pub fn copy_tables(alloc: Global, tables: &[Table]) -> Result<Items<Table>, AllocError>
     ensures { IfOk result (λ ts. ts ≡ tables.now) }
 {
     let mut copies = Vec::new(alloc);

@@ -83,19 +83,22 @@ fn is_collated_key(column: &ColumnDef) -> bool
     column.key.is_some() && !same_bytes(column.collation.as_str().as_bytes(), BINARY.as_bytes())
 }
 
-fn has_collated_key(columns: &[ColumnDef]) -> bool
+/// Whether a column of the key compares by another collation than BINARY. Takes no memory.
+pub fn has_collated_key(columns: &[ColumnDef]) -> bool
     ensures { result ≡ list_any is_collated_key columns.now }
 {
     columns.iter().any(|column| is_collated_key(column))
 }
 
-fn is_named_row(column: &ColumnDef) -> bool
+/// Whether a column has the name that speaks of the row itself. Takes no memory.
+pub fn is_named_row(column: &ColumnDef) -> bool
     ensures { result ≡ is_named_row column.now }
 {
     same_bytes(column.name.as_str().as_bytes(), ROW_CID.as_bytes())
 }
 
-fn has_named_row(columns: &[ColumnDef]) -> bool
+/// Whether one of the columns has the name that speaks of the row itself. Takes no memory.
+pub fn has_named_row(columns: &[ColumnDef]) -> bool
     ensures { result ≡ list_any is_named_row columns.now }
 {
     columns.iter().any(|column| is_named_row(column))
@@ -111,7 +114,8 @@ fn is_text_too_long(affinity: Affinity, text: &str) -> bool
     }
 }
 
-fn is_default_too_long(column: &ColumnDef) -> bool
+/// Whether a column's default makes a packed key over the limit. Takes no memory.
+pub fn is_default_too_long(column: &ColumnDef) -> bool
     ensures { result ≡ is_default_too_long column.now }
 {
     match &column.default {
@@ -127,7 +131,8 @@ fn is_default_too_long(column: &ColumnDef) -> bool
     }
 }
 
-fn has_default_too_long(columns: &[ColumnDef]) -> bool
+/// Whether one of the columns' defaults makes a packed key over the limit. Takes no memory.
+pub fn has_default_too_long(columns: &[ColumnDef]) -> bool
     ensures { result ≡ list_any is_default_too_long columns.now }
 {
     columns.iter().any(|column| is_default_too_long(column))

@@ -175,7 +175,7 @@ impl<M: Module> Modules<M> {
     ) -> Result<(), Refusal>
         ensures { Registers tables.now (⟦<Modules<M> as StandAll>⟧.states self.old) (made (str_to_ascii_lowercase name.now) (M.columns_of host) (M.rows_of host) (M.updated host)) result (⟦<Modules<M> as StandAll>⟧.states self.new) }
     {
-        let name = Text::new(name.to_ascii_lowercase(alloc)?);
+        let name = Text::folded(alloc, name)?;
         self.check_name(alloc, tables, &name)?;
         match self.list.push(Registered::new(name, host)) {
             Ok(()) => Ok(()),

@@ -6,10 +6,10 @@ ghost use Rattle.cr_term.specs.declared.query.Resolved.TheVariants as r;
 ghost use Rattle.cr_questions.specs.Questions.{first_denied, questions};
 ghost use Rattle.cr_questions.specs.Asked.{told};
 
-use crate::asking::or_question_denied;
 use cr_build::copy::copy_relation;
 use cr_host::meaning::Action;
 use cr_questions::answering::Answering;
+use cr_questions::denied::or_question_denied;
 use cr_questions::question::Asked;
 use cr_term::query::{Alter, Create};
 use std::alloc::{AllocError, Global};

@@ -6,11 +6,11 @@ ghost use Rattle.cr_term.specs.declared.query.Resolved.TheVariants as r;
 ghost use Rattle.cr_questions.specs.Questions.{first_denied, left_of, questions};
 ghost use Rattle.cr_questions.specs.Asked.{told};
 
-use crate::asking::{or_all_denied, or_question_denied};
 use cr_allowed::left::left_all;
 use cr_build::copy::copy_relation;
 use cr_host::meaning::Action;
 use cr_questions::answering::Answering;
+use cr_questions::denied::{or_any_denied, or_question_denied};
 use cr_questions::question::Asked;
 use cr_questions::sources::Sources;
 use cr_term::query::Delete;
@@ -30,7 +30,7 @@ pub fn delete_denied<'a, G: Answering>(guard: &G, delete: &'a Delete) -> Option<
         b: "",
     };
     let found = or_question_denied(None, guard, question);
-    or_all_denied(
+    or_any_denied(
         found,
         guard,
         Sources::One(relation),

@@ -8,11 +8,12 @@ ghost use Rattle.cr_term.specs.declared.query.Resolved.TheVariants as r;
 ghost use Rattle.cr_questions.specs.Questions.{ask, asked_all, first_denied, left, left_insert, questions};
 ghost use Rattle.cr_questions.specs.Asked.{or_first_denied, told};
 
-use crate::asking::{is_ignored, or_all_denied, or_question_denied};
+use crate::asking::is_ignored;
 use cr_allowed::left::left_all;
 use cr_build::copy::copy_relation;
 use cr_host::meaning::Action;
 use cr_questions::answering::Answering;
+use cr_questions::denied::{or_any_denied, or_question_denied};
 use cr_questions::question::Asked;
 use cr_questions::sources::Sources;
 use cr_term::expr::Expr;
@@ -42,7 +43,7 @@ fn or_rows_denied<'a, G: Answering>(
     ensures { option_map told result ≡ or_first_denied (G.answers guard.now) (option_map told found.entry) (flat_map (asked_all []) rows.now) }
 {
     for row in rows {
-        found = or_all_denied(found, guard, Sources::Empty, row.as_slice());
+        found = or_any_denied(found, guard, Sources::Empty, row.as_slice());
     }
     found
 }

@@ -6,11 +6,12 @@ ghost use Rattle.cr_term.specs.declared.query.Resolved.TheVariants as r;
 ghost use Rattle.cr_questions.specs.Questions.{first_denied, left_of, questions};
 ghost use Rattle.cr_questions.specs.Asked.{told};
 
-use crate::asking::{is_ignored, or_question_denied};
+use crate::asking::is_ignored;
 use cr_build::copy::copy_relation;
 use cr_host::meaning::Action;
 use cr_questions::answering::Answering;
 use cr_questions::asked::call_of;
+use cr_questions::denied::or_question_denied;
 use cr_questions::question::Asked;
 use cr_term::query::MarkReplicated;
 use std::alloc::{AllocError, Global};

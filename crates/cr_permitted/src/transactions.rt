@@ -7,9 +7,9 @@ ghost use Rattle.cr_term.specs.declared.query.Resolved.TheVariants as r;
 ghost use Rattle.cr_questions.specs.Questions.{ask, first_denied, questions};
 ghost use Rattle.cr_questions.specs.Asked.{told};
 
-use crate::asking::or_question_denied;
 use cr_host::meaning::Action;
 use cr_questions::answering::Answering;
+use cr_questions::denied::or_question_denied;
 use cr_questions::question::Asked;
 
 // The question about a change of transactions, if it is denied.

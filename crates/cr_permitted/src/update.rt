@@ -8,28 +8,18 @@ ghost use Rattle.cr_questions.specs.Questions.{asked, first_denied, left_update,
 ghost use Rattle.cr_questions.specs.Asked.{or_first_denied, told};
 ghost use Rattle.cr_permitted.specs.Assigned.{left_assignments};
 
-use crate::asking::{is_ignored, or_all_denied, or_question_denied};
+use crate::asking::is_ignored;
 use cr_allowed::left::{left, left_all};
 use cr_build::copy::copy_relation;
 use cr_host::meaning::Action;
-use cr_lattice::table::ColumnDef;
 use cr_questions::answering::Answering;
-use cr_questions::denied::or_denied;
+use cr_questions::asked::column_name;
+use cr_questions::denied::{or_any_denied, or_denied, or_question_denied};
 use cr_questions::question::Asked;
 use cr_questions::sources::Sources;
 use cr_term::query::{Assignment, Relation, Update};
 use sqlite_items::Items;
 use std::alloc::{AllocError, Global};
-
-// The name of the column at a place, the empty text where there is none.
-fn column_name(columns: &[ColumnDef], place: usize) -> &str
-    ensures { result.now ≡ (get_or columns.now place no_column).name }
-{
-    match columns.get(place) {
-        Some(column) => column.name.as_str(),
-        None => "",
-    }
-}
 
 // The question about an assignment to a column.
 fn question_of<'a>(relation: &'a Relation, assignment: &Assignment) -> Asked<'a>
@@ -86,7 +76,7 @@ pub fn update_denied<'a, G: Answering>(guard: &G, update: &'a Update) -> Option<
     let assignments = update.assignments.as_slice();
     let assigned = or_assigned_denied(None, guard, relation, assignments);
     let valued = or_values_denied(assigned, guard, relation, assignments);
-    or_all_denied(
+    or_any_denied(
         valued,
         guard,
         Sources::One(relation),

@@ -55,8 +55,8 @@ pub fn call_of<'a>(name: &'a str) -> Asked<'a>
     }
 }
 
-// The name of the column at a place, the empty text where there is none.
-fn column_name(columns: &[ColumnDef], place: usize) -> &str
+/// The name of the column at a place, the empty text where there is none. Takes no memory.
+pub fn column_name(columns: &[ColumnDef], place: usize) -> &str
     ensures { result.now ≡ (get_or columns.now place no_column).name }
 {
     match columns.get(place) {

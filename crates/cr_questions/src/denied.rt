@@ -25,9 +25,9 @@ fn if_denied<'a, G: Answering>(guard: &G, question: Asked<'a>) -> Option<Asked<'
     }
 }
 
-/// What was found, else the question, if it is denied.
+/// What was found, else the question, if it is denied. Takes no memory.
 #[tactic(auto, unfolding(crate::specs::Asked::or_first_denied))]
-pub(crate) fn or_question_denied<'a, G: Answering>(
+pub fn or_question_denied<'a, G: Answering>(
     found: Option<Asked<'a>>,
     guard: &G,
     question: Asked<'a>,
@@ -75,10 +75,10 @@ pub fn or_denied<'a, G: Answering>(
     }
 }
 
-/// What was found, else the first question of several expressions that is denied.
+/// What was found, else the first question of several expressions that is denied. Takes no memory.
 #[cycle(denied)]
 #[tactic(auto, unfolding(crate::specs::Asked::or_first_denied), using(crate::proofs::Firsts::or_assoc, crate::proofs::Firsts::or_none))]
-pub(crate) fn or_any_denied<'a, G: Answering>(
+pub fn or_any_denied<'a, G: Answering>(
     mut found: Option<Asked<'a>>,
     guard: &G,
     sources: Sources<'a>,

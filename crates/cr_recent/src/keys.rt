@@ -3,12 +3,10 @@
 ghost use Rattle.std.specs.Prelude.{◌≡◌, ◌++◌, map, filter, int_lt, IfOk, OnOk};
 ghost use Rattle.cr_lattice.specs.Sets.{set_of};
 ghost use Rattle.cr_cells.specs.Calls.{Reads, is_want, StaysClean};
-ghost use Rattle.cr_cells.specs.Holding.{stamp_cmp};
 ghost use Rattle.cr_recent.specs.Notes.{key_cmp, key_of, cells_above};
 
 use cr_cells::store::{Cells, CellsError};
 use cr_lattice::change::Change;
-use cr_lattice::order::cmp_changes;
 use cr_lattice::stamped::Stamped;
 use cr_value::order::cmp_bytes;
 use cr_value::text::{Bytes, Text};
@@ -104,22 +102,4 @@ pub(crate) fn cells_above<C: Cells>(
         push_above(&mut found, row, version)?;
     }
     Ok(found)
-}
-
-fn cmp_stamps(a: &Stamped, b: &Stamped) -> Ordering
-    ensures { result ≡ stamp_cmp a.now b.now }
-{
-    a.version
-        .cmp(&b.version)
-        .then(a.seq.cmp(&b.seq))
-        .then(cmp_changes(&a.change, &b.change))
-}
-
-/// The cells by their stamps, each once.
-pub(crate) fn by_stamp(mut cells: Vec<Stamped>) -> Result<Vec<Stamped>, AllocError>
-    ensures { IfOk result (λ sorted. sorted.items ≡ set_of stamp_cmp cells.items) }
-{
-    cells.sort_by(|a, b| cmp_stamps(a, b))?;
-    cells.dedup_by(|a, b| cmp_stamps(a, b).is_eq());
-    Ok(cells)
 }

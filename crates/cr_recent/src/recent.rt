@@ -2,9 +2,10 @@
 
 ghost use Rattle.std.specs.Prelude.{◌≡◌};
 
-use crate::keys::{by_stamp, cells_above};
+use crate::keys::cells_above;
 use crate::notes::Notes;
 use cr_cells::page::Page;
+use cr_cells::stamps::by_stamp;
 use cr_cells::store::{Cells, CellsError};
 use cr_lattice::change::{Change, Site};
 use cr_lattice::stamped::Stamped;

@@ -1,7 +1,7 @@
 -- What an expression means: a value or a fault. Want of memory is no part of it. Source: this project's own.
-use Rattle.std.specs.Prelude.{◌≡◌, ℕ, nat_le, List, length, Option, Some, None, Result, Ok, Err, if◌then◌else◌}
+use Rattle.std.specs.Prelude.{◌≡◌, ℕ, nat_le, List, Option, Some, None, Result, Ok, Err, if◌then◌else◌}
 use Rattle.cr_value.specs.declared.value.Value.{Value}
-use Rattle.cr_value.specs.declared.value.Value.TheVariants.{Null, Int, Text, Blob}
+use Rattle.cr_value.specs.Size.{value_len}
 use Rattle.cr_scalar.specs.declared.fault.EvalFault.{EvalFault}
 use Rattle.cr_scalar.specs.declared.fault.EvalFault.TheVariants.{Overflow, NotANumber, NotUtf8, Host, TooBig, Memory}
 
@@ -30,13 +30,6 @@ abbrev pub and_then : {A B : Type 0} → Outcome A → (A → Outcome B) → Out
 and_then (Ok a) f = f a
 and_then (Err e) f = Err e
 
--- bytes of a text or a blob
-abbrev pub size : Value → ℕ
-size Null = 0
-size (Int n) = 0
-size (Text t) = length t
-size (Blob b) = length b
-
 -- the greatest size of a value
 abbrev pub byte_limit : Option ℕ
 byte_limit = Some 1000000
@@ -44,7 +37,7 @@ byte_limit = Some 1000000
 -- a value within the limit, if there is one
 abbrev pub bounded : Option ℕ → Value → Meant
 bounded None v = Ok v
-bounded (Some most) v = if nat_le (size v) most then Ok v else Err TooBig
+bounded (Some most) v = if nat_le (value_len v) most then Ok v else Err TooBig
 
 -- what a host's function gives
 abbrev pub of_host : Result Value (List ℕ) → Meant

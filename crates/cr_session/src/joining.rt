@@ -5,12 +5,12 @@ ghost use Rattle.std.specs.Prelude.{◌≡◌, ◌+◌, IfOk, IsTrue};
 ghost use Rattle.std.specs.List.{list_all, AllByRecursion};
 ghost use Rattle.std.specs.Option.{ForSome};
 ghost use Rattle.cr_sought.specs.Joins.{has_quiet_on, is_safe, width};
-ghost use Rattle.cr_session.specs.Lookup.{in_order};
 ghost use Rattle.cr_session.specs.Joining.{IsTableOf, IsTold};
 
 use crate::session::Session;
 use cr_cells::store::{Cells, CellsError};
 use cr_cells::tables::table_named;
+use cr_delta::key::in_order;
 use cr_exec::binary::compares_bytes;
 use cr_exec::push::push;
 use cr_expr::given::Hosted;
@@ -73,16 +73,6 @@ fn have_quiet_ons(joined: &[Joined]) -> bool
     ensures { result ≡ list_all has_quiet_on joined.now }
 {
     joined.iter().all(|one| has_quiet_on(one))
-}
-
-// Keys in the order of their bytes, each once.
-fn in_order(keys: Vec<Bytes>) -> Result<Vec<Bytes>, AllocError>
-    ensures { IfOk result (λ v. v.items ≡ in_order keys.items) }
-{
-    let mut keys = keys;
-    keys.sort()?;
-    keys.dedup();
-    Ok(keys)
 }
 
 // The keys of the rows of a table that can be joined with rows of others, by the terms of its ON, else of WHERE, else by a list in

@@ -7,6 +7,7 @@ use Rattle.std.specs.Char.{to_ascii_lowercase}
 use Rattle.std.proofs.lemmas.Bool.Decides.{nat_tests}
 use Rattle.cr_value.specs.declared.value.Value.{Value}
 use Rattle.cr_value.specs.Unpacking.{◌>>=◌}
+use Rattle.cr_host.specs.Names.{folded}
 use Rattle.cr_lattice.specs.declared.table.ColumnDef.{ColumnDef}
 use Rattle.cr_cells.specs.Tables.{is_folded, has_folded_names}
 use Rattle.cr_world.specs.declared.command.Command.{Command}
@@ -16,7 +17,7 @@ use Rattle.cr_world.specs.Answers.{IsReady}
 use Rattle.cr_shell.specs.declared.table_line.Marks.{Marks}
 use Rattle.cr_shell.specs.declared.table_line.Column.{Column}
 use Rattle.cr_shell.proofs.LineLemmas.{told}
-use Rattle.cr_shell.specs.Words.{split_at_space, behind, is_empty, folded}
+use Rattle.cr_shell.specs.Words.{split_at_space, behind, is_empty}
 use Rattle.cr_shell.specs.TableLine.{marks_at, word_at, default_at, column_of, column_at, keys_with, columns_in, declaration_of, table_of}
 
 -- ---- names

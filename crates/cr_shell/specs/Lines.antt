@@ -11,10 +11,11 @@ use Rattle.cr_value.specs.Reading.{literal_at}
 use Rattle.cr_replica.specs.declared.change_row.ChangeRow.{ChangeRow}
 use Rattle.cr_world.specs.declared.command.Command.{Command}
 use Rattle.cr_world.specs.declared.command.Command.TheVariants.{Open, Use, Take, Rows, Changes, Pull, PullSince, Policy}
+use Rattle.cr_host.specs.Names.{folded}
 use Rattle.cr_host.specs.declared.meaning.Auth.{Auth}
 use Rattle.cr_host.specs.declared.meaning.Auth.TheVariants as auth
 use Rattle.cr_guard.specs.declared.policy.PolicyRule.TheVariants.{Read, MaxChanges}
-use Rattle.cr_shell.specs.Words.{has_space, split_at_space, behind, is_empty, folded}
+use Rattle.cr_shell.specs.Words.{has_space, split_at_space, behind, is_empty}
 use Rattle.cr_shell.specs.TableLine.{table_of}
 
 -- ---- a change line

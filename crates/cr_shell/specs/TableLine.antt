@@ -14,9 +14,10 @@ use Rattle.cr_world.specs.declared.command.Command.{Command}
 use Rattle.cr_world.specs.declared.command.Command.TheVariants.{Define}
 use Rattle.cr_world.specs.declared.command.Declaration.{Declaration}
 use Rattle.cr_world.specs.declared.command.Declaration.TheVariants.{Real, Table}
+use Rattle.cr_host.specs.Names.{folded}
 use Rattle.cr_shell.specs.declared.table_line.Marks.{Marks}
 use Rattle.cr_shell.specs.declared.table_line.Column.{Column}
-use Rattle.cr_shell.specs.Words.{split_at_space, behind, is_empty, folded}
+use Rattle.cr_shell.specs.Words.{split_at_space, behind, is_empty}
 
 -- ---- the parts of a column
 

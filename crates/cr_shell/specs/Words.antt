@@ -1,7 +1,6 @@
 -- The words of a line. Source: this project's own line format.
 use Rattle.std.specs.Prelude.{ℕ, ◌+◌, Bool, true, false, not, ◌==◌, nat_lt, List, [], ◌∷◌, length, take, drop, Option, Some, None, if◌then◌else◌}
 use Rattle.std.specs.List.{list_any, prefix_len}
-use Rattle.std.specs.Str.{str_to_ascii_lowercase}
 
 abbrev pub has_space : List ℕ → Bool
 has_space bytes = list_any (λ c. c == 32) bytes
@@ -20,7 +19,3 @@ behind c (b ∷ bs) = if b == c then Some bs else None
 abbrev pub is_empty : List ℕ → Bool
 is_empty [] = true
 is_empty (c ∷ cs) = false
-
--- a name in ASCII lower case
-abbrev pub folded : List ℕ → List ℕ
-folded name = str_to_ascii_lowercase name

@@ -6,11 +6,11 @@ ghost use Rattle.std.specs.Option.{option_map};
 ghost use Rattle.hex.specs.Hex.{decode_sized};
 ghost use Rattle.cr_value.specs.Reading.{literal_at};
 ghost use Rattle.cr_world.specs.declared.command.Command.TheVariants.{Use, Rows, Changes, Pull, PullSince, Take};
-ghost use Rattle.cr_shell.specs.Words.{folded};
+ghost use Rattle.cr_host.specs.Names.{folded};
 ghost use Rattle.cr_shell.specs.Lines.{barred, is_int, integer_behind_bar, cell_of, content_of, origin_of, row_of, site_in, open_of, word_of, integer_of, most_of, rule_of, veto_of, command_in, command_of};
 
 use crate::table_line::table_of;
-use crate::words::{behind_from, folded, has_space, is_at_end, literal_from, split_at_space};
+use crate::words::{behind_from, has_space, is_at_end, literal_from, split_at_space};
 use cr_guard::action::Auth;
 use cr_guard::policy::{PolicyRule, ReadRule};
 use cr_lattice::change::Site;
@@ -166,7 +166,7 @@ fn rows_of(alloc: Global, text: &str) -> Result<Option<Command>, AllocError>
     let Some(name) = word_of(alloc, text)? else {
         return Ok(None);
     };
-    Ok(Some(Command::Rows(folded(alloc, name.as_str())?)))
+    Ok(Some(Command::Rows(Text::folded(alloc, name.as_str())?)))
 }
 
 fn pull_of(alloc: Global, text: &str) -> Result<Option<Command>, AllocError>
@@ -215,8 +215,8 @@ fn rule_of(alloc: Global, text: &str, answer: Auth) -> Result<Option<Command>, A
     if has_space(column) {
         return Ok(None);
     }
-    let table = folded(alloc, table)?;
-    let column = folded(alloc, column)?;
+    let table = Text::folded(alloc, table)?;
+    let column = Text::folded(alloc, column)?;
     Ok(Some(Command::Policy(PolicyRule::Read(ReadRule {
         table,
         column,

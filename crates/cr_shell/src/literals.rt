@@ -2,25 +2,14 @@
 
 ghost use Rattle.std.specs.Prelude.{◌≡◌, ◌∷◌, ◌++◌, codes, [], List};
 ghost use Rattle.hex.specs.Hex.{encode_upper};
-ghost use Rattle.cr_value.specs.Literal.{is_control, is_printable, doubled, quoted, blob_literal, text_literal, literal};
+ghost use Rattle.cr_value.specs.Literal.{doubled, quoted, blob_literal, text_literal, literal};
 ghost use Rattle.cr_shell.specs.Printing.{Prints};
 
 use crate::watched::Watched;
+use cr_value::literal::is_printable;
 use cr_value::value::Value;
 use itoa::Buffer;
 use std::io::Write;
-
-fn is_control(c: u8) -> bool
-    ensures { result ≡ is_control c }
-{
-    c < b' ' || c == 127
-}
-
-fn is_printable(text: &[u8]) -> bool
-    ensures { result ≡ is_printable text.now }
-{
-    text.iter().all(|c| !is_control(*c))
-}
 
 const DIGITS: [u8; 16] = *b"0123456789ABCDEF";
 

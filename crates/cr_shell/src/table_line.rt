@@ -6,7 +6,7 @@ ghost use Rattle.std.specs.Option.{option_map};
 ghost use Rattle.cr_world.specs.Answers.{IsReady};
 ghost use Rattle.cr_shell.specs.TableLine.{mark_at, marks_at, word_len, word_at, default_at, place_in_key, column_of, column_at, keys_with, columns_in, declaration_of, table_of};
 
-use crate::words::{behind_from, folded, is_at_end, literal_from, split_at_space};
+use crate::words::{behind_from, is_at_end, literal_from, split_at_space};
 use cr_lattice::table::{ColumnDef, Items, TableDef};
 use cr_value::affinity::Affinity;
 use cr_value::text::Text;
@@ -114,7 +114,7 @@ fn column_of(
     ensures { IfOk result (λ column. column ≡ column_of keys marks name.now type_name.now default) }
 {
     let affinity = Affinity::of_type(type_name);
-    let name = folded(alloc, name)?;
+    let name = Text::folded(alloc, name)?;
     Ok(Column {
         definition: ColumnDef {
             name,
@@ -204,7 +204,7 @@ fn declaration_of(
         return Ok(Declaration::Real);
     }
     Ok(Declaration::Table(TableDef {
-        name: folded(alloc, name)?,
+        name: Text::folded(alloc, name)?,
         columns: definitions_of(alloc, columns)?,
     }))
 }

@@ -3,10 +3,9 @@
 ghost use Rattle.std.specs.Prelude.{◌≡◌, drop, IfOk};
 ghost use Rattle.std.specs.Option.{option_map};
 ghost use Rattle.cr_value.specs.Reading.{literal_at};
-ghost use Rattle.cr_shell.specs.Words.{has_space, split_at_space, behind, is_empty, folded};
+ghost use Rattle.cr_shell.specs.Words.{has_space, split_at_space, behind, is_empty};
 
 use cr_value::literal::read_literal;
-use cr_value::text::Text;
 use cr_value::value::Value;
 use std::alloc::{AllocError, Global};
 
@@ -48,11 +47,4 @@ pub(crate) fn is_at_end(text: &str, at: usize) -> bool
     ensures { result ≡ is_empty (drop at text.now) }
 {
     text.len() <= at
-}
-
-pub(crate) fn folded(alloc: Global, name: &str) -> Result<Text, AllocError>
-    ensures { IfOk result (λ t. t ≡ folded name.now) }
-{
-    let name = name.to_ascii_lowercase(alloc)?;
-    Ok(Text::new(name))
 }

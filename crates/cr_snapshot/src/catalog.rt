@@ -4,20 +4,10 @@ ghost use Rattle.std.specs.Prelude.{◌≡◌, ◌++◌, map, IfOk, OnOk};
 ghost use Rattle.cr_snapshot.specs.Seen.{catalog_of, definition_of};
 
 use crate::changes::changes_definition;
-use cr_lattice::catalog::Catalog;
-use cr_lattice::table::{Items, Table, TableDef};
+use cr_lattice::catalog::{Catalog, copy_tables};
+use cr_lattice::table::{Items, TableDef};
 use cr_replica::snapshot::{Listing, Snapshot};
 use std::alloc::{AllocError, Global};
-
-fn copied_tables(alloc: Global, tables: &[Table]) -> Result<Items<Table>, AllocError>
-    ensures { IfOk result (λ ts. ts ≡ tables.now) }
-{
-    let mut copies = Vec::new(alloc);
-    for table in tables {
-        copies.push(table.copy(alloc)?)?;
-    }
-    Ok(Items::new(copies))
-}
 
 // Puts copies of the definitions of listed modules behind others.
 fn push_definitions(
@@ -42,7 +32,7 @@ pub fn catalog(alloc: Global, snapshot: &Snapshot) -> Result<Catalog, AllocError
     modules.push(changes_definition(alloc)?)?;
     push_definitions(alloc, &mut modules, snapshot.modules.as_slice())?;
     Ok(Catalog {
-        tables: copied_tables(alloc, snapshot.tables.as_slice())?,
+        tables: copy_tables(alloc, snapshot.tables.as_slice())?,
         modules: Items::new(modules),
         site: snapshot.site,
         db_version: snapshot.version,

@@ -32,7 +32,8 @@ use Rattle.cr_term.specs.Same.{Layer}
 use Rattle.cr_term.specs.Terms.{quiet, quiet_layer}
 use Rattle.cr_scalar.specs.Host.{Host}
 use Rattle.cr_scalar.specs.declared.fault.EvalFault.TheVariants.{TooBig}
-use Rattle.cr_scalar.specs.Meaning.{Meant, and_then, bounded, size}
+use Rattle.cr_value.specs.Size.{value_len}
+use Rattle.cr_scalar.specs.Meaning.{Meant, and_then, bounded}
 use Rattle.cr_scalar.specs.Numbers.{decides, either, truth, truth_value}
 use Rattle.cr_expr.specs.Setting.{Setting}
 use Rattle.cr_expr.specs.Eval.{Meaning, Arm, meaning, arm_of, layer, eval_of, equals, in_of}
@@ -114,7 +115,7 @@ module _ (host : Host) (bytes : OrdersBytes host) (params : List Value) (r : Row
   abbrev value_here : Layer → Meant
   value_here y = and_then (layer (map-Expr Expr (When-F Expr (Unit {0})) Meaning Arm meaning arm_of y) here) (bounded most)
 
-  fits : (v : Value) → nat_le (size v) size_limit ≡ true → bounded most v ≡ Ok v
+  fits : (v : Value) → nat_le (value_len v) size_limit ≡ true → bounded most v ≡ Ok v
   fits v small = elim limit [
     | inl none ↦ ap (λ o. bounded o v) none
     | inr some ↦ ap (λ o. bounded o v) some ∙ ap (λ (b : Bool). if b then Ok v else Err TooBig) small
@@ -123,14 +124,14 @@ module _ (host : Host) (bytes : OrdersBytes host) (params : List Value) (r : Row
   item_has : (e : Expr) (v : Value) → item params e ≡ Some v → eval_of here e ≡ Ok v
   item_has e v h = one_node here e ∙ by (out-Expr e) h where
     small : (u : Value) → within_limit u ≡ Some v → bounded most u ≡ Ok v
-    small u k = let p = provided (nat_le (size u) size_limit) (Some u) v k in fits u p.0 ∙ ap Ok (some_is u v p.1)
+    small u k = let p = provided (nat_le (value_len u) size_limit) (Some u) v k in fits u p.0 ∙ ap Ok (some_is u v p.1)
 
     by : (y : Layer) → item_in params y ≡ Some v → value_here y ≡ Ok v
     by (Literal u) k = small u k
     by (Param n) k = small (get_or params (n - 1) Null) k
     by _ k = absurd cc
 
-  column_has : (x : Expr) (at : ℕ) → place_in (out-Expr x) ≡ Some at → nat_le (size (get_or r at Null)) size_limit ≡ true
+  column_has : (x : Expr) (at : ℕ) → place_in (out-Expr x) ≡ Some at → nat_le (value_len (get_or r at Null)) size_limit ≡ true
       → eval_of here x ≡ Ok (get_or r at Null)
   column_has x at h small = one_node here x ∙ by (out-Expr x) h where
     by : (y : Layer) → place_in y ≡ Some at → value_here y ≡ Ok (get_or r at Null)
@@ -186,7 +187,7 @@ module _ (host : Host) (bytes : OrdersBytes host) (params : List Value) (r : Row
   so m = option_and_then (λ v. queries.is_so (truth v)) (queries.value_of m)
 
   -- a list that has not the column's value is not true
-  pub list_misses : (e : Expr) (at : ℕ) (ws : List Value) → list_of params e ≡ Some (at, ws) → nat_le (size (get_or r at Null)) size_limit ≡ true
+  pub list_misses : (e : Expr) (at : ℕ) (ws : List Value) → list_of params e ≡ Some (at, ws) → nat_le (value_len (get_or r at Null)) size_limit ≡ true
       → AllByRecursion (λ w. get_or r at Null ≡ w → w ≡ Null) ws → is_true (queries.meaning most host params) (view.plain e) r ≡ Some false
   list_misses e at ws h small apart = by (out-Expr e) refl h where
     v : Value
@@ -259,19 +260,19 @@ module _ (base : ℕ) (def : TableDef) (params : List Value) (terms : List Expr)
 
 -- ---- no part of a key is too large
 
-value_small : (v : Value) → size v ≤ length (packed_value v)
+value_small : (v : Value) → value_len v ≤ length (packed_value v)
 value_small Null = omega arith
 value_small (Int n) = omega arith
 value_small (Text t) = omega (arith, length-append (to_be_bytes w32 (length t)) t)
 value_small (Blob b) = omega (arith, length-append (to_be_bytes w32 (length b)) b)
 
-part_small : (vs : List Value) (i : ℕ) → size (get_or vs i Null) ≤ length (flat_map packed_value vs)
+part_small : (vs : List Value) (i : ℕ) → value_len (get_or vs i Null) ≤ length (flat_map packed_value vs)
 part_small [] i = omega arith
 part_small (v ∷ vs) zero = omega (arith, value_small v, length-append (packed_value v) (flat_map packed_value vs))
 part_small (v ∷ vs) (suc i) = omega (arith, part_small vs i, length-append (packed_value v) (flat_map packed_value vs))
 
 key_small : (def : TableDef) → has_key def ≡ true → (kept : List Change) → AreKeptOf def kept → (k : List ℕ) → Among (alive_keys kept def.name) k
-    → (at : ℕ) → is_of_key def at ≡ true → nat_le (size (get_or (row kept def k) at Null)) size_limit ≡ true
+    → (at : ℕ) → is_of_key def at ≡ true → nat_le (value_len (get_or (row kept def k) at Null)) size_limit ≡ true
 unfolding row
 key_small def keyed kept are k among at of = by (slice_get def.columns at) refl of where
   there : (vs : List Value) × Spells def k vs
@@ -280,22 +281,22 @@ key_small def keyed kept are k among at of = by (slice_get def.columns at) refl 
   f : ColumnDef → Value
   f = cell kept def.name k
 
-  small : (i : ℕ) → nat_le (size (get_or there.0 i Null)) size_limit ≡ true
+  small : (i : ℕ) → nat_le (value_len (get_or there.0 i Null)) size_limit ≡ true
   small i =
       let spelled : length (packed there.0) ≡ length k = ap length there.1.spelled in
-      le-leb (size (get_or there.0 i Null)) size_limit (omega (arith, part_small there.0 i, spelled, there.1.are.size))
+      le-leb (value_len (get_or there.0 i Null)) size_limit (omega (arith, part_small there.0 i, spelled, there.1.are.size))
 
   in_key : (col : ColumnDef) → slice_get def.columns at ≡ Some col → (o : Option ℕ) → col.key ≡ o → is_some o ≡ true
-      → nat_le (size (get_or (map f def.columns) at Null)) size_limit ≡ true
+      → nat_le (value_len (get_or (map f def.columns) at Null)) size_limit ≡ true
   in_key col is None key so = absurd cc
   in_key col is (Some place) key so =
-      ap (λ v. nat_le (size v) size_limit)
+      ap (λ v. nat_le (value_len v) size_limit)
       (get_or_from_slice_get (map f def.columns) at (f col) Null (slice_get-map f def.columns at ∙ ap (option_map f) is)
       ∙ key_cell def keyed kept k there.0 there.1 col place key)
       ∙ small (place - 1)
 
   by : (o : Option ColumnDef) → slice_get def.columns at ≡ o → option_map_or is_key_column o false ≡ true
-      → nat_le (size (get_or (map f def.columns) at Null)) size_limit ≡ true
+      → nat_le (value_len (get_or (map f def.columns) at Null)) size_limit ≡ true
   by None is h = absurd cc
   by (Some col) is h = in_key col is col.key refl h
 
@@ -325,8 +326,8 @@ module _ (host : Host) (params : List Value) (most : Option ℕ) (limit : querie
         let value : get_or c at Null ≡ get_or r (at - base) Null =
         ap (λ n. get_or c n Null) (omega (arith, i.0)) ∙ stands (at - base) (omega (arith, wide, within (at - base) i.1)) in
         let small =
-        ap (λ v. nat_le (size v) size_limit) value
-        ∙ ap (λ (r : Row). nat_le (size (get_or r (at - base) Null)) size_limit) k.2
+        ap (λ v. nat_le (value_len v) size_limit) value
+        ∙ ap (λ (r : Row). nat_le (value_len (get_or r (at - base) Null)) size_limit) k.2
         ∙ key_small def keyed kept are k.0 k.1 (at - base) i.1 in
         let f = first_is terms e first in
         let whole : filter (λ t. not (quiet t.expr)) (front ++ map view.plain terms) ≡ view.plain e ∷ f.0 =

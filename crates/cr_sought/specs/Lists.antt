@@ -5,6 +5,7 @@ use Rattle.std.specs.Option.{option_and_then, option_map, option_or}
 use Rattle.cr_value.specs.declared.value.Value.{Value}
 use Rattle.cr_value.specs.declared.value.Value.TheVariants.{Null}
 use Rattle.cr_value.specs.Packing.{size_limit}
+use Rattle.cr_value.specs.Size.{value_len}
 use Rattle.cr_lattice.specs.declared.table.TableDef.{TableDef}
 use Rattle.cr_lattice.specs.Check.{same_bytes}
 use Rattle.cr_term.specs.declared.operator.Adjusted.{Adjusted}
@@ -13,7 +14,6 @@ use Rattle.cr_term.specs.declared.expr.Expr.TheOpen.{Literal, Param, Column, In}
 use Rattle.cr_term.specs.Operands.{binary}
 use Rattle.cr_term.specs.Same.{Layer}
 use Rattle.cr_term.specs.Terms.{quiet}
-use Rattle.cr_scalar.specs.Meaning.{size}
 use Rattle.cr_bags.specs.Bags.{each, gather}
 use Rattle.cr_sought.specs.Sought.{alone, given, is_of_key, keys_told, on_right, pinned}
 
@@ -22,7 +22,7 @@ abbrev pub most_items : ℕ
 most_items = 1000
 
 abbrev pub within_limit : Value → Option Value
-within_limit v = cond (nat_le (size v) size_limit) (Some v) None
+within_limit v = cond (nat_le (value_len v) size_limit) (Some v) None
 
 abbrev pub item_in : List Value → Layer → Option Value
 item_in params (Literal v) = within_limit v

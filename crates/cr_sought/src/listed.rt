@@ -15,15 +15,13 @@ use cr_scalar::operand::Operand;
 use cr_term::expr::Expr;
 use cr_term::operator::Adjusted;
 use cr_value::order::same_bytes;
+use cr_value::packing::SIZE_LIMIT;
 use cr_value::text::Bytes;
 use cr_value::value::Value;
 use std::alloc::{AllocError, Global};
 
 /// The most items of a list by which rows are looked up.
 const MOST_ITEMS: usize = 1000;
-
-/// The most bytes of a value.
-const SIZE_LIMIT: usize = 1_000_000;
 
 /// A column, by its place in a combination, and the only values that it has where a term is true.
 #[derive(Drop)]
@@ -42,12 +40,7 @@ fn first_not_quiet(terms: &[Expr]) -> Option<&Expr>
 fn within_limit<'a>(value: Operand<'a>) -> Option<Operand<'a>>
     ensures { result ≡ within_limit value.entry }
 {
-    let size = match value.get() {
-        Value::Null | Value::Int(_) => 0,
-        Value::Text(text) => text.as_str().len(),
-        Value::Blob(blob) => blob.as_slice().len(),
-    };
-    if size > SIZE_LIMIT {
+    if value.get().byte_len() > SIZE_LIMIT {
         return None;
     }
     Some(value)

@@ -16,7 +16,8 @@ use Rattle.cr_rows.specs.Rows.{IsListed, Lists}
 use Rattle.cr_lattice.specs.Sets.{set_of}
 use Rattle.cr_lattice.proofs.SortedSets.{list_any-set_of}
 use Rattle.cr_store.specs.Stored.{IsInteger, AreStored}
-use Rattle.cr_store.proofs.ReadSets.{same_sets, set_of_sorted, equal_is}
+use Rattle.cr_cells.proofs.SortLemmas.{equal_is}
+use Rattle.cr_store.proofs.ReadSets.{same_sets, set_of_sorted}
 
 module _ {D : Type 0} {R : D → D → Ordering} (total : IsTotalOrder R) (exact : IsAntisymmetric R) where
   alike : (xs ys : List D) (x : D) → ((q : D) → list_any (eq_by_cmp R q) xs ≡ list_any (eq_by_cmp R q) ys) → Has xs x → Has ys x

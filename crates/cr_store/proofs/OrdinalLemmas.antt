@@ -20,7 +20,7 @@ use Rattle.cr_cells.proofs.NewLemmas.{same_is, same_from}
 use Rattle.cr_cells.proofs.TableLemmas.{table_for, same_name-equiv}
 use Rattle.cr_lattice.proofs.Tested.{and_true}
 use Rattle.cr_store.specs.Ordinals.{ordinal, name_at, has_table, IsNamed}
-use Rattle.cr_store.proofs.ReadSets.{equal_is}
+use Rattle.cr_cells.proofs.SortLemmas.{equal_is}
 
 -- ---- a table that is there
 

@@ -14,7 +14,7 @@ use Rattle.sqlite_rules.specs.Edit.{id_in}
 use Rattle.sqlite_trees.specs.Tree.{rowid}
 use Rattle.cr_rows.specs.Rows.{AreApart}
 use Rattle.cr_store.specs.Stored.{IsInteger}
-use Rattle.cr_store.proofs.ReadSets.{equal_is}
+use Rattle.cr_cells.proofs.SortLemmas.{equal_is}
 use Rattle.cr_sound.proofs.Deciding.{order_decided}
 
 -- ---- one more row

@@ -12,7 +12,7 @@ ghost use Rattle.cr_lattice.specs.Rows.{is_of_row};
 ghost use Rattle.std.specs.List.Sorted.{IsStrictlySortedBy};
 ghost use Rattle.cr_lattice.specs.Sets.{set_of};
 ghost use Rattle.cr_lattice.specs.declared.stamped.Stamped.{Stamped};
-ghost use Rattle.cr_cells.specs.Holding.{cell_cmp, stamp_cmp, since, is_of_table, cells_of, cells_of_table};
+ghost use Rattle.cr_cells.specs.Holding.{cell_cmp, since, is_of_table, cells_of, cells_of_table};
 ghost use Rattle.cr_cells.specs.Calls.{IsRefusal, is_want};
 ghost use Rattle.cr_store.specs.Rows.{cell_of};
 ghost use Rattle.cr_store.specs.Schema.{store_schema};
@@ -22,6 +22,7 @@ ghost use Rattle.cr_store.specs.Words.{SameCells};
 use crate::format::Format;
 use crate::ordinals::ordinal;
 use crate::rows::{read_cell, refusal};
+use cr_cells::stamps::by_stamp;
 use cr_cells::store::CellsError;
 use cr_lattice::order::cmp_changes;
 use cr_lattice::stamped::Stamped;
@@ -137,30 +138,12 @@ pub(crate) fn cells_in_table<S: Alter>(
     )
 }
 
-fn cmp_stamps(a: &Stamped, b: &Stamped) -> Ordering
-    ensures { result ≡ stamp_cmp a.now b.now }
-{
-    a.version
-        .cmp(&b.version)
-        .then(a.seq.cmp(&b.seq))
-        .then(cmp_changes(&a.change, &b.change))
-}
-
 pub(crate) fn cmp_cells(a: &Stamped, b: &Stamped) -> Ordering
     ensures { result ≡ cell_cmp a.now b.now }
 {
     cmp_changes(&a.change, &b.change)
         .then(a.version.cmp(&b.version))
         .then(a.seq.cmp(&b.seq))
-}
-
-/// The cells by their stamps, each once.
-pub(crate) fn by_stamp(mut cells: Vec<Stamped>) -> Result<Vec<Stamped>, AllocError>
-    ensures { IfOk result (λ v. v.items ≡ set_of stamp_cmp cells.items) }
-{
-    cells.sort_by(|a, b| cmp_stamps(a, b))?;
-    cells.dedup_by(|a, b| cmp_stamps(a, b).is_eq());
-    Ok(cells)
 }
 
 /// The cells in the order of changes, each once.

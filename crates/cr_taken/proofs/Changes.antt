@@ -10,7 +10,8 @@ use Rattle.cr_lattice.specs.declared.change.Change.{Change}
 use Rattle.cr_lattice.specs.declared.table.Table.{Table}
 use Rattle.cr_lattice.specs.declared.table.ColumnDef.{ColumnDef}
 use Rattle.cr_lattice.specs.declared.table.TableDef.{TableDef}
-use Rattle.cr_lattice.specs.Check.{is_fixed, value_len, IsWellFormed}
+use Rattle.cr_value.specs.Size.{value_len}
+use Rattle.cr_lattice.specs.Check.{is_fixed, IsWellFormed}
 use Rattle.cr_lattice.proofs.Tested.{or_false}
 use Rattle.cr_cells.specs.Tables.{first_fault}
 use Rattle.cr_delta.specs.Key.{cells_of, key_of, HasKey}

@@ -9,7 +9,7 @@ use Rattle.cr_value.specs.declared.value.Value.{Value}
 use Rattle.cr_value.specs.declared.value.Value.TheVariants.{Int, Text, Blob}
 use Rattle.cr_value.specs.Packing.{size_limit}
 use Rattle.cr_value.specs.Unpacking.{◌>>=◌, number_at, sized_at, int_at, text_at, blob_at, value_at, values_at, unpacked}
-use Rattle.cr_lattice.specs.Check.{value_len}
+use Rattle.cr_value.specs.Size.{value_len}
 
 abbrev pub IsSmall : Value → Type 0
 IsSmall v = value_len v ≤ size_limit

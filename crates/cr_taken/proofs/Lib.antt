@@ -4,7 +4,6 @@ pub mod Changes
 pub mod Shown
 pub mod Puts
 pub mod Refined
-pub mod Tested
 pub mod Sized
 pub mod Keys
 pub mod Short

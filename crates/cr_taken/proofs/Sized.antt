@@ -4,14 +4,14 @@ use Rattle.std.proofs.lemmas.Bool.{leb-true}
 use Rattle.cr_value.specs.declared.value.Value.{Value}
 use Rattle.cr_value.specs.declared.value.Value.TheVariants.{Null, Int, Text, Blob}
 use Rattle.cr_value.specs.Packing.{size_limit}
-use Rattle.cr_lattice.specs.Check.{value_len}
+use Rattle.cr_value.specs.Size.{value_len}
 use Rattle.cr_term.specs.declared.operator.Unary.TheVariants as unary
 use Rattle.cr_term.specs.declared.expr.Expr.{Expr, out-Expr, map-Expr}
 use Rattle.cr_term.specs.declared.expr.Expr.TheOpen.{When-F, Literal, Param, Column, Shown, Unary, Arithmetic, Join, Like, Logic, Compare, Collate, Cast, In, Between, Case, BuiltIn, Host, Aggregate, SiteId, DbVersion}
 use Rattle.cr_term.specs.Same.{Layer}
 use Rattle.cr_term.specs.Terms.{quiet, quiet_layer}
 use Rattle.cr_scalar.specs.declared.fault.EvalFault.TheVariants.{TooBig}
-use Rattle.cr_scalar.specs.Meaning.{Meant, and_then, bounded, byte_limit, size}
+use Rattle.cr_scalar.specs.Meaning.{Meant, and_then, bounded, byte_limit}
 use Rattle.cr_scalar.specs.Numbers.{truth_value, is_null}
 use Rattle.cr_scalar.specs.Compare.{compared}
 use Rattle.cr_scalar.specs.Host as host
@@ -28,12 +28,6 @@ IsSmall v = value_len v ≤ size_limit
 -- a value within the limit, if there is one
 abbrev GivesSmall : Meant → Type 0
 GivesSmall m = (v : Value) → m ≡ Ok v → IsSmall v
-
-size_is : (v : Value) → size v ≡ value_len v
-size_is Null = refl
-size_is (Int n) = refl
-size_is (Text t) = refl
-size_is (Blob b) = refl
 
 truth_small : (t : Option Bool) → IsSmall (truth_value t)
 truth_small (Some true) = omega arith
@@ -91,12 +85,12 @@ free_small (Err x) f w e = absurd cc
 abbrev chosen : Bool → Value → Meant
 chosen b v = if b then Ok v else Err TooBig
 
-within : (v w : Value) (b : Bool) → nat_le (size v) 1000000 ≡ b → chosen b v ≡ Ok w → IsSmall w
-within v w true h e = subst IsSmall (ok_is v w e) (subst (λ n. n ≤ size_limit) (size_is v) (leb-true _ _ h))
+within : (v w : Value) (b : Bool) → nat_le (value_len v) 1000000 ≡ b → chosen b v ≡ Ok w → IsSmall w
+within v w true h e = subst IsSmall (ok_is v w e) (leb-true _ _ h)
 within v w false h e = absurd cc
 
 bounded_small : (m : Meant) → GivesSmall (and_then m (bounded byte_limit))
-bounded_small (Ok v) w e = within v w (nat_le (size v) 1000000) refl e
+bounded_small (Ok v) w e = within v w (nat_le (value_len v) 1000000) refl e
 bounded_small (Err x) w e = absurd cc
 
 eval_small : (s : Setting) (e : Expr) → GivesSmall (and_then (of_node s e) (bounded s.most)) → GivesSmall (eval_of s e)

@@ -10,7 +10,8 @@ use Rattle.cr_lattice.specs.declared.check.BadChange.{BadChange}
 use Rattle.cr_lattice.specs.declared.check.BadChange.TheVariants.{Size, Table as NoTable, Key, Cid, Length}
 use Rattle.cr_lattice.specs.declared.table.Table.{Table}
 use Rattle.cr_lattice.specs.declared.table.TableDef.{TableDef}
-use Rattle.cr_lattice.specs.Check.{same_bytes, value_len, is_too_big, is_key, is_cid, has_lengths, first_failed, fault_of, IsWellFormed}
+use Rattle.cr_value.specs.Size.{value_len}
+use Rattle.cr_lattice.specs.Check.{same_bytes, is_too_big, is_key, is_cid, has_lengths, first_failed, fault_of, IsWellFormed}
 use Rattle.cr_lattice.specs.Keep.{join}
 use Rattle.cr_lattice.proofs.KeepLaws.{kept_from, keep_keep}
 use Rattle.cr_lattice.proofs.ProfileLemmas.{accepted_key, accepted_row, accepted_few}

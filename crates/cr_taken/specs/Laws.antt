@@ -6,7 +6,7 @@ use Rattle.cr_lattice.specs.declared.change.Change.{Change}
 use Rattle.cr_lattice.specs.declared.table.ColumnDef.{ColumnDef}
 use Rattle.cr_lattice.specs.declared.table.Table.{Table}
 use Rattle.cr_lattice.specs.declared.table.TableDef.{TableDef}
-use Rattle.cr_lattice.specs.Check.{value_len}
+use Rattle.cr_value.specs.Size.{value_len}
 use Rattle.cr_lattice.specs.Keep.{join}
 use Rattle.cr_lattice.specs.Rows.{rows}
 use Rattle.cr_cells.specs.Holding.{Holding, IsSound, kept_of}

@@ -5,10 +5,11 @@ use Rattle.std.specs.Int.{w64}
 use Rattle.cr_value.specs.declared.value.Value.{Value}
 use Rattle.cr_value.specs.declared.value.Value.TheVariants.{Null, Int, Text, Blob}
 use Rattle.cr_value.specs.Packing.{size_limit}
+use Rattle.cr_value.specs.Size.{value_len}
 use Rattle.cr_lattice.specs.declared.change.Change.{Change}
 use Rattle.cr_lattice.specs.declared.table.Table.{Table}
 use Rattle.cr_lattice.specs.declared.table.TableDef.{TableDef}
-use Rattle.cr_lattice.specs.Check.{is_fixed, value_len}
+use Rattle.cr_lattice.specs.Check.{is_fixed}
 use Rattle.cr_lattice.specs.Keep.{keep}
 use Rattle.cr_cells.specs.Holding.{Holding, kept_of}
 use Rattle.cr_cells.specs.Tables.{is_named, IsStored, AreWellFormed}
@@ -28,13 +29,6 @@ AreFitting def rows = AllByRecursion (IsFitting def) rows
 pub record AreHeld (def : TableDef) (rows : List (List Value)) : Type 0 where
   pub fitting : AreFitting def rows
   pub small : AreSmall rows
-
--- so is told whether none is longer
-abbrev pub is_small : Value → Bool
-is_small v = nat_le (value_len v) size_limit
-
-unfoldable pub are_small : List (List Value) → Bool
-are_small rows = list_all (λ row. list_all is_small row) rows
 
 -- the table, as a store has it that replicates it
 abbrev pub replicated : TableDef → Table

@@ -20,7 +20,8 @@ use Rattle.cr_term.specs.declared.expr.Expr as e
 use Rattle.cr_term.specs.declared.expr.Expr.TheVariants.{rolls-Literal, rolls-Param, rolls-Column, rolls-Shown, rolls-Unary, rolls-Arithmetic, rolls-Join, rolls-Like, rolls-Logic, rolls-Compare, rolls-Collate, rolls-Cast, rolls-SiteId, rolls-DbVersion}
 use Rattle.cr_term.specs.declared.expr.Expr.TheOpen.{Expr-F, Literal, Param, Column, Shown, Unary, Arithmetic, Join, Like, Logic, Compare, Collate, Cast, SiteId, DbVersion}
 use Rattle.cr_term.specs.declared.expr.Expr.TheFolds.{fold-roll-Expr, fold_out-When}
-use Rattle.cr_scalar.specs.Meaning.{Outcome, Meant, and_then, bounded, of_host, size}
+use Rattle.cr_value.specs.Size.{value_len}
+use Rattle.cr_scalar.specs.Meaning.{Outcome, Meant, and_then, bounded, of_host}
 use Rattle.cr_scalar.specs.declared.fault.EvalFault.TheVariants.{TooBig}
 use Rattle.cr_scalar.specs.Numbers.{truth, truth_value, unary_of, arithmetic_of}
 use Rattle.cr_scalar.specs.Compare.{Orders, compared}
@@ -90,7 +91,7 @@ kept_if false v w is = absurd cc
 
 is_itself : (most : Option ℕ) (v w : Value) → bounded most v ≡ Ok w → v ≡ w
 is_itself None v w is = cc
-is_itself (Some most) v w is = kept_if (nat_le (size v) most) v w is
+is_itself (Some most) v w is = kept_if (nat_le (value_len v) most) v w is
 
 stays : (most : Option ℕ) (o : Meant) (w : Value) → and_then o (bounded most) ≡ Ok w → bounded most w ≡ Ok w
 stays most (Ok v) w is = subst (λ (x : Value). bounded most x ≡ Ok w) (is_itself most v w is) is

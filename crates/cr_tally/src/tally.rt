@@ -21,11 +21,9 @@ use cr_scalar::fault::EvalFault;
 use cr_select::aggregates::has_aggregate;
 use cr_term::expr::Expr;
 use cr_term::operator::Aggregate;
+use cr_value::packing::SIZE_LIMIT;
 use cr_value::value::Value;
 use std::alloc::{AllocError, Global};
-
-/// The greatest size of a value in bytes.
-const MOST_BYTES: usize = 1_000_000;
 
 /// An aggregate, and what it gives of the rows that were seen so far.
 #[derive(Drop)]
@@ -69,12 +67,7 @@ fn are_alone(exprs: &[Expr]) -> bool
 fn is_small(value: &Value) -> bool
     ensures { IsTrue result → bounded byte_limit value.now ≡ Ok value.now }
 {
-    let size = match value {
-        Value::Null | Value::Int(_) => 0,
-        Value::Text(text) => text.as_str().len(),
-        Value::Blob(blob) => blob.as_slice().len(),
-    };
-    size <= MOST_BYTES
+    value.byte_len() <= SIZE_LIMIT
 }
 
 // A row of one value.

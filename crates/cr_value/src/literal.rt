@@ -24,7 +24,8 @@ fn is_control(c: u8) -> bool
     c < b' ' || c == 127
 }
 
-fn is_printable(text: &[u8]) -> bool
+/// Whether no byte of a text is a control character: then the text is written between quotes. Takes no memory.
+pub fn is_printable(text: &[u8]) -> bool
     ensures { result ≡ is_printable text.now }
 {
     text.iter().all(|c| !is_control(*c))

@@ -1,39 +1,15 @@
 //! Rows whose key is too long.
 
 ghost use Rattle.std.specs.Prelude.{◌≡◌, ◌-◌, ◌^◌, ◌&&◌, not, nat_lt, min, length};
-ghost use Rattle.std.specs.Option.{option_copied};
-ghost use Rattle.cr_value.specs.Packing.{packed_value, size_limit};
-ghost use Rattle.cr_delta.specs.Key.{key_part, key_of};
+ghost use Rattle.cr_value.specs.Packing.{size_limit};
+ghost use Rattle.cr_delta.specs.Key.{key_of};
 ghost use Rattle.cr_query.specs.Writes as writes;
 
 use crate::nulls::has_null_key;
+use cr_delta::key::key_part;
 use cr_lattice::table::{Row, TableDef};
-use cr_value::packing::SIZE_LIMIT;
+use cr_value::packing::{SIZE_LIMIT, packed_value_len};
 use cr_value::value::Value;
-
-// The row's value in the key column at a place.
-fn key_part<'a>(def: &TableDef, row: &'a [Value], place: u8) -> Option<&'a Value>
-    ensures { option_copied result ≡ key_part def.now row.now place }
-{
-    for (column, value) in def.columns.as_slice().iter().zip(row) {
-        if column.key == Some(place) {
-            return Some(value);
-        }
-    }
-    None
-}
-
-// How many bytes a value takes in a packed key.
-fn packed_value_len(value: &Value) -> usize
-    ensures { result ≡ length (packed_value value.now) }
-{
-    match value {
-        Value::Null => 0,
-        Value::Int(_) => 9,
-        Value::Text(text) => 5 + text.as_str().len(),
-        Value::Blob(blob) => 5 + blob.as_slice().len(),
-    }
-}
 
 // How many bytes the packed key of a row has.
 fn key_len(def: &TableDef, row: &[Value]) -> usize

@@ -9,4 +9,4 @@ use Rattle.cr_permitted.proofs.insert.or_rows_denied.Goals as goal
 pub loop-row-preserved : goal.loop-row-preserved
 loop-row-preserved g c =
     next_act (or_first_denied (g.G.Answering.answers c.args.guard.now)) (denied_more (g.G.Answering.answers c.args.guard.now)) (asked_all []) c.args.rows.now c.loop-row.row-index c.row-item.result
-    (option_map told c.loop-row.found) (option_map told c.or_all_denied-found.result) _ c.loop-row-test.true c.row-item.is (rw (sym c.as_slice.ensures) c.or_all_denied-found.ensures) c.loop-row.invariant
+    (option_map told c.loop-row.found) (option_map told c.or_any_denied-found.result) _ c.loop-row-test.true c.row-item.is (rw (sym c.as_slice.ensures) c.or_any_denied-found.ensures) c.loop-row.invariant

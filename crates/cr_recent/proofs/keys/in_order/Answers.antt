@@ -3,7 +3,8 @@ use Rattle.std.specs.Ordering.{eq_by_cmp}
 use Rattle.std.proofs.lemmas.Fn.{dedup_same}
 use Rattle.cr_recent.specs.Notes.{key_cmp}
 use Rattle.cr_cells.proofs.MemberLemmas.{sorted_by}
-use Rattle.cr_recent.proofs.KeyLemmas.{key_total, key_exact, sorted_dedup}
+use Rattle.cr_cells.proofs.SortLemmas.{sorted_dedup}
+use Rattle.cr_recent.proofs.KeyLemmas.{key_total, key_exact}
 use Rattle.cr_recent.proofs.keys.in_order.Goals as goal
 
 pub returns : goal.returns

@@ -4,7 +4,7 @@ use Rattle.std.proofs.lemmas.Fn.{dedup_same}
 use Rattle.cr_cells.specs.Holding.{cell_cmp}
 use Rattle.cr_cells.proofs.CellLemmas.{cell_total, cell_exact}
 use Rattle.cr_cells.proofs.MemberLemmas.{sorted_by}
-use Rattle.cr_store.proofs.ReadSets.{sorted_dedup}
+use Rattle.cr_cells.proofs.SortLemmas.{sorted_dedup}
 use Rattle.cr_store.proofs.reads.by_change.Goals as goal
 
 pub returns : goal.returns

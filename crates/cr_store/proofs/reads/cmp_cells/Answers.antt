@@ -1,6 +1,6 @@
 use Rattle.std.proofs.Common.{refl}
 use Rattle.cr_cells.specs.Holding.{cell_cmp}
-use Rattle.cr_store.proofs.ReadSets.{then_assoc}
+use Rattle.cr_cells.proofs.SortLemmas.{then_assoc}
 use Rattle.cr_store.proofs.reads.cmp_cells.Goals as goal
 
 pub returns : goal.returns

@@ -2,7 +2,7 @@ use Rattle.std.proofs.Common.{rules}
 use Rattle.std.specs.Ordering.{eq_by_cmp}
 use Rattle.std.proofs.lemmas.Fn.{dedup_same}
 use Rattle.cr_cells.proofs.MemberLemmas.{sorted_by}
-use Rattle.cr_store.proofs.ReadSets.{sorted_dedup}
+use Rattle.cr_cells.proofs.SortLemmas.{sorted_dedup}
 use Rattle.cr_store.proofs.stored.in_order.Goals as goal
 
 pub returns : goal.returns

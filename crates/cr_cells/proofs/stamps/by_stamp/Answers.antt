@@ -4,8 +4,8 @@ use Rattle.std.proofs.lemmas.Fn.{dedup_same}
 use Rattle.cr_cells.specs.Holding.{stamp_cmp}
 use Rattle.cr_cells.proofs.CellLemmas.{stamp_total, stamp_exact}
 use Rattle.cr_cells.proofs.MemberLemmas.{sorted_by}
-use Rattle.cr_recent.proofs.KeyLemmas.{sorted_dedup}
-use Rattle.cr_recent.proofs.keys.by_stamp.Goals as goal
+use Rattle.cr_cells.proofs.SortLemmas.{sorted_dedup}
+use Rattle.cr_cells.proofs.stamps.by_stamp.Goals as goal
 
 pub returns : goal.returns
 returns c =
