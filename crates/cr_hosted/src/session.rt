@@ -173,7 +173,7 @@ impl<C: Cells, M: Module> HostedSession<C, M> {
     /// `Limit` where the text is longer than 1,000,000 bytes, and then no want of memory is told; `Syntax`, `OutOfProfile`
     /// or `Limit` where it can't be read, with `Syntax` for what stands behind its `;`; else why the statement is refused,
     /// `Parameters` where it has more parameters than there are values, or fewer. Nothing is changed then, but that a
-    /// refused COMMIT ends its transaction, unless for want of memory.
+    /// COMMIT which is refused as it is carried out ends its transaction, unless for want of memory.
     pub fn execute<F: Functions, G: Guarding>(
         &mut self,
         alloc: Global,

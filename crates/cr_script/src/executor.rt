@@ -30,8 +30,8 @@ pub trait Executor {
     /// Carries out a statement, with values for its parameters. A listener is told what it makes of rows before that is kept.
     ///
     /// # Errors
-    /// Why the statement is refused; then it changed nothing, but that a refused COMMIT ends its transaction, unless for want
-    /// of memory.
+    /// Why the statement is refused; then it changed nothing, but that a COMMIT which is refused as it is carried out ends its
+    /// transaction, unless for want of memory.
     fn statement<F: Functions, G: Guarding>(
         &mut self,
         alloc: Global,

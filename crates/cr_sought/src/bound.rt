@@ -40,7 +40,7 @@ fn bound(
 
 /// The integer above which the column at a place has to be where the terms are true; `None` where they do not tell one. They
 /// tell it where one of them is `column > constant` or `constant < column`, with the column's value as it is, and the constant
-/// an integer.
+/// an integer, or made one by the column's affinity.
 ///
 /// `params` are the parameters' values, from number 1 on. Fails for want of memory alone.
 pub fn lower_bound(

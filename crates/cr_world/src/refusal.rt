@@ -85,8 +85,8 @@ pub enum Limit {
     Replicas,
 }
 
-/// Why a command or a statement is refused. What is refused changes nothing; a COMMIT that is refused ends its transaction,
-/// unless there was no memory.
+/// Why a command or a statement is refused. What is refused changes nothing; a COMMIT that is refused as it is carried out, not
+/// one that is denied or given values, ends its transaction, unless there was no memory.
 #[derive(Debug, Drop, Error)]
 pub enum Refusal {
     /// The byte where a token begins that can't continue a statement, or where the text ends too early.
