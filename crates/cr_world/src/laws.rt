@@ -26,8 +26,7 @@ pub fn takings_are_joins<S, E>()
     ensures { (l : Language S E) (k : Closures) → TakingsAreJoins l k }
 {}
 
-/// What is refused changes nothing. A COMMIT that is refused as it is carried out ends its transaction, unless for want of memory;
-/// one that is denied, or given values, does not.
+/// What is refused changes nothing. A COMMIT that is refused as it is carried out ends its transaction, unless for want of memory.
 pub fn refused_changes_nothing<S, E>()
     ensures statements { (l : Language S E) (k : Closures) → RefusedChangesNothing l k }
     ensures commands { (l : Language S E) (k : Closures) → RefusedCommandChangesNothing l k }
