@@ -164,6 +164,7 @@ impl<C: NewCells> Fleet<C> {
         ensures steps { (l : Language Statement Ordered) → Steps l (⟦<G as Watching>⟧.closures guard.old) (clean C.is_clean) (standing C.holding) (G.rules guard.old) self.now (Policy rule.now) result (G.rules guard.new) self.now }
         ensures heard { (l : Language Statement Ordered) → HearsStep l (⟦<G as Watching>⟧.closures guard.old) (⟦<G as Watching>⟧.hears) (clean C.is_clean) (standing C.holding) guard.old (G.rules guard.old) self.now (Policy rule.now) result self.now guard.new }
         ensures closures { ⟦<G as Watching>⟧.closures guard.new ≡ ⟦<G as Watching>⟧.closures guard.old }
+        ensures noting { G.noting guard.new ≡ G.noting guard.old }
         ensures faithful { G.is_faithful guard.new }
     {
         match guard.policy(alloc, rule) {
@@ -188,6 +189,7 @@ impl<C: NewCells> Fleet<C> {
             → Steps (⟦<F as Speaking>⟧.language functions.now has) (⟦<G as Watching>⟧.closures guard.old) (clean C.is_clean) (standing C.holding) (G.rules guard.old) self.old command.now result (G.rules guard.new) self.new
             × HearsStep (⟦<F as Speaking>⟧.language functions.now has) (⟦<G as Watching>⟧.closures guard.old) (⟦<G as Watching>⟧.hears) (clean C.is_clean) (standing C.holding) guard.old (G.rules guard.old) self.old command.now result self.new guard.new }
         ensures closures { ⟦<G as Watching>⟧.closures guard.new ≡ ⟦<G as Watching>⟧.closures guard.old }
+        ensures noting { G.noting guard.new ≡ G.noting guard.old }
         ensures faithful { G.is_faithful guard.new }
     {
         let Some(at) = self.in_use else {
@@ -204,6 +206,7 @@ impl<C: NewCells> Fleet<C> {
         ensures steps { (l : Language Statement Ordered) → Steps l (⟦<G as Watching>⟧.closures guard.old) (clean C.is_clean) (standing C.holding) (G.rules guard.old) self.old (Pull name.now) result (G.rules guard.new) self.new
             × HearsStep l (⟦<G as Watching>⟧.closures guard.old) (⟦<G as Watching>⟧.hears) (clean C.is_clean) (standing C.holding) guard.old (G.rules guard.old) self.old (Pull name.now) result self.new guard.new }
         ensures closures { ⟦<G as Watching>⟧.closures guard.new ≡ ⟦<G as Watching>⟧.closures guard.old }
+        ensures noting { G.noting guard.new ≡ G.noting guard.old }
         ensures faithful { G.is_faithful guard.new }
     {
         let Some(at) = self.in_use else {
@@ -252,6 +255,7 @@ impl<C: NewCells> Fleet<C> {
             × HearsStep l (⟦<G as Watching>⟧.closures guard.old) (⟦<G as Watching>⟧.hears) (clean C.is_clean) (standing C.holding) guard.old (G.rules guard.old) self.old (PullSince name) result self.new guard.new }
         ensures rules { G.rules guard.new ≡ G.rules guard.old }
         ensures closures { ⟦<G as Watching>⟧.closures guard.new ≡ ⟦<G as Watching>⟧.closures guard.old }
+        ensures noting { G.noting guard.new ≡ G.noting guard.old }
         ensures faithful { G.is_faithful guard.new }
     {
         let Some(peer) = self.replicas.get_mut(from) else {
@@ -281,6 +285,7 @@ impl<C: NewCells> Fleet<C> {
         ensures steps { (l : Language Statement Ordered) → Steps l (⟦<G as Watching>⟧.closures guard.old) (clean C.is_clean) (standing C.holding) (G.rules guard.old) self.old (PullSince name.now) result (G.rules guard.new) self.new
             × HearsStep l (⟦<G as Watching>⟧.closures guard.old) (⟦<G as Watching>⟧.hears) (clean C.is_clean) (standing C.holding) guard.old (G.rules guard.old) self.old (PullSince name.now) result self.new guard.new }
         ensures closures { ⟦<G as Watching>⟧.closures guard.new ≡ ⟦<G as Watching>⟧.closures guard.old }
+        ensures noting { G.noting guard.new ≡ G.noting guard.old }
         ensures faithful { G.is_faithful guard.new }
     {
         let Some(at) = self.in_use else {
@@ -328,6 +333,7 @@ impl<C: NewCells> Fleet<C> {
         ensures heard { (has : List ℕ → Bool) → ⟦<F as Speaking>⟧.are_names functions.now has
             → HearsStep (⟦<F as Speaking>⟧.language functions.now has) (⟦<G as Watching>⟧.closures guard.old) (⟦<G as Watching>⟧.hears) (clean C.is_clean) (standing C.holding) guard.old (G.rules guard.old) self.old command.now result self.new guard.new }
         ensures closures { ⟦<G as Watching>⟧.closures guard.new ≡ ⟦<G as Watching>⟧.closures guard.old }
+        ensures noting { G.noting guard.new ≡ G.noting guard.old }
         ensures faithful { G.is_faithful guard.new }
     {
         match command {
@@ -376,6 +382,7 @@ impl<C: NewCells> Fleet<C> {
         ensures refused { OnErr result (self.new ≡ self.old) }
         ensures unasked { OnErr result (guard.new ≡ guard.old) }
         ensures closures { ⟦<G as Watching>⟧.closures guard.new ≡ ⟦<G as Watching>⟧.closures guard.old }
+        ensures noting { G.noting guard.new ≡ G.noting guard.old }
         ensures faithful { G.is_faithful guard.new }
     {
         let mut replies = Vec::with_capacity(alloc, commands.len())?;

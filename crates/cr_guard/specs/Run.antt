@@ -1,14 +1,14 @@
--- What a listener has heard over a run: lists of events, each at once, one after another. Source: this project's own.
-use Rattle.std.specs.Prelude.{◌≡◌, List, [], ◌∷◌, Option}
+-- What a listener has noted after it heard events, once or one list after another. Source: this project's own.
+use Rattle.std.specs.Prelude.{List, [], ◌∷◌, Option}
+use Rattle.std.specs.Option.{option_map}
 use Rattle.cr_guard.specs.declared.event.Event.{Event}
 
--- the listener is as it was, whatever else of its guard changed
-abbrev pub IsAsBefore : {G : Type 0} → (G → Option (List Event)) → (G → List Event → Option (List Event)) → G → G → Type 0
-IsAsBefore noted noted_with from to = (noted to ≡ noted from) × (noted_with to ≡ noted_with from)
+-- Where there is a listener, what it has noted once it heard these events at once; of none it isn't told.
+abbrev pub noted_with : (List Event → List Event → List Event) → Option (List Event) → List Event → Option (List Event)
+noted_with noting noted [] = noted
+noted_with noting noted (e ∷ es) = option_map (λ was. noting was (e ∷ es)) noted
 
--- Between two states of a guard the listener heard these lists, in this order and no others; of an empty one it isn't told.
-abbrev pub Hears : {G : Type 0} → (G → Option (List Event)) → (G → List Event → Option (List Event)) → G → List (List Event) → G → Type 0
-Hears noted noted_with from [] to = IsAsBefore noted noted_with from to
-Hears noted noted_with from ([] ∷ later) to = Hears noted noted_with from later to
-Hears {G} noted noted_with from ((e ∷ es) ∷ later) to =
-    (before : G) × (after : G) × IsAsBefore noted noted_with from before × (noted after ≡ noted_with before (e ∷ es)) × Hears noted noted_with after later to
+-- and of lists of them, in their order
+abbrev pub noted_with_each : (List Event → List Event → List Event) → Option (List Event) → List (List Event) → Option (List Event)
+noted_with_each noting noted [] = noted
+noted_with_each noting noted (events ∷ later) = noted_with_each noting (noted_with noting noted events) later

@@ -1,8 +1,9 @@
 //! What the layers above ask of a host's authorizer, policy, commit hook and listener.
 
-ghost use Rattle.std.specs.Prelude.{◌≡◌, ◌≢◌, [], false, None, is_some, IsOk, OnOk, OnErr};
+ghost use Rattle.std.specs.Prelude.{◌≡◌, [], false, None, is_some, IsOk, OnOk, OnErr};
 ghost use Rattle.cr_guard.specs.Policy.{wants_memory, with_rule};
 ghost use Rattle.cr_guard.specs.Guard.{asked, vetoed};
+ghost use Rattle.cr_guard.specs.Run.{noted_with};
 
 use crate::action::{Action, Auth, stricter};
 use crate::closures::{AuthorizerFn, CommitHookFn};
@@ -39,8 +40,8 @@ pub trait Guarding {
     /// What the listener has noted, where there is one.
     ghost noted: { Self → Option (List Event) };
 
-    /// What the listener has noted once it heard these events, where there is one.
-    ghost noted_with: { Self → List Event → Option (List Event) };
+    /// What the listener has noted once it heard events at once, by what it had noted before.
+    ghost noting: { Self → List Event → List Event → List Event };
 
     /// Adds a rule to the policy, which takes the place of an earlier one of its kind and column. Refused for want of
     /// memory, it changes nothing; a rule that answers OK, and a number of changes, want none. This project's own.
@@ -52,7 +53,7 @@ pub trait Guarding {
         ensures allows { allows self.new ≡ allows self.old }
         ensures refuses { refuses self.new ≡ refuses self.old }
         ensures noted { noted self.new ≡ noted self.old }
-        ensures noted_with { noted_with self.new ≡ noted_with self.old }
+        ensures noting { noting self.new ≡ noting self.old }
         ensures faithful { is_faithful self.new };
 
     /// Whether an action may be done: DENY where rule or authorizer denies, else IGNORE where one ignores, else OK. An
@@ -77,10 +78,11 @@ pub trait Guarding {
     /// none of them.
     fn tell(&mut self, events: &[Event]) -> Result<(), AllocError>
         requires { is_faithful self.old }
-        ensures ok { OnOk result (events.now ≢ [] → noted self.new ≡ noted_with self.old events.now) }
+        ensures ok { OnOk result (noted self.new ≡ noted_with (noting self.old) (noted self.old) events.now) }
         ensures none { events.now ≡ [] → IsOk result × (self.new ≡ self.old) }
         ensures nobody { noted self.old ≡ None → IsOk result × (self.new ≡ self.old) }
         ensures err { OnErr result (noted self.new ≡ noted self.old) }
+        ensures noting { noting self.new ≡ noting self.old }
         ensures rules { rules self.new ≡ rules self.old }
         ensures allows { allows self.new ≡ allows self.old }
         ensures refuses { refuses self.new ≡ refuses self.old }
@@ -89,7 +91,7 @@ pub trait Guarding {
 
 impl<H: HostMeaning> Guarding for Guard<H> {
     ghost use Rattle.std.specs.Prelude.{IfSome};
-    ghost use Rattle.std.specs.Option.{option_map};
+    ghost use Rattle.std.specs.Option.{option_map, option_map_or};
     ghost use Rattle.cr_guard.specs.Closures.{AllowsAs, VetoesAs};
     ghost use Rattle.cr_guard.specs.Guard.{rules, authorizer, commit_hook, listener, allowed_by, refused_by};
 
@@ -104,7 +106,7 @@ impl<H: HostMeaning> Guarding for Guard<H> {
 
     ghost noted = { λ g. option_map (λ l. (Listener-box l).noted l.value) (listener g) };
 
-    ghost noted_with = { λ g events. option_map (λ l. (Listener-box l).noted_with l.value events) (listener g) };
+    ghost noting = { λ g. option_map_or (λ l. (Listener-box l).noting l.value) (listener g) (λ was events. was) };
 
     fn policy(&mut self, alloc: Global, rule: &PolicyRule) -> Result<(), AllocError> {
         self.policy.set(alloc, rule)
@@ -165,7 +167,7 @@ impl Guarding for Policy {
 
     ghost noted = { λ p. None };
 
-    ghost noted_with = { λ p events. None };
+    ghost noting = { λ p was events. was };
 
     fn policy(&mut self, alloc: Global, rule: &PolicyRule) -> Result<(), AllocError> {
         self.set(alloc, rule)

@@ -13,11 +13,12 @@ pub trait Listener: Drop {
     /// What it has noted.
     ghost noted: { Self → List Event };
 
-    /// What it has noted once it heard these events.
-    ghost noted_with: { Self → List Event → List Event };
+    /// What it has noted once it heard events at once, by what it had noted before. This never changes.
+    ghost noting: { Self → List Event → List Event → List Event };
 
     /// It hears all of the events, or for want of memory none.
     fn hear(&mut self, events: &[Event]) -> Result<(), AllocError>
-        ensures ok { OnOk result (noted self.new ≡ noted_with self.old events.now) }
-        ensures err { OnErr result (noted self.new ≡ noted self.old) };
+        ensures ok { OnOk result (noted self.new ≡ noting self.old (noted self.old) events.now) }
+        ensures err { OnErr result (noted self.new ≡ noted self.old) }
+        ensures noting { noting self.new ≡ noting self.old };
 }

@@ -69,7 +69,7 @@ impl Listener for Notes {
 
     ghost noted = { notes };
 
-    ghost noted_with = { λ n events. notes n ++ events };
+    ghost noting = { λ n was events. was ++ events };
 
     fn hear(&mut self, events: &[Event]) -> Result<(), AllocError> {
         let mut heard = copies(self.alloc, events)?;

@@ -1,7 +1,7 @@
 //! Telling a listener of one list of events after another.
 
 ghost use Rattle.std.specs.Prelude.{◌≡◌, OnOk};
-ghost use Rattle.cr_guard.specs.Run.{Hears};
+ghost use Rattle.cr_guard.specs.Run.{noted_with_each};
 
 use crate::event::Event;
 use crate::guarding::Guarding;
@@ -14,7 +14,8 @@ use std::alloc::AllocError;
 /// Want of memory; then it has heard the lists before the one that there was none for.
 pub fn tell_each<G: Guarding>(guard: &mut G, lists: &[Items<Event>]) -> Result<(), AllocError>
     requires { G.is_faithful guard.old }
-    ensures heard { OnOk result (Hears G.noted G.noted_with guard.old lists.now guard.new) }
+    ensures heard { OnOk result (G.noted guard.new ≡ noted_with_each (G.noting guard.old) (G.noted guard.old) lists.now) }
+    ensures noting { G.noting guard.new ≡ G.noting guard.old }
     ensures rules { G.rules guard.new ≡ G.rules guard.old }
     ensures allows { G.allows guard.new ≡ G.allows guard.old }
     ensures refuses { G.refuses guard.new ≡ G.refuses guard.old }

@@ -46,10 +46,10 @@ pub trait Watching: Guarding {
     /// The same under the policy.
     ghost host: { Self → Host };
 
-    /// It answers as before.
+    /// It answers as before, and its listener notes as before.
     ghost stays: { Self → Self → Type 0 };
 
-    /// Its listener, where there is one, has heard these events since.
+    /// Its listener, where there is one, has heard these events since, and notes what comes as before.
     ghost hears: { Self → Self → List Event → Type 0 };
 }
 
@@ -60,7 +60,7 @@ impl<G: Guarding> Watching for G {
 
     ghost host = { λ g. host_under (closures (G.allows g) (G.refuses g)) (G.rules g) };
 
-    ghost stays = { λ g h. Stays G.is_faithful G.rules G.allows G.refuses g h };
+    ghost stays = { λ g h. Stays G.is_faithful G.rules G.allows G.refuses G.noting g h };
 
-    ghost hears = { λ g h events. HasHeard (G.noted g) (G.noted_with g) (G.noted h) events };
+    ghost hears = { λ g h events. HasHeard G.noted G.noting g h events };
 }

@@ -11,12 +11,13 @@ use Rattle.cr_cells.specs.Holding.{Holding, IsSound, kept_of}
 use Rattle.cr_cells.specs.Marks.{Mark}
 use Rattle.cr_cells.proofs.LawLemmas.{kept-committed}
 use Rattle.cr_guard.specs.declared.event.Event.{Event}
+use Rattle.cr_guard.specs.Run.{noted_with}
 use Rattle.cr_heard.proofs.Telling.{staying_says_nothing}
 use Rattle.cr_meaning.specs.View.{Ordered}
 use Rattle.cr_query.specs.Query.{Row}
 use Rattle.cr_scalar.specs.Host.{Host as Means}
 use Rattle.cr_script.specs.Hearing.{Hears}
-use Rattle.cr_script.specs.Speaking.{HasHeard}
+use Rattle.cr_script.specs.Speaking.{HasHeard, Noting}
 use Rattle.cr_world.specs.declared.refusal.Refusal.{Refusal}
 use Rattle.cr_world.specs.Causes.{IsWant}
 use Rattle.cr_world.specs.State.{ModuleState, State, by_name, heard_between, heard_of_table, now}
@@ -88,18 +89,14 @@ unheard_same old new e = heard_then old new (now old) e ∙ staying_says_nothing
 
 -- ---- who hears nothing
 
--- nobody listens
-pub nobody_hears : (o : Option (List Event)) (noted_with : List Event → Option (List Event)) → is_some o ≡ false → (events : List Event) → HasHeard o noted_with o events
-nobody_hears None noted_with e [] = refl
-nobody_hears None noted_with e (x ∷ xs) = refl
-nobody_hears (Some l) noted_with e events = absurd (let z : ⊥ = cc in z)
+none_noted : (noting : Noting) (o : Option (List Event)) → is_some o ≡ false → (events : List Event) → o ≡ noted_with noting o events
+none_noted noting None e [] = refl
+none_noted noting None e (x ∷ xs) = refl
+none_noted noting (Some l) e events = absurd (let z : ⊥ = cc in z)
 
--- a telling of some events, or of none
-pub told_as : (o : Option (List Event)) (noted_with : List Event → Option (List Event)) (new : Option (List Event)) (events : List Event) → is_some o ≡ true
-    → (events ≡ [] → new ≡ o) → ((events ≡ [] → ⊥) → new ≡ noted_with events) → HasHeard o noted_with new events
-told_as o noted_with new [] some none heard = none refl
-told_as None noted_with new (e ∷ es) some none heard = absurd (let z : ⊥ = cc in z)
-told_as (Some x) noted_with new (e ∷ es) some none heard = heard (λ q. let z : ⊥ = cc in z)
+-- nobody listens
+pub nobody_hears : {G : Type 0} (noted : G → Option (List Event)) (noting : G → Noting) (g : G) → is_some (noted g) ≡ false → (events : List Event) → HasHeard noted noting g g events
+nobody_hears noted noting g e events = (none_noted (noting g) (noted g) e events, refl)
 
 module _ (hears : List Event → Type 0) where
   -- nothing is heard where what shows stays as it was

@@ -1,5 +1,5 @@
 -- What holds over every run of a fleet and over every statement of a session. Source: this project's own.
-use Rattle.std.specs.Prelude.{◌≡◌, ◌⊎◌, ℕ, Bool, true, false, find, Result, Ok, Err, List, [], ◌∷◌, Option, Some, None, slice_get, if◌then◌else◌}
+use Rattle.std.specs.Prelude.{◌≡◌, ◌⊎◌, ℕ, Bool, true, false, find, Result, Ok, Err, List, Option, Some, None, slice_get}
 use Rattle.std.specs.List.{AllByRecursion}
 use Rattle.cr_value.specs.declared.value.Value.{Value}
 use Rattle.cr_lattice.specs.declared.change.Change.{Change}
@@ -9,7 +9,6 @@ use Rattle.cr_lattice.specs.Sync.{Knows}
 use Rattle.cr_cells.specs.Holding.{kept_of, IsSound}
 use Rattle.cr_cells.specs.Marks.{Mark, seen_of}
 use Rattle.cr_cells.specs.Tables.{is_named}
-use Rattle.cr_guard.specs.declared.event.Event.{Event}
 use Rattle.cr_query.specs.Queries.{Query}
 use Rattle.cr_query.specs.Query.{SameTables}
 use Rattle.cr_query.specs.Plans.{seen, AllWithin}
@@ -22,11 +21,11 @@ use Rattle.cr_world.specs.declared.command.Script.{Script as TheScript}
 use Rattle.cr_world.specs.declared.refusal.EvalFault.{EvalFault}
 use Rattle.cr_world.specs.declared.refusal.Refusal.{Refusal}
 use Rattle.cr_world.specs.declared.refusal.Refusal.TheVariants as refusal
-use Rattle.cr_world.specs.Resolved.{Resolved, Select, Alter, Rollback}
+use Rattle.cr_world.specs.Resolved.{Select}
 use Rattle.cr_world.specs.Language.{Language, AreWide, definition_in}
 use Rattle.cr_world.specs.State.{State, ModuleState, catalog, table_of, now, tables_named}
 use Rattle.cr_world.specs.Causes.{IsWant}
-use Rattle.cr_world.specs.Statement.{Host, Answers, adding, ended, is_memory, stepped, ends, allowed_of, resolved_of, heard_of}
+use Rattle.cr_world.specs.Statement.{Host, Answers, adding, ended, is_memory, stepped, ends, resolved_of}
 use Rattle.cr_world.specs.Scripts.{Moment}
 use Rattle.cr_world.specs.World.{World, Member, Keeps, Closures, used}
 use Rattle.cr_world.specs.Answers.{tells_want, after, script_run}
@@ -167,22 +166,3 @@ module _ {S E : Type 0} (l : Language S E) (k : Closures) where
   IncrementalPullsKeep = (m peer : Member) → Keeps m → Keeps peer → KnowsOf m peer
       → Keeps (pulling_since (Some peer) m)
       × Knows (kept_of (pulling_since (Some peer) m).state.holding) peer.state.holding.cells peer.state.holding.version peer.state.holding.version
-
--- ---- what a listener has heard
-
--- all of the events at once, and of none nothing
-abbrev pub Heard : (List Event → Option (List Event)) → Option (List Event) → Option (List Event) → List Event → Type 0
-Heard noted_with old new [] = new ≡ old
-Heard noted_with old new (e ∷ es) = new ≡ noted_with (e ∷ es)
-
--- it undoes what it was told of, or changes no row
-abbrev pub is_silent : {E : Type 0} → Option (Resolved E) → Bool
-is_silent (Some Rollback) = true
-is_silent (Some (Alter t col)) = true
-is_silent (Some r) = false
-is_silent None = false
-
--- The listener has heard of an accepted statement but ROLLBACK and ALTER TABLE what became of the rows of replicated tables,
--- before what it commits was committed: a listener without memory for it is want of memory, and nothing is changed then.
-abbrev pub events_of : {S E : Type 0} → Language S E → Host → State → List Value → S → List ModuleState → List Event
-events_of l host st params s ms = if is_silent (allowed_of l host st params s) then [] else heard_of l host st params s ms

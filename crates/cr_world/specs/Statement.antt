@@ -27,8 +27,7 @@ use Rattle.cr_world.specs.declared.command.Reply.TheVariants.{Rows, Done}
 use Rattle.cr_world.specs.Resolved.{Target, Resolved, Select, Mark, Insert, Update, Delete, Create, Alter, Begin, Commit, Rollback}
 use Rattle.cr_world.specs.Resolved as target
 use Rattle.cr_world.specs.Language.{Language, Asked}
-use Rattle.cr_world.specs.State.{State, ModuleState, now, in_transaction, catalog, table_of, module_of, is_module, rows_named, tables_named, columns_of, name_of, heard_between}
-use Rattle.cr_guard.specs.declared.event.Event.{Event}
+use Rattle.cr_world.specs.State.{State, ModuleState, now, in_transaction, catalog, table_of, module_of, is_module, rows_named, tables_named, columns_of, name_of}
 use Rattle.cr_world.specs.Causes.{Cause, Free, Is, Evaluation, first_cause, or_else, of_option, of_result, where_true, Tells, IsWant}
 
 -- what a host allows: its authorizer with the policy, and its commit hook with the policy
@@ -350,8 +349,3 @@ module _ {S E : Type 0} (l : Language S E) (host : Host) (st : State) (params : 
   abbrev pub stepped : S → Result Reply Refusal → List ModuleState → State
   stepped s (Ok reply) ms = left s ms
   stepped s (Err r) ms = left_refused s r
-
-  -- What a listener hears of an accepted statement but ROLLBACK and ALTER TABLE, and of a refused one perhaps: what became of
-  -- the rows of replicated tables. A commit of a transaction changes no row that is shown.
-  abbrev pub heard_of : S → List ModuleState → List Event
-  heard_of s ms = heard_between st (left s ms)

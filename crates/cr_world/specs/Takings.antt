@@ -8,7 +8,6 @@ use Rattle.cr_lattice.specs.declared.table.TableDef.{TableDef}
 use Rattle.cr_lattice.specs.Check.{same_bytes}
 use Rattle.cr_cells.specs.Holding.{Holding, kept_of, changes_of, since}
 use Rattle.cr_cells.specs.Tables.{first_fault}
-use Rattle.cr_guard.specs.declared.event.Event.{Event}
 use Rattle.cr_cells.specs.Commit.{committed, newly_kept}
 use Rattle.cr_cells.specs.Calls.{is_past_limit}
 use Rattle.cr_cells.specs.Marks.{Mark, seen_of}
@@ -16,7 +15,7 @@ use Rattle.cr_replica.specs.Definition.{defined}
 use Rattle.cr_lattice.specs.Profile.{profile_fault}
 use Rattle.cr_world.specs.declared.refusal.Refusal.{Refusal}
 use Rattle.cr_world.specs.declared.refusal.Refusal.TheVariants as refusal
-use Rattle.cr_world.specs.State.{State, in_transaction, catalog, heard_between}
+use Rattle.cr_world.specs.State.{State, in_transaction, catalog}
 use Rattle.cr_world.specs.Resolved as target
 use Rattle.cr_world.specs.Language.{definition_in}
 use Rattle.cr_world.specs.Refusals.{of_profile}
@@ -98,8 +97,3 @@ define_cause has_collation st def =
 
 abbrev pub defining : TableDef → Member → Member
 defining def m = record m { state = record m.state { holding = defined m.state.holding def } }
-
--- ---- what a listener hears of a taking by a call that is accepted
-
-abbrev pub heard_of_taking : State → List Change → List Event
-heard_of_taking st more = heard_between st (taking more None st)

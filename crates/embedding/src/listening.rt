@@ -46,7 +46,7 @@ impl Listener for Shared {
 
     ghost noted = { λ s. [] };
 
-    ghost noted_with = { λ s events. [] };
+    ghost noting = { λ s was events. [] };
 
     fn hear(&mut self, events: &[Event]) -> Result<(), AllocError> {
         match self.notes.try_borrow_mut() {

@@ -16,9 +16,9 @@ invariant-loop-reply g l = record {
   heeds : (has : List ℕ → Bool) → has ≡ g.F.Functions.names_function l.functions
       → Heeds (spoken (g.F.Functions.function_of l.functions) (g.F.Functions.scalar l.functions) (g.F.Functions.step l.functions) (g.F.Functions.finish l.functions) (g.F.Functions.order_of l.functions) (g.F.Functions.orders_total l.functions) has)
       (host_under (closures (g.G.Guarding.allows l.fn.guard) (g.G.Guarding.refuses l.fn.guard)) (g.G.Guarding.rules l.fn.guard)) g.E.Executor.is_honest g.E.Executor.is_clean g.E.Executor.stands
-      (λ from to events. HasHeard (g.G.Guarding.noted from) (g.G.Guarding.noted_with from) (g.G.Guarding.noted to) events)
+      (λ from to events. HasHeard g.G.Guarding.noted g.G.Guarding.noting from to events)
       l.source (pieces_left (length l.tokens) l.source l.tokens) l.fn.executor l.fn.guard l.executor l.guard l.rest l.replies.items;
-  stays : Stays g.G.Guarding.is_faithful g.G.Guarding.rules g.G.Guarding.allows g.G.Guarding.refuses l.fn.guard l.guard;
+  stays : Stays g.G.Guarding.is_faithful g.G.Guarding.rules g.G.Guarding.allows g.G.Guarding.refuses g.G.Guarding.noting l.fn.guard l.guard;
 }
 
 abbrev pub decreases-loop-reply : goal.decreases-loop-reply

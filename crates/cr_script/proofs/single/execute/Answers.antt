@@ -19,4 +19,4 @@ pub returns-in-Ok-clause-heard : goal.returns-in-Ok-clause-heard
 returns-in-Ok-clause-heard g c = λ has names clean.
     let short : 1000000 < length c.args.source.now → ⊥ = λ long. let q : c.tokens.result ≡ Err Limit = c.tokens.ensures.limit.1 long in let n : Ok c.in-Ok.tokens ≡ Err Limit = sym c.in-Ok.is ∙ q in let z : ⊥ = cc in z in
     let are : IsTokens c.args.source.now 0 c.deref.result.now = rw c.deref.ensures.value c.in-Ok.ensures.tokens in
-    hears_whole (g.F.Functions.function_of c.args.functions.now) (g.F.Functions.scalar c.args.functions.now) (g.F.Functions.step c.args.functions.now) (g.F.Functions.finish c.args.functions.now) (g.F.Functions.order_of c.args.functions.now) (g.F.Functions.orders_total c.args.functions.now) has (host_under (closures (g.G.Guarding.allows c.args.guard.now) (g.G.Guarding.refuses c.args.guard.now)) (g.G.Guarding.rules c.args.guard.now)) g.E.Executor.is_honest g.E.Executor.is_clean g.E.Executor.stands c.args.source.now c.args.params.now c.args.executor.now c.single.new.executor (λ events. HasHeard (g.G.Guarding.noted c.args.guard.now) (g.G.Guarding.noted_with c.args.guard.now) (g.G.Guarding.noted c.single.new.guard) events) c.deref.result.now (g.E.Executor.stands c.single.new.executor) c.single.result short are (c.single.ensures.heard clean)
+    hears_whole (g.F.Functions.function_of c.args.functions.now) (g.F.Functions.scalar c.args.functions.now) (g.F.Functions.step c.args.functions.now) (g.F.Functions.finish c.args.functions.now) (g.F.Functions.order_of c.args.functions.now) (g.F.Functions.orders_total c.args.functions.now) has (host_under (closures (g.G.Guarding.allows c.args.guard.now) (g.G.Guarding.refuses c.args.guard.now)) (g.G.Guarding.rules c.args.guard.now)) g.E.Executor.is_honest g.E.Executor.is_clean g.E.Executor.stands c.args.source.now c.args.params.now c.args.executor.now c.single.new.executor (λ events. HasHeard g.G.Guarding.noted g.G.Guarding.noting c.args.guard.now c.single.new.guard events) c.deref.result.now (g.E.Executor.stands c.single.new.executor) c.single.result short are (c.single.ensures.heard clean)

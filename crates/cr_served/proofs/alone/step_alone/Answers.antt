@@ -30,16 +30,16 @@ returns-in-Sql-clause-ran g c = λ has names.
     rw c.step-in-Sql.ensures.guard.same_rules (own_ran _ _ (honest g.C.Cells.is_honest) (clean g.C.Cells.is_clean) (standing g.C.Cells.holding) c.args.session.now c.step-in-Sql.new.self (g.G.Guarding.rules c.args.guard.now) c.args.command.now c.step-in-Sql.result own (c.step-in-Sql.ensures.does has names))
 
 pub returns-in-Define-clause-closures : goal.returns-in-Define-clause-closures
-returns-in-Define-clause-closures g c = same_closures g.G.Guarding.is_faithful g.G.Guarding.rules g.G.Guarding.allows g.G.Guarding.refuses _ _ c.step.ensures.guard
+returns-in-Define-clause-closures g c = same_closures g.G.Guarding.is_faithful g.G.Guarding.rules g.G.Guarding.allows g.G.Guarding.refuses g.G.Guarding.noting _ _ c.step.ensures.guard
 
 pub returns-in-Take-clause-closures : goal.returns-in-Take-clause-closures
-returns-in-Take-clause-closures g c = same_closures g.G.Guarding.is_faithful g.G.Guarding.rules g.G.Guarding.allows g.G.Guarding.refuses _ _ c.step-in-Take.ensures.guard
+returns-in-Take-clause-closures g c = same_closures g.G.Guarding.is_faithful g.G.Guarding.rules g.G.Guarding.allows g.G.Guarding.refuses g.G.Guarding.noting _ _ c.step-in-Take.ensures.guard
 
 pub returns-in-Rows-clause-closures : goal.returns-in-Rows-clause-closures
-returns-in-Rows-clause-closures g c = same_closures g.G.Guarding.is_faithful g.G.Guarding.rules g.G.Guarding.allows g.G.Guarding.refuses _ _ c.step-in-Rows.ensures.guard
+returns-in-Rows-clause-closures g c = same_closures g.G.Guarding.is_faithful g.G.Guarding.rules g.G.Guarding.allows g.G.Guarding.refuses g.G.Guarding.noting _ _ c.step-in-Rows.ensures.guard
 
 pub returns-in-Changes-clause-closures : goal.returns-in-Changes-clause-closures
-returns-in-Changes-clause-closures g c = same_closures g.G.Guarding.is_faithful g.G.Guarding.rules g.G.Guarding.allows g.G.Guarding.refuses _ _ c.step-in-Changes.ensures.guard
+returns-in-Changes-clause-closures g c = same_closures g.G.Guarding.is_faithful g.G.Guarding.rules g.G.Guarding.allows g.G.Guarding.refuses g.G.Guarding.noting _ _ c.step-in-Changes.ensures.guard
 
 pub returns-in-Sql-clause-closures : goal.returns-in-Sql-clause-closures
-returns-in-Sql-clause-closures g c = same_closures g.G.Guarding.is_faithful g.G.Guarding.rules g.G.Guarding.allows g.G.Guarding.refuses _ _ c.step-in-Sql.ensures.guard
+returns-in-Sql-clause-closures g c = same_closures g.G.Guarding.is_faithful g.G.Guarding.rules g.G.Guarding.allows g.G.Guarding.refuses g.G.Guarding.noting _ _ c.step-in-Sql.ensures.guard

@@ -36,10 +36,11 @@ loop-command-preserved g c =
           (subst (λ (x : Closures). Steps l x (clean g.C.Cells.is_clean) (standing g.C.Cells.holding) (g.G.Guarding.rules c.loop-command.guard) c.loop-command.self c.command-item.result c.step-reply.result (g.G.Guarding.rules c.step-reply.new.guard) c.step-reply.new.self) i.closures (s.steps has names));
       heard = λ has names.
           let l : Language Statement Ordered = spoken (g.F.Functions.function_of c.args.functions.now) (g.F.Functions.scalar c.args.functions.now) (g.F.Functions.step c.args.functions.now) (g.F.Functions.finish c.args.functions.now) (g.F.Functions.order_of c.args.functions.now) (g.F.Functions.orders_total c.args.functions.now) has in
-          hears_on l k (λ from to events. HasHeard (g.G.Guarding.noted from) (g.G.Guarding.noted_with from) (g.G.Guarding.noted to) events) (clean g.C.Cells.is_clean) (standing g.C.Cells.holding) _ _ _ c.loop-command.self c.step-reply.new.self _ _ _ _ _ c.step-reply.result _ _ _
+          hears_on l k (λ from to events. HasHeard g.G.Guarding.noted g.G.Guarding.noting from to events) (clean g.C.Cells.is_clean) (standing g.C.Cells.holding) _ _ _ c.loop-command.self c.step-reply.new.self _ _ _ _ _ c.step-reply.result _ _ _
           (take_more c.args.commands.now c.loop-command.command-index c.command-item.result c.loop-command-test.true ∙ ap (λ (x : Command). take c.loop-command.command-index c.args.commands.now ++ x ∷ []) item) told (s.steps has names).was_clean (i.ran has names) (i.heard has names)
-          (subst (λ (x : Closures). HearsStep l x (λ from to events. HasHeard (g.G.Guarding.noted from) (g.G.Guarding.noted_with from) (g.G.Guarding.noted to) events) (clean g.C.Cells.is_clean) (standing g.C.Cells.holding) c.loop-command.guard (g.G.Guarding.rules c.loop-command.guard) c.loop-command.self c.command-item.result c.step-reply.result c.step-reply.new.self c.step-reply.new.guard) i.closures (s.heard has names));
+          (subst (λ (x : Closures). HearsStep l x (λ from to events. HasHeard g.G.Guarding.noted g.G.Guarding.noting from to events) (clean g.C.Cells.is_clean) (standing g.C.Cells.holding) c.loop-command.guard (g.G.Guarding.rules c.loop-command.guard) c.loop-command.self c.command-item.result c.step-reply.result c.step-reply.new.self c.step-reply.new.guard) i.closures (s.heard has names));
       closures = s.closures ∙ i.closures;
+      noting = s.noting ∙ i.noting;
       faithful = s.faithful;
       count = search rules;
       room = search rules;
@@ -76,5 +77,5 @@ returns-clause-heard g c = λ has names harm w s.
     let k : Closures = closures (g.G.Guarding.allows c.args.guard.now) (g.G.Guarding.refuses c.args.guard.now) in
     let all : take c.loop-command.command-index c.args.commands.now ≡ c.args.commands.now = take_all _ _ (omega arith) in
     let unharmed = clean_after_run (clean g.C.Cells.is_clean) c.args.self.now c.loop-command.self c.loop-command.replies.items (c.loop-command.invariant.stays_clean has names) harm in
-    subst (λ (x : List Command). HearsRun l k (λ from to events. HasHeard (g.G.Guarding.noted from) (g.G.Guarding.noted_with from) (g.G.Guarding.noted to) events) c.args.guard.now w x c.loop-command.replies.items c.loop-command.guard) all
+    subst (λ (x : List Command). HearsRun l k (λ from to events. HasHeard g.G.Guarding.noted g.G.Guarding.noting from to events) c.args.guard.now w x c.loop-command.replies.items c.loop-command.guard) all
     (c.loop-command.invariant.heard has names unharmed w s)

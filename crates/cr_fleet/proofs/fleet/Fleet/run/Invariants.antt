@@ -18,8 +18,9 @@ invariant-loop-command g l = record {
       → Run (spoken (g.F.Functions.function_of l.functions) (g.F.Functions.scalar l.functions) (g.F.Functions.step l.functions) (g.F.Functions.finish l.functions) (g.F.Functions.order_of l.functions) (g.F.Functions.orders_total l.functions) has) (closures (g.G.Guarding.allows l.fn.guard) (g.G.Guarding.refuses l.fn.guard)) w (take l.command-index l.commands) l.replies.items
       × Shows (standing g.C.Cells.holding) (world_after (spoken (g.F.Functions.function_of l.functions) (g.F.Functions.scalar l.functions) (g.F.Functions.step l.functions) (g.F.Functions.finish l.functions) (g.F.Functions.order_of l.functions) (g.F.Functions.orders_total l.functions) has) (closures (g.G.Guarding.allows l.fn.guard) (g.G.Guarding.refuses l.fn.guard)) w (take l.command-index l.commands) l.replies.items) (g.G.Guarding.rules l.guard) l.self;
   heard : (has : List ℕ → Bool) → has ≡ g.F.Functions.names_function l.functions → AreClean (clean g.C.Cells.is_clean) l.self → (w : World) → Shows (standing g.C.Cells.holding) w (g.G.Guarding.rules l.fn.guard) l.fn.self
-      → HearsRun (spoken (g.F.Functions.function_of l.functions) (g.F.Functions.scalar l.functions) (g.F.Functions.step l.functions) (g.F.Functions.finish l.functions) (g.F.Functions.order_of l.functions) (g.F.Functions.orders_total l.functions) has) (closures (g.G.Guarding.allows l.fn.guard) (g.G.Guarding.refuses l.fn.guard)) (λ from to events. HasHeard (g.G.Guarding.noted from) (g.G.Guarding.noted_with from) (g.G.Guarding.noted to) events) l.fn.guard w (take l.command-index l.commands) l.replies.items l.guard;
+      → HearsRun (spoken (g.F.Functions.function_of l.functions) (g.F.Functions.scalar l.functions) (g.F.Functions.step l.functions) (g.F.Functions.finish l.functions) (g.F.Functions.order_of l.functions) (g.F.Functions.orders_total l.functions) has) (closures (g.G.Guarding.allows l.fn.guard) (g.G.Guarding.refuses l.fn.guard)) (λ from to events. HasHeard g.G.Guarding.noted g.G.Guarding.noting from to events) l.fn.guard w (take l.command-index l.commands) l.replies.items l.guard;
   closures : closures (g.G.Guarding.allows l.guard) (g.G.Guarding.refuses l.guard) ≡ closures (g.G.Guarding.allows l.fn.guard) (g.G.Guarding.refuses l.fn.guard);
+  noting : g.G.Guarding.noting l.guard ≡ g.G.Guarding.noting l.fn.guard;
   faithful : g.G.Guarding.is_faithful l.guard;
   count : vec_len l.replies ≡ l.command-index;
   room : length l.commands ≤ vec_capacity l.replies;

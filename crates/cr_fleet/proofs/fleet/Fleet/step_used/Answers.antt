@@ -21,9 +21,9 @@ returns-clause-steps g c = λ has names.
     rw (← c.self.view_is, c.step.ensures.guard.same_rules, map_set pair replicas.items c.in-Some.at _)
     (let step = own_steps _ _ (clean g.C.Cells.is_clean) (standing g.C.Cells.holding) _ _ c.in-Some.at _ _ place paired stepped.was_clean c.args.command.now c.step.result c.requires.own refl stepped in (
       step,
-      λ clean w s. own_step_heard _ _ (λ from to events. HasHeard (g.G.Guarding.noted from) (g.G.Guarding.noted_with from) (g.G.Guarding.noted to) events) (λ x. g.C.Cells.is_clean x.0) (standing g.C.Cells.holding) _ _ _ _ c.in-Some.at _ _ place paired paired_new c.args.command.now c.step.result _ _ c.requires.own step
+      λ clean w s. own_step_heard _ _ (λ from to events. HasHeard g.G.Guarding.noted g.G.Guarding.noting from to events) (λ x. g.C.Cells.is_clean x.0) (standing g.C.Cells.holding) _ _ _ _ c.in-Some.at _ _ place paired paired_new c.args.command.now c.step.result _ _ c.requires.own step
           (c.step.ensures.heard has names (all_set (λ x. g.C.Cells.is_clean x.1.0) (map pair replicas.items) c.in-Some.at _ _ clean paired)) clean w s,
     ))
 
 pub returns-clause-closures : goal.returns-clause-closures
-returns-clause-closures g c = same_closures g.G.Guarding.is_faithful g.G.Guarding.rules g.G.Guarding.allows g.G.Guarding.refuses _ _ c.step.ensures.guard
+returns-clause-closures g c = same_closures g.G.Guarding.is_faithful g.G.Guarding.rules g.G.Guarding.allows g.G.Guarding.refuses g.G.Guarding.noting _ _ c.step.ensures.guard

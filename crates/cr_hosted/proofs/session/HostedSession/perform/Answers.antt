@@ -59,12 +59,12 @@ returns-in-Alter-clause-performs g c = rw c.in-Alter.is
 
 pub returns-then-not-touches-clause-heard : goal.returns-then-not-touches-clause-heard
 returns-then-not-touches-clause-heard g c = λ k.
-    hears_beside (λ events. HasHeard (g.G.Guarding.noted c.args.guard.now) (g.G.Guarding.noted_with c.args.guard.now) (g.G.Guarding.noted c.perform.new.guard) events) (map (λ r. made r.name (g.M.Module.columns_of r.host) (g.M.Module.rows_of r.host) (g.M.Module.updated r.host)) c.args.self.now.modules.list.items) (map (λ r. made r.name (g.M.Module.columns_of r.host) (g.M.Module.rows_of r.host) (g.M.Module.updated r.host)) c.args.self.now.modules.list.items) (standing g.C.Cells.holding c.args.self.now.session) (standing g.C.Cells.holding c.perform.new.self) c.perform.result (c.perform.ensures.heard k)
+    hears_beside (λ events. HasHeard g.G.Guarding.noted g.G.Guarding.noting c.args.guard.now c.perform.new.guard events) (map (λ r. made r.name (g.M.Module.columns_of r.host) (g.M.Module.rows_of r.host) (g.M.Module.updated r.host)) c.args.self.now.modules.list.items) (map (λ r. made r.name (g.M.Module.columns_of r.host) (g.M.Module.rows_of r.host) (g.M.Module.updated r.host)) c.args.self.now.modules.list.items) (standing g.C.Cells.holding c.args.self.now.session) (standing g.C.Cells.holding c.perform.new.self) c.perform.result (c.perform.ensures.heard k)
 
 pub returns-in-Select-clause-heard : goal.returns-in-Select-clause-heard
 returns-in-Select-clause-heard g c = λ k.
-    hears_quiet_with (λ events. HasHeard (g.G.Guarding.noted c.args.guard.now) (g.G.Guarding.noted_with c.args.guard.now) (g.G.Guarding.noted c.args.guard.now) events) (means_of (g.F.Functions.function_of c.args.functions.now) (g.F.Functions.scalar c.args.functions.now) (g.F.Functions.step c.args.functions.now) (g.F.Functions.finish c.args.functions.now) (g.F.Functions.order_of c.args.functions.now)) c.args.params.now (host_under (closures (g.G.Guarding.allows c.args.guard.now) (g.G.Guarding.refuses c.args.guard.now)) (g.G.Guarding.rules c.args.guard.now)) (placed (map (λ r. made r.name (g.M.Module.columns_of r.host) (g.M.Module.rows_of r.host) (g.M.Module.updated r.host)) c.args.self.now.modules.list.items) (standing g.C.Cells.holding c.args.self.now.session)) (view (r.Select c.in-Select.query)) c.select.result (placed (map (λ r. made r.name (g.M.Module.columns_of r.host) (g.M.Module.rows_of r.host) (g.M.Module.updated r.host)) c.select.new.self.modules.list.items) (standing g.C.Cells.holding c.select.new.self.session)) refl ((c.select.ensures (host_under (closures (g.G.Guarding.allows c.args.guard.now) (g.G.Guarding.refuses c.args.guard.now)) (g.G.Guarding.rules c.args.guard.now))).performs k) refl
+    hears_quiet_with (λ events. HasHeard g.G.Guarding.noted g.G.Guarding.noting c.args.guard.now c.args.guard.now events) (means_of (g.F.Functions.function_of c.args.functions.now) (g.F.Functions.scalar c.args.functions.now) (g.F.Functions.step c.args.functions.now) (g.F.Functions.finish c.args.functions.now) (g.F.Functions.order_of c.args.functions.now)) c.args.params.now (host_under (closures (g.G.Guarding.allows c.args.guard.now) (g.G.Guarding.refuses c.args.guard.now)) (g.G.Guarding.rules c.args.guard.now)) (placed (map (λ r. made r.name (g.M.Module.columns_of r.host) (g.M.Module.rows_of r.host) (g.M.Module.updated r.host)) c.args.self.now.modules.list.items) (standing g.C.Cells.holding c.args.self.now.session)) (view (r.Select c.in-Select.query)) c.select.result (placed (map (λ r. made r.name (g.M.Module.columns_of r.host) (g.M.Module.rows_of r.host) (g.M.Module.updated r.host)) c.select.new.self.modules.list.items) (standing g.C.Cells.holding c.select.new.self.session)) refl ((c.select.ensures (host_under (closures (g.G.Guarding.allows c.args.guard.now) (g.G.Guarding.refuses c.args.guard.now)) (g.G.Guarding.rules c.args.guard.now))).performs k) (refl, refl)
 
 pub returns-in-Insert-clause-heard : goal.returns-in-Insert-clause-heard
 returns-in-Insert-clause-heard g c = λ k.
-    rw c.insert.ensures.session (hears_module (λ events. HasHeard (g.G.Guarding.noted c.args.guard.now) (g.G.Guarding.noted_with c.args.guard.now) (g.G.Guarding.noted c.args.guard.now) events) (map (λ r. made r.name (g.M.Module.columns_of r.host) (g.M.Module.rows_of r.host) (g.M.Module.updated r.host)) c.args.self.now.modules.list.items) (map (λ r. made r.name (g.M.Module.columns_of r.host) (g.M.Module.rows_of r.host) (g.M.Module.updated r.host)) c.insert.new.self.modules.list.items) (standing g.C.Cells.holding c.args.self.now.session) c.insert.result refl)
+    rw c.insert.ensures.session (hears_module (λ events. HasHeard g.G.Guarding.noted g.G.Guarding.noting c.args.guard.now c.args.guard.now events) (map (λ r. made r.name (g.M.Module.columns_of r.host) (g.M.Module.rows_of r.host) (g.M.Module.updated r.host)) c.args.self.now.modules.list.items) (map (λ r. made r.name (g.M.Module.columns_of r.host) (g.M.Module.rows_of r.host) (g.M.Module.updated r.host)) c.insert.new.self.modules.list.items) (standing g.C.Cells.holding c.args.self.now.session) c.insert.result (refl, refl))

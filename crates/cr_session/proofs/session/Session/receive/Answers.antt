@@ -23,4 +23,4 @@ returns-in-Err-clause-performs g c =
     c.in-Err.refusal c.if-insert.false (rw (← c.as_slice-tables.ensures) c.in-Err.ensures)
 
 pub returns-then-insert-clause-heard : goal.returns-then-insert-clause-heard
-returns-then-insert-clause-heard g c = λ k. hears_nothing (λ events. HasHeard (g.G.Guarding.noted c.args.guard.now) (g.G.Guarding.noted_with c.args.guard.now) (g.G.Guarding.noted c.args.guard.now) events) (standing g.C.Cells.holding c.args.self.now) (standing g.C.Cells.holding c.args.self.now) (Ok Done) refl refl
+returns-then-insert-clause-heard g c = λ k. hears_nothing (λ events. HasHeard g.G.Guarding.noted g.G.Guarding.noting c.args.guard.now c.args.guard.now events) (standing g.C.Cells.holding c.args.self.now) (standing g.C.Cells.holding c.args.self.now) (Ok Done) refl (refl, refl)
