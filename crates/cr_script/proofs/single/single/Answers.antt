@@ -38,7 +38,7 @@ returns-clause-executes g c = λ has names.
 
 pub returns-in-None-clause-heard : goal.returns-in-None-clause-heard
 returns-in-None-clause-heard g c = λ clean.
-    rw (empty_is c.args.source.now c.args.tokens.now (sym c.is_empty.ensures ∙ c.if-is_empty.true) (sym c.second_place.ensures ∙ c.in-None.is)) refl
+    rw (empty_is c.args.source.now c.args.tokens.now (sym c.is_empty.ensures ∙ c.if-is_empty.true) (sym c.second_place.ensures ∙ c.in-None.is)) (refl, refl)
 
 pub returns-in-Ok-Some-clause-heard : goal.returns-in-Ok-Some-clause-heard
 returns-in-Ok-Some-clause-heard g c = λ clean.
