@@ -1,6 +1,6 @@
 //! What follows of any store from the contract alone.
 
-ghost use Rattle.std.specs.Prelude.{◌≡◌, ◌||◌, true, ℕ, [], ◌∷◌, ◌++◌, List, take, Err, IfOk, OnOk, IfErr, OnErr};
+ghost use Rattle.std.specs.Prelude.{◌≡◌, ◌||◌, true, ℕ, [], ◌∷◌, ◌++◌, take, Err, IfOk, OnOk, IfErr, OnErr};
 ghost use Rattle.std.specs.List.{flat_map, list_any, AllByRecursion};
 ghost use Rattle.cr_lattice.specs.Keep.{join, SameMembers};
 ghost use Rattle.cr_cells.specs.Tables.{AreWellFormed};

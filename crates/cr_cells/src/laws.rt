@@ -1,6 +1,6 @@
 //! Laws of what a store holds. The contracts are the theorems; nothing runs.
 
-ghost use Rattle.std.specs.Prelude.{◌≡◌, ℕ, ℤ, pos, ◌≤ℤ◌, ◌+ℤ◌, int_lt, not, ◌&&◌, true, false, List, Option, filter};
+ghost use Rattle.std.specs.Prelude.{◌≡◌, ℕ, ℤ, pos, ◌≤ℤ◌, int_lt, not, ◌&&◌, true, false, List, Option, filter};
 ghost use Rattle.std.specs.Option.{ForSome};
 ghost use Rattle.cr_lattice.specs.declared.change.Change.{Change};
 ghost use Rattle.cr_lattice.specs.declared.stamped.Stamped.{Stamped};

@@ -1,6 +1,6 @@
 //! The plain store, in memory: what a store is, as a program.
 
-ghost use Rattle.std.specs.Prelude.{◌≡◌, [], pos};
+ghost use Rattle.std.specs.Prelude.{◌≡◌};
 ghost use Rattle.cr_cells.specs.Holding.{empty_holding};
 
 use crate::cells::{cells_of, cells_of_table, since, take_changes};

@@ -1,7 +1,7 @@
 //! Tables of a store: which may be added, which be replicated, and which changes are well formed for one of them.
 
-ghost use Rattle.std.specs.Prelude.{◌≡◌, true, false, map, find, IfOk, OnOk, OnErr, not, ◌||◌, ◌&&◌, nat_lt};
-ghost use Rattle.std.specs.List.{list_all, list_any};
+ghost use Rattle.std.specs.Prelude.{◌≡◌, true, false, find, IfOk, OnOk, OnErr, ◌||◌, ◌&&◌};
+ghost use Rattle.std.specs.List.{list_all};
 ghost use Rattle.std.specs.Option.{option_copied};
 ghost use Rattle.cr_lattice.specs.Check.{Checks};
 ghost use Rattle.cr_cells.specs.Tables.{is_folded, has_folded_names, has_defaults, IsNewTable, is_named, is_markable, marked, with_replicated, with_table, with_column, altered, with_added, is_table_of, fault_in, first_fault, AreWellFormed};

@@ -8,7 +8,7 @@ ghost use Rattle.cr_lattice.specs.Keep.{keep};
 ghost use Rattle.cr_lattice.specs.Rows.{is_present, kept_change, column_value};
 ghost use Rattle.cr_delta.specs.Adds.{Adds};
 ghost use Rattle.cr_delta.specs.Key.{cells_of, key_of, HasKey};
-ghost use Rattle.cr_delta.specs.Delta.{length_of, version_of, arrival, update, row_delta, removals, delta, passes_limit};
+ghost use Rattle.cr_delta.specs.Delta.{length_of, version_of, arrival, update, row_delta, delta, passes_limit};
 ghost use Rattle.cr_delta.specs.Steps.{new_cell, changed_cell, removal};
 ghost use Rattle.cr_delta.specs.declared.error.DeltaError.TheVariants.{VersionLimit};
 
@@ -20,7 +20,7 @@ use crate::shown::{is_alive, row_change_of};
 use cr_lattice::change::{Change, Site};
 use cr_lattice::rows::{column_value, is_present, kept_change};
 use cr_lattice::table::{ColumnDef, Row, TableDef};
-use cr_value::order::{cmp_binary, same_bytes};
+use cr_value::order::cmp_binary;
 use cr_value::text::Bytes;
 use cr_value::value::Value;
 use std::alloc::{AllocError, Global};

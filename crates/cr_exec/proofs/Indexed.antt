@@ -1,15 +1,14 @@
 -- Rows in the order of their values at one place.
-use Rattle.std.proofs.Common.{◌≡◌, inl, inr, ◌∙◌, ℕ, zero, suc, ◌+◌, Bool, true, false, not, ◌&&◌, cond, List, [], ◌∷◌, ◌++◌, length, map, get_or, refl, sym, ap, subst, Ordering}
+use Rattle.std.proofs.Common.{◌≡◌, inl, inr, ◌∙◌, ℕ, zero, suc, Bool, true, false, not, ◌&&◌, List, [], ◌∷◌, ◌++◌, length, map, refl, sym, ap, subst}
 use Rattle.std.specs.Prelude.{filter, nat_lt}
 use Rattle.std.specs.List.{list_all}
 use Rattle.std.proofs.lemmas.List.Folds.{list_all-map}
 use Rattle.std.specs.List.Sorted.{IsSortedBy, IsStableBy}
-use Rattle.std.specs.Ordering.{is_eq, is_lt, on}
+use Rattle.std.specs.Ordering.{is_eq, is_lt}
 use Rattle.std.specs.Cmp.{IsTotalOrder}
 use Rattle.std.specs.Borrow.{Bor}
 use Rattle.std.proofs.lemmas.Cmp.{on_total}
 use Rattle.cr_value.specs.declared.value.Value.{Value}
-use Rattle.cr_value.specs.declared.value.Value.TheVariants.{Null}
 use Rattle.cr_value.specs.Order.{value_cmp}
 use Rattle.cr_value.specs.OrderLaws.{value_total}
 use Rattle.cr_lattice.proofs.Tested.{split}
@@ -18,7 +17,7 @@ use Rattle.cr_query.specs.Query.{Row, nulls}
 use Rattle.cr_exec.specs.declared.index.Index.{Index}
 use Rattle.cr_exec.specs.Equalities.{is_equal}
 use Rattle.cr_exec.specs.Groups.{row_there}
-use Rattle.cr_exec.specs.LookUps.{at_place, by_place, cell, is_wide, with_value, IsInOrder, IsIndexOf}
+use Rattle.cr_exec.specs.LookUps.{at_place, by_place, cell, is_wide, IsIndexOf}
 use Rattle.cr_exec.proofs.Runs.{class_moved, filter_agree, filter-map, none_pass}
 
 -- a row that stands nowhere, with a value at a place

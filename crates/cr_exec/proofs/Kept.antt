@@ -1,11 +1,11 @@
 -- The rows of one table on which all terms are true are the combinations of a query of it.
-use Rattle.std.proofs.Common.{◌≡◌, ◌∙◌, ℕ, Bool, true, false, cond, List, [], ◌∷◌, ◌++◌, append-nil, map, Option, Some, None, option_map, Result, Ok, Err, refl, sym, ap}
+use Rattle.std.proofs.Common.{◌≡◌, ◌∙◌, ℕ, Bool, true, false, cond, List, [], ◌∷◌, ◌++◌, append-nil, map, Option, Some, None, option_map, Result, Ok, Err, sym, ap}
 use Rattle.std.specs.Option.{option_and_then}
 use Rattle.cr_value.specs.declared.value.Value.{Value}
 use Rattle.cr_scalar.specs.Host.{Host}
 use Rattle.cr_scalar.specs.declared.fault.EvalFault.{EvalFault}
 use Rattle.cr_term.specs.declared.query.Query.{Query as Resolved}
-use Rattle.cr_bags.specs.Bags.{gather, joins, single, those}
+use Rattle.cr_bags.specs.Bags.{joins, single, those}
 use Rattle.cr_query.specs.Query.{Row, Meaning, all_true, answer, finished, joined, shown}
 use Rattle.cr_query.proofs.PlanLaws.{gather-append, joined_one}
 use Rattle.cr_meaning.specs.View.{Ordered, joining, query, terms}
@@ -13,7 +13,7 @@ use Rattle.cr_meaning.specs.Meaning.{meaning}
 use Rattle.cr_exec.specs.Answers.{Answers, Faults, IsBoth, Stage}
 use Rattle.cr_exec.specs.Combinations.{IsOfOneTable}
 use Rattle.cr_exec.specs.Tails.{with_quiet_first}
-use Rattle.cr_exec.proofs.Stages.{both_after, both_on, faults_after, faults_on}
+use Rattle.cr_exec.proofs.Stages.{both_after, faults_after, faults_on}
 
 -- what a row adds, by whether it is kept
 abbrev added : Row → Option Bool → Option (List Row)

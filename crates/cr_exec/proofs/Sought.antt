@@ -1,7 +1,7 @@
 -- A term that asks for a value is quiet, and not true on a row that has another one, whatever stands behind the row.
 use Rattle.std.proofs.Common.{◌≡◌, ◌⊎◌, inl, inr, ℕ, ◌+◌, ◌<◌, ◌≤◌, Bool, true, false, not, ◌&&◌, ◌||◌, if◌then◌else◌, cond, List, [], ◌∷◌, ◌++◌, length, length-append, append_assoc, get_or, drop, map, Option, Some, None, Ok, refl, sym, ap, subst, ◌∙◌, arith, Ordering, Less, Equal, Greater}
-use Rattle.std.specs.Prelude.{◌-◌, filter, nat_lt, nat_le}
-use Rattle.std.specs.List.{list_any, list_all}
+use Rattle.std.specs.Prelude.{◌-◌, filter, nat_le}
+use Rattle.std.specs.List.{list_any}
 use Rattle.std.specs.Option.{option_map, option_and_then, option_or}
 use Rattle.std.specs.Ordering.{is_eq}
 use Rattle.std.specs.FinSet.{int_cmp-IsAntisymmetric}
@@ -12,13 +12,12 @@ use Rattle.std.proofs.lemmas.List.Folds.{list_any-append}
 use Rattle.cr_value.specs.declared.value.Value.{Value}
 use Rattle.cr_value.specs.declared.value.Value.TheVariants.{Null, Int, Text, Blob}
 use Rattle.cr_value.specs.declared.affinity.Affinity.{Affinity}
-use Rattle.cr_value.specs.Affinity.{applied}
 use Rattle.cr_value.specs.Bytes.{bytes_cmp}
 use Rattle.cr_value.specs.Order.{value_cmp}
 use Rattle.cr_value.specs.OrderLaws.{bytes_exact, value_total}
 use Rattle.cr_value.proofs.Fields.{provided, some_is}
 use Rattle.cr_lattice.specs.Check.{same_bytes}
-use Rattle.cr_lattice.proofs.Tested.{or_left, or_right, or_true, split}
+use Rattle.cr_lattice.proofs.Tested.{or_left, or_right, or_true}
 use Rattle.cr_term.specs.declared.expr.When.{When}
 use Rattle.cr_term.specs.declared.operator.Comparison.TheVariants as op
 use Rattle.cr_term.specs.declared.operator.Adjusted.{Adjusted}
@@ -37,16 +36,16 @@ use Rattle.cr_scalar.specs.Numbers.{truth, truth_value, is_null}
 use Rattle.cr_expr.specs.Setting.{Setting}
 use Rattle.cr_expr.specs.Eval.{Meaning as Sense, Arm, node, arm, layer, meaning as meaning-of, arm_of, eval_of}
 use Rattle.cr_expr.proofs.Nodes.{one_node}
-use Rattle.cr_query.specs.Query.{Row, Meaning, is_true, all_true, holds}
+use Rattle.cr_query.specs.Query.{Row, Meaning, is_true, all_true}
 use Rattle.cr_query.specs.Plans.{is_false}
 use Rattle.cr_query.proofs.PlanLaws.{rejected}
-use Rattle.cr_meaning.specs.View.{Ordered, plain}
+use Rattle.cr_meaning.specs.View.{Ordered}
 use Rattle.cr_meaning.specs.Meaning.{at_row, is_so, meaning, value_of}
 use Rattle.cr_meaning.proofs.Limits.{safe}
 use Rattle.cr_exec.specs.Equalities.{Sought, OrdersBytes, own_layer, own_place, known_layer, is_known, no_arm, right_takes, left_takes, side, equality_in, equality, taken_on, is_equal}
 use Rattle.cr_exec.specs.LookUps.{IsQuietFirst, Wants, asked, cell, is_wide, where_wide}
 use Rattle.cr_exec.specs.Scopes.{there}
-use Rattle.cr_exec.specs.Tails.{of_kind, with_quiet_first}
+use Rattle.cr_exec.specs.Tails.{of_kind}
 use Rattle.cr_exec.specs.Values.{HasValue}
 use Rattle.cr_exec.proofs.Loops.{rest_at}
 use Rattle.std.specs.Borrow.{Bor}

@@ -1,11 +1,9 @@
 -- Terms that are true only where a column of a table has one value, which is known before the table's rows are gone through.
 -- Source: "Datatypes In SQLite", sections 4.2 and 7; that such a term picks the rows that are tested is this project's own.
-use Rattle.std.specs.Prelude.{◌≡◌, ℕ, ◌-◌, Bool, true, false, not, ◌&&◌, nat_lt, nat_le, cond, List, get_or, Option, Some, None}
+use Rattle.std.specs.Prelude.{◌≡◌, ℕ, ◌-◌, Bool, true, false, not, ◌&&◌, nat_lt, nat_le, cond, List, Option, Some, None}
 use Rattle.std.specs.Option.{option_and_then, option_map, option_or}
 use Rattle.std.specs.Ordering.{is_eq}
-use Rattle.std.specs.Borrow.{Bor}
 use Rattle.cr_value.specs.declared.value.Value.{Value}
-use Rattle.cr_value.specs.declared.value.Value.TheVariants.{Null}
 use Rattle.cr_value.specs.declared.affinity.Affinity.{Affinity}
 use Rattle.cr_value.specs.Affinity.{applied}
 use Rattle.cr_value.specs.Bytes.{bytes_cmp}

@@ -1,6 +1,6 @@
 -- Tables of which only the rows are gone through that a term asks for beside a combination of the tables to the left. Source:
 -- this project's own.
-use Rattle.std.specs.Prelude.{◌≡◌, ℕ, Bool, true, false, nat_lt, cond, filter, map, length, get_or, List, [], ◌∷◌, ◌++◌, Option, Some, None, IfSome}
+use Rattle.std.specs.Prelude.{◌≡◌, ℕ, Bool, false, nat_lt, cond, filter, map, length, get_or, List, [], ◌∷◌, Option, Some, None, IfSome}
 use Rattle.std.specs.List.{list_all, list_any}
 use Rattle.std.specs.List.Sorted.{IsSortedBy}
 use Rattle.std.specs.Option.{option_and_then, option_map_or, option_or}

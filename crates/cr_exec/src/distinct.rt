@@ -3,11 +3,11 @@
 ghost use Rattle.std.specs.Prelude.{◌≡◌, map, ℕ, Option, List, IfOk};
 ghost use Rattle.cr_bags.specs.Bags.{SameBag, sort, firsts};
 ghost use Rattle.cr_value.specs.declared.value.Value.{Value as Content};
-ghost use Rattle.cr_query.specs.Query.{row_cmp, spelled_cmp, distinct};
+ghost use Rattle.cr_query.specs.Query.{spelled_cmp, distinct};
 ghost use Rattle.cr_meaning.specs.View.{result_term};
 ghost use Rattle.cr_meaning.specs.Meaning.{meaning};
 ghost use Rattle.cr_exec.specs.Comparisons.{held_order};
-ghost use Rattle.cr_exec.specs.Shows.{shown_of, shown_ties, ties_by};
+ghost use Rattle.cr_exec.specs.Shows.{shown_of, shown_ties};
 
 use crate::compare::{Sense, compare_classes, senses_of_results};
 use crate::show::Shown;

@@ -1,12 +1,12 @@
 //! What the groups of a query show.
 
-ghost use Rattle.std.specs.Prelude.{◌≡◌, ◌++◌, map, filter, option_map, not, IfOk};
-ghost use Rattle.cr_bags.specs.Bags.{SameBag, each, gather, sort, firsts};
+ghost use Rattle.std.specs.Prelude.{◌≡◌, map, filter, option_map, IfOk};
+ghost use Rattle.cr_bags.specs.Bags.{SameBag, each, sort, firsts};
 ghost use Rattle.cr_query.specs.Query.{row_cmp, has};
 ghost use Rattle.cr_meaning.specs.View.{plain};
 ghost use Rattle.cr_exec.specs.Answers.{Answers, Adds};
 ghost use Rattle.cr_exec.specs.Comparisons.{held_order};
-ghost use Rattle.cr_exec.specs.Groups.{judged_by, keyed_by, key_of, pair_of, row_there, members_of, group_of, StandsByClass, IsByClass};
+ghost use Rattle.cr_exec.specs.Groups.{judged_by, keyed_by, key_of, pair_of, row_there, members_of, StandsByClass, IsByClass};
 ghost use Rattle.cr_exec.specs.Scopes.{in_scope, there};
 ghost use Rattle.cr_exec.specs.Shows.{shown_of, ties_by};
 

@@ -1,13 +1,11 @@
 //! The value of an expression in a query.
 
-ghost use Rattle.std.specs.Prelude.{◌≡◌, IfOk, MatchOption, None, true, false, get_or, map};
+ghost use Rattle.std.specs.Prelude.{◌≡◌, IfOk, MatchOption, None, true, false, map};
 ghost use Rattle.cr_bags.specs.Bags.{each};
-ghost use Rattle.cr_value.specs.declared.value.Value.TheVariants.{Null};
 ghost use Rattle.cr_term.specs.Terms.{plain, quiet};
 ghost use Rattle.cr_scalar.specs.Host.{Host};
 ghost use Rattle.cr_scalar.specs.Meaning.{byte_limit};
 ghost use Rattle.cr_expr.specs.Setting.{setting};
-ghost use Rattle.cr_expr.specs.Eval.{eval_of};
 ghost use Rattle.cr_meaning.specs.View as view;
 ghost use Rattle.cr_exec.specs.Answers.{Answers};
 ghost use Rattle.cr_exec.specs.Values.{null_wanted, null_test, Limited, HasValue};

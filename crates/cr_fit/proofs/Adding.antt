@@ -1,26 +1,25 @@
 -- A column against which nothing stands as it is added fits in its table.
-use Rattle.std.proofs.Common.{◌≡◌, ◌⊎◌, inl, inr, refl, sym, ap, subst, ◌∙◌, ℕ, zero, suc, ◌+◌, ◌<◌, ◌==◌, Bool, true, false, not, ◌||◌, ◌&&◌, nat_lt, nat_le, List, [], ◌∷◌, ◌++◌, length, map, find, get_or, codes, Option, Some, None, if◌then◌else◌, arith}
+use Rattle.std.proofs.Common.{◌≡◌, inl, inr, refl, sym, ap, subst, ◌∙◌, ℕ, zero, suc, ◌+◌, ◌<◌, ◌==◌, Bool, true, false, not, ◌||◌, ◌&&◌, nat_lt, nat_le, List, [], ◌∷◌, ◌++◌, length, map, find, get_or, codes, Option, Some, None, if◌then◌else◌, arith}
 use Rattle.std.specs.Prelude.{cond, count_by, position}
-use Rattle.std.specs.Option.{option_map, option_map_or, option_or, is_some}
-use Rattle.std.specs.List.{list_any, list_all, AllByRecursion, AllPairs, IsDistinct}
+use Rattle.std.specs.Option.{option_map, is_some}
+use Rattle.std.specs.List.{list_any, AllByRecursion, IsDistinct}
 use Rattle.std.specs.Str.{bytes_eq}
 use Rattle.std.proofs.lemmas.Bool.Decides.{nat_tests}
 use Rattle.std.proofs.lemmas.List.{length-append}
-use Rattle.std.proofs.lemmas.List.Folds.{list_any-append, list_all-append}
+use Rattle.std.proofs.lemmas.List.Folds.{list_all-append}
 use Rattle.std.proofs.lemmas.List.Quantifiers.{all_pairs_push}
 use Rattle.cr_lattice.specs.declared.table.ColumnDef.{ColumnDef}
 use Rattle.cr_lattice.specs.declared.table.Table.{Table}
 use Rattle.cr_lattice.specs.declared.table.TableDef.{TableDef}
 use Rattle.cr_lattice.specs.Check.{same_bytes, is_key_column, stands_at}
-use Rattle.cr_lattice.specs.Profile.{key_count, places_once, has_key, is_collated_key, is_named_row, has_row_cid, is_default_too_long, is_reserved, most_columns, profile_fault, rules_of, lacks_default, HasDistinctNames}
+use Rattle.cr_lattice.specs.Profile.{key_count, places_once, has_key, is_collated_key, is_named_row, has_row_cid, is_default_too_long, most_columns, profile_fault, rules_of, lacks_default, HasDistinctNames}
 use Rattle.cr_lattice.specs.Faults.{first_failed}
 use Rattle.cr_lattice.proofs.Tested.{or_false}
-use Rattle.cr_cells.specs.Tables.{IsFit, IsStored, IsNewColumn, is_named, same_name as same_table, is_folded, has_folded_names, has_defaults, with_column, altered, with_added}
+use Rattle.cr_cells.specs.Tables.{IsStored, IsNewColumn, is_named, same_name as same_table, is_folded, has_folded_names, has_defaults, with_column, altered, with_added}
 use Rattle.cr_cells.proofs.ColumnLemmas.{any_without, count_without, no_place, no_key}
 use Rattle.cr_cells.proofs.MemberLemmas.{split, Among, all_at, find_gives, apart_one}
 use Rattle.cr_cells.proofs.TableLemmas.{one_named, same_name-equiv}
 use Rattle.cr_tree.specs.declared.statement.Alter.{Alter as AlterTree}
-use Rattle.cr_tree.specs.declared.statement.Column.{Column}
 use Rattle.cr_questions.specs.Questions.{Name}
 use Rattle.cr_resolve.specs.declared.refusal.Refusal.TheVariants.{OutOfProfile, Limit, AmbiguousColumn}
 use Rattle.cr_resolve.specs.declared.refusal.Outside.TheVariants as outside

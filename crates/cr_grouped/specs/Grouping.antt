@@ -2,7 +2,6 @@
 -- folded over expressions is kept closed.
 use Rattle.std.specs.Prelude.{◌||◌, Bool, not, nat_le, List, length, map}
 use Rattle.std.specs.Option.{is_some}
-use Rattle.std.specs.List.{position}
 use Rattle.cr_term.specs.declared.operator.Aggregate.{Aggregate as Kind}
 use Rattle.cr_term.specs.declared.expr.Expr.{Expr}
 use Rattle.cr_term.specs.declared.query.GroupTerm.{GroupTerm}

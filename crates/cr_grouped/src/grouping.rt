@@ -1,6 +1,6 @@
 //! Groups: whether a query has them, their terms, and whether a column stands bare over them.
 
-ghost use Rattle.std.specs.Prelude.{◌≡◌, ◌||◌, ◌∷◌, [], map, not, nat_le, length, IfOk};
+ghost use Rattle.std.specs.Prelude.{◌≡◌, ◌||◌, IfOk};
 ghost use Rattle.std.specs.Option.{is_some, option_to_list};
 ghost use Rattle.std.specs.List.{flat_map};
 ghost use Rattle.cr_resolve.specs.Queries.{is_grouped};

@@ -7,12 +7,11 @@ ghost use Rattle.std.specs.Option.{option_copied};
 ghost use Rattle.cr_value.specs.declared.value.Value.{Value};
 ghost use Rattle.cr_value.specs.Order.{bytes_cmp};
 ghost use Rattle.cr_lattice.specs.Check.{same_bytes};
-ghost use Rattle.cr_lattice.specs.Rows.{keys_in_order};
-ghost use Rattle.cr_delta.specs.Key.{key_of, HasKey};
+ghost use Rattle.cr_delta.specs.Key.{HasKey};
 ghost use Rattle.cr_guard.specs.Heard.{AreByKey, HasRowsByKey, are_rising, became, event, keys_of_both, heard, heard_of};
 
 use crate::event::{Event, EventKind};
-use cr_delta::key::{are_keyed, in_order, key_of, keys_of};
+use cr_delta::key::{are_keyed, in_order, keys_of};
 use cr_lattice::table::{Items, Row, TableDef};
 use cr_value::order::cmp_bytes;
 use cr_value::text::Bytes;

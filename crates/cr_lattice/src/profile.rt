@@ -1,11 +1,11 @@
 //! Which definitions of tables are accepted. The rules are this project's own profile of SQLite's CREATE TABLE.
 
-ghost use Rattle.std.specs.Prelude.{◌≡◌, ℕ, ◌||◌, ◌==◌, nat_eq, None, Some, count_by, length, position, MatchResult, IfSome, IfNone};
+ghost use Rattle.std.specs.Prelude.{◌≡◌, ◌||◌, None, Some, count_by, position, MatchResult, IfSome, IfNone};
 ghost use Rattle.std.specs.List.{list_any};
 ghost use Rattle.std.specs.Option.{is_some};
 ghost use Rattle.cr_value.specs.declared.value.Value.TheVariants.{Text};
-ghost use Rattle.cr_lattice.specs.Check.{same_bytes, is_null, stands_at};
-ghost use Rattle.cr_lattice.specs.Profile.{key_count, has_key, is_collated_key, is_named_row, has_row_cid, is_too_long, is_default_too_long, is_reserved, profile_fault, HasDistinctNames, IsFirstRepeat, lacks_default};
+ghost use Rattle.cr_lattice.specs.Check.{same_bytes, stands_at};
+ghost use Rattle.cr_lattice.specs.Profile.{has_key, is_collated_key, is_named_row, has_row_cid, is_too_long, is_default_too_long, is_reserved, profile_fault, HasDistinctNames, IsFirstRepeat, lacks_default};
 
 use crate::check::{key_len, stands_at};
 use crate::order::ROW_CID;

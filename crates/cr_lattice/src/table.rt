@@ -1,6 +1,6 @@
 //! The definition of a table, and a row of it.
 
-ghost use Rattle.std.specs.Prelude.{◌≡◌, length, List, IfOk};
+ghost use Rattle.std.specs.Prelude.{◌≡◌, List, IfOk};
 
 use cr_value::affinity::Affinity;
 use cr_value::text::Text;

@@ -1,5 +1,5 @@
 -- What is read of a module without constraints: its rows.
-use Rattle.std.proofs.Common.{◌≡◌, ℕ, zero, suc, ◌+◌, ◌<◌, arith, Bool, true, false, List, [], ◌∷◌, ◌++◌, refl, sym, ap, subst, ◌∙◌, take, filter, length, append-nil, append_assoc}
+use Rattle.std.proofs.Common.{◌≡◌, ℕ, zero, suc, ◌+◌, ◌<◌, arith, true, false, List, [], ◌∷◌, ◌++◌, refl, sym, ap, subst, ◌∙◌, take, filter, length, append-nil, append_assoc}
 use Rattle.std.specs.List.{AllByRecursion}
 use Rattle.cr_value.specs.declared.value.Value.{Value}
 use Rattle.cr_bags.specs.Bags.{SameBag}

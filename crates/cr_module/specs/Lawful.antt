@@ -1,11 +1,11 @@
 -- What a lawful module chooses and gives. Source: "The Virtual Table Mechanism Of SQLite"; that a row comes at most as
 -- often as it is there, and that values compare under BINARY without affinity, is this project's own.
-use Rattle.std.specs.Prelude.{◌≡◌, ◌⊎◌, ℕ, ℤ, Bool, true, false, not, ◌&&◌, ◌||◌, List, [], ◌∷◌, length, Option, Some, None, slice_get, unwrap_or, Result, Ok, Err}
+use Rattle.std.specs.Prelude.{◌≡◌, ◌⊎◌, ℕ, ℤ, Bool, true, false, not, ◌&&◌, ◌||◌, List, [], ◌∷◌, length, slice_get, unwrap_or, Result, Ok, Err}
 use Rattle.std.specs.List.{AllByRecursion}
 use Rattle.std.specs.Option.{option_map_or}
 use Rattle.std.specs.declared.cmp.Ordering.{Ordering}
 use Rattle.std.specs.declared.cmp.Ordering.TheVariants.{Equal}
-use Rattle.std.specs.Ordering.{is_eq, is_lt, is_gt, is_le, is_ge, on, then_cmp}
+use Rattle.std.specs.Ordering.{is_eq, is_lt, is_gt, is_le, is_ge, then_cmp}
 use Rattle.cr_value.specs.declared.value.Value.{Value}
 use Rattle.cr_value.specs.declared.value.Value.TheVariants.{Null}
 use Rattle.cr_value.specs.Order.{value_cmp}

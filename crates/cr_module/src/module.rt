@@ -40,7 +40,7 @@ pub enum UpdateError {
 /// A reading asks `best_index` which index serves, and with which arguments; then `filter` gives a cursor on the first of the
 /// rows, and until `eof` the columns of its row are asked for and `next` goes on. While it is read, a module stays as it is.
 pub trait Module: Drop {
-    ghost use Rattle.std.specs.Prelude.{ℕ, List, Result};
+    ghost use Rattle.std.specs.Prelude.{List, Result};
     ghost use Rattle.cr_lattice.specs.declared.table.ColumnDef.{ColumnDef};
     ghost use Rattle.cr_query.specs.Query.{Row as Values};
     ghost use Rattle.cr_module.specs.declared.module.Cursor.{Cursor};

@@ -1,6 +1,6 @@
 //! The rows of a module as one list.
 
-ghost use Rattle.std.specs.Prelude.{◌≡◌, ◌++◌, false, IfOk, OnOk, take, length};
+ghost use Rattle.std.specs.Prelude.{◌≡◌, false, IfOk, length};
 ghost use Rattle.cr_bags.specs.Bags.{SameBag};
 ghost use Rattle.cr_module.specs.Lawful.{AreWide, first_row, is_at_end};
 

@@ -2,7 +2,7 @@
 
 ghost use Rattle.std.specs.Prelude.{◌≡◌, ◌++◌, ◌∷◌, [], length, map, IfOk, OnOk};
 ghost use Rattle.cr_bags.specs.Bags.{single};
-ghost use Rattle.cr_module.specs.Lawful.{AreWide, value_at};
+ghost use Rattle.cr_module.specs.Lawful.{value_at};
 
 use crate::module::{Cursor, Module, UpdateError};
 use crate::plan::{Choice, Constraint, Order};

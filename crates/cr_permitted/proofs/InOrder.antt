@@ -11,7 +11,6 @@ use Rattle.cr_term.specs.declared.query.Insert.{Insert}
 use Rattle.cr_term.specs.declared.query.Delete.{Delete}
 use Rattle.cr_term.specs.declared.query.MarkReplicated.{MarkReplicated}
 use Rattle.cr_term.specs.declared.query.Update.{Update}
-use Rattle.cr_term.specs.declared.query.Relation.{Relation}
 use Rattle.cr_term.specs.declared.query.Resolved.TheVariants as r
 use Rattle.cr_questions.specs.declared.question.Question.{Question}
 use Rattle.cr_questions.specs.Questions.{Answers, ask, asked, asked_all, call_of, first_denied, questions, update_of}

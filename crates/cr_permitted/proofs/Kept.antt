@@ -1,5 +1,5 @@
 -- Assignments that are left, one after another.
-use Rattle.std.proofs.Common.{◌≡◌, ◌∙◌, ℕ, ◌+◌, ◌<◌, Bool, true, false, not, List, [], ◌∷◌, ◌++◌, length, drop, get_or, refl, ap, sym, append_assoc}
+use Rattle.std.proofs.Common.{◌≡◌, ◌∙◌, ℕ, ◌+◌, ◌<◌, Bool, true, false, List, [], ◌∷◌, ◌++◌, length, drop, get_or, refl, ap, sym, append_assoc}
 use Rattle.cr_term.specs.declared.query.Assignment.{Assignment}
 use Rattle.cr_term.specs.declared.query.Relation.{Relation}
 use Rattle.cr_questions.specs.Questions.{Answers, ignored, left, update_of}

@@ -1,10 +1,10 @@
 //! UPDATE.
 
-ghost use Rattle.std.specs.Prelude.{◌≡◌, ◌∷◌, [], get_or, IfOk};
+ghost use Rattle.std.specs.Prelude.{◌≡◌, ◌∷◌, [], IfOk};
 ghost use Rattle.std.specs.Option.{option_map};
 ghost use Rattle.std.specs.List.{flat_map};
 ghost use Rattle.cr_term.specs.declared.query.Resolved.TheVariants as r;
-ghost use Rattle.cr_questions.specs.Questions.{asked, first_denied, left_update, no_column, questions, update_of};
+ghost use Rattle.cr_questions.specs.Questions.{asked, first_denied, left_update, questions, update_of};
 ghost use Rattle.cr_questions.specs.Asked.{or_first_denied, told};
 ghost use Rattle.cr_permitted.specs.Assigned.{left_assignments};
 

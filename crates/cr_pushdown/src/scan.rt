@@ -1,6 +1,6 @@
 //! The rows of a table that a WHERE may keep, read page by page.
 
-ghost use Rattle.std.specs.Prelude.{◌≡◌, ◌<◌, filter, length, true, IfOk, MatchOption};
+ghost use Rattle.std.specs.Prelude.{◌≡◌, ◌<◌, filter, length, IfOk, MatchOption};
 ghost use Rattle.std.specs.List.Sorted.{IsSortedBy};
 ghost use Rattle.std.specs.Option.{ForSome, option_copied};
 ghost use Rattle.cr_lattice.specs.Keep.{join, keep};
@@ -135,7 +135,7 @@ fn rows_shown(alloc: Global, def: &TableDef, changes: &[Change]) -> Result<Vec<R
 }
 
 impl<'a> Scan<'a> {
-    ghost use Rattle.std.specs.Prelude.{◌≡◌, ◌++◌, filter, true, false, None, IfOk};
+    ghost use Rattle.std.specs.Prelude.{◌≡◌, ◌++◌, filter, false, None, IfOk};
     ghost use Rattle.std.specs.List.Sorted.{IsSortedBy};
     ghost use Rattle.cr_lattice.specs.Rows.{has_lesser_key};
     ghost use Rattle.cr_cells.specs.Calls.{Reads, is_want, StaysClean};

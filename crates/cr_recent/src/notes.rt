@@ -1,6 +1,6 @@
 //! Notes of the rows that commits touched.
 
-ghost use Rattle.std.specs.Prelude.{◌≡◌, [], ◌++◌, true, false, map, filter, int_lt, IfOk, OnOk, MatchOption};
+ghost use Rattle.std.specs.Prelude.{◌≡◌, [], ◌++◌, true, false, map, filter, int_lt, IfOk, MatchOption};
 ghost use Rattle.cr_recent.specs.Notes.{has_room, noted_above, notes_at, notes_in, touched, Remembers};
 
 use crate::keys::{Key, in_order, keys_of};

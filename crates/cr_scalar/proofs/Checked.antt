@@ -1,5 +1,5 @@
 -- Numbers that were checked to stay in 64 bits.
-use Rattle.std.proofs.Common.{◌≡◌, ◌≢◌, ◌∙◌, ◌<◌, ◌^◌, ◌==◌, zero, suc, arith, eqb-true, ℤ, pos, negsuc, neg_ℤ, Bool, true, false, cond, Option, Some, None, Result, Ok, Err, SomeIff, refl, ap}
+use Rattle.std.proofs.Common.{◌≡◌, ◌≢◌, ◌<◌, ◌^◌, ◌==◌, zero, suc, arith, eqb-true, ℤ, pos, negsuc, neg_ℤ, Bool, true, false, cond, Option, Some, None, Ok, Err, SomeIff, refl, ap}
 use Rattle.std.specs.Prelude.{FitsSigned, unsigned_abs, int_div, int_rem}
 use Rattle.std.proofs.lemmas.Int.{ints}
 use Rattle.std.specs.Option.{option_map_or}

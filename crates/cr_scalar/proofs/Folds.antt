@@ -1,5 +1,5 @@
 -- What is left of a fold, and what a sort gives.
-use Rattle.std.proofs.Common.{◌≡◌, ℤ, pos, ◌+ℤ◌, not, Bool, List, [], ◌∷◌, map, filter, Option, Some, None, Ok, Err, refl, sym, ap, ◌∙◌}
+use Rattle.std.proofs.Common.{◌≡◌, ℤ, pos, ◌+ℤ◌, not, Bool, List, ◌∷◌, map, filter, Option, Some, None, Ok, Err, refl, sym, ap, ◌∙◌}
 use Rattle.std.specs.List.{best_of}
 use Rattle.std.proofs.Math.IntN.{+ℤ_idl, +ℤ_assoc}
 use denote.Ref.{Bor}

@@ -1,5 +1,5 @@
 -- What a listener hears of a script, turn by turn.
-use Rattle.std.proofs.Common.{◌≡◌, ◌⊎◌, inl, inr, ℕ, zero, suc, ◌+◌, ◌<◌, ◌≤◌, arith, List, [], ◌∷◌, ◌++◌, Option, Some, None, Result, Ok, Err, refl, sym, ap, subst, ◌∙◌, length, drop, append_assoc, append-nil}
+use Rattle.std.proofs.Common.{◌≡◌, ◌⊎◌, inl, inr, ℕ, zero, suc, ◌≤◌, arith, List, [], ◌∷◌, ◌++◌, Option, Some, None, Result, Ok, sym, ap, subst, length, drop, append_assoc, append-nil}
 use Rattle.std.proofs.lemmas.List.{length-drop}
 use Rattle.cr_guard.specs.declared.event.Event.{Event}
 use Rattle.cr_lex.specs.declared.token.Token.{Token}
@@ -11,7 +11,7 @@ use Rattle.cr_world.specs.Causes.{IsWant}
 use Rattle.cr_world.specs.Language.{Language, Piece}
 use Rattle.cr_world.specs.Language as language
 use Rattle.cr_world.specs.State.{State}
-use Rattle.cr_world.specs.Statement.{Host, stepped}
+use Rattle.cr_world.specs.Statement.{Host}
 use Rattle.cr_script.specs.Hearing.{HearsAll, HearsTurn, heard_of_statement}
 use Rattle.cr_script.specs.Scripts.{Goes, Stops, Turns, next, pieces_left}
 use Rattle.cr_script.proofs.Turning.{none_left, one_left, takes}

@@ -16,7 +16,6 @@ use Rattle.cr_statement.specs.Scripts as scripts
 use Rattle.cr_fit.specs.Folded.{DefinesFolded}
 use Rattle.cr_fit.proofs.Folding.{are_names_folded}
 use Rattle.cr_world.specs.declared.command.Reply.{Reply}
-use Rattle.cr_world.specs.declared.command.Script.{Script}
 use Rattle.cr_world.specs.declared.refusal.Refusal.{Refusal}
 use Rattle.cr_world.specs.declared.refusal.Refusal.TheVariants.{Memory, Limit}
 use Rattle.cr_world.specs.declared.refusal.Limit.TheVariants as limit

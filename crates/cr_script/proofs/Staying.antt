@@ -4,7 +4,6 @@ use Rattle.cr_lattice.specs.declared.change.Change.{Change}
 use Rattle.cr_guard.specs.Policy.{Rules}
 use Rattle.cr_world.specs.Language.{Asked}
 use Rattle.cr_world.specs.Statement.{Host}
-use Rattle.cr_world.specs.World.{Closures}
 use Rattle.cr_script.specs.Speaking.{closures, host_under, Noting, Stays}
 
 module _ {G : Type 0} (is_faithful : G → Type 0) (rules : G → Rules) (allows : G → Asked) (refuses : G → List Change → Bool) (noting : G → Noting) where

@@ -2,7 +2,6 @@
 use Rattle.std.proofs.Common.{◌≡◌, ◌∙◌, ◌≤◌, Bool, true, false, not, cond, List, Option, Some, None, Ok, Err, if◌then◌else◌, nat_le, refl, sym, subst, arith}
 use Rattle.std.proofs.lemmas.Bool.{leb-true}
 use Rattle.cr_value.specs.declared.value.Value.{Value}
-use Rattle.cr_value.specs.declared.value.Value.TheVariants.{Null, Int, Text, Blob}
 use Rattle.cr_value.specs.Packing.{size_limit}
 use Rattle.cr_value.specs.Size.{value_len}
 use Rattle.cr_term.specs.declared.operator.Unary.TheVariants as unary

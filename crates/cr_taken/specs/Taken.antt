@@ -1,11 +1,9 @@
 -- The rows that a write may bring to a replicated table of a store. Source: this project's own.
-use Rattle.std.specs.Prelude.{◌≡◌, true, Bool, find, nat_le, List, length, Some, FitsSigned}
-use Rattle.std.specs.List.{list_all, AllByRecursion}
+use Rattle.std.specs.Prelude.{◌≡◌, true, find, List, length, Some, FitsSigned}
+use Rattle.std.specs.List.{AllByRecursion}
 use Rattle.std.specs.Int.{w64}
 use Rattle.cr_value.specs.declared.value.Value.{Value}
 use Rattle.cr_value.specs.declared.value.Value.TheVariants.{Null, Int, Text, Blob}
-use Rattle.cr_value.specs.Packing.{size_limit}
-use Rattle.cr_value.specs.Size.{value_len}
 use Rattle.cr_lattice.specs.declared.change.Change.{Change}
 use Rattle.cr_lattice.specs.declared.table.Table.{Table}
 use Rattle.cr_lattice.specs.declared.table.TableDef.{TableDef}

@@ -2,7 +2,6 @@
 
 ghost use Rattle.std.specs.Prelude.{◌≡◌, map};
 ghost use Rattle.std.specs.Char.{to_ascii_lowercase};
-ghost use Rattle.std.specs.Ordering.{on};
 ghost use Rattle.cr_value.specs.Bytes.{bytes_cmp};
 ghost use Rattle.cr_value.specs.Collation.{without_leading_spaces, without_trailing_spaces, text_cmp};
 

@@ -1,4 +1,3 @@
-use Rattle.std.proofs.Common.{rules, ◌∙◌}
 use Rattle.cr_exec.proofs.Sought.{wants_own}
 use Rattle.cr_exec.proofs.equality.wanted_value.Goals as goal
 

@@ -1,4 +1,4 @@
-use Rattle.std.proofs.Common.{◌∙◌, ap, sym, subst, map, ◌++◌, ◌∷◌, rules}
+use Rattle.std.proofs.Common.{◌∙◌, ap, sym, subst, map, ◌++◌, rules}
 use Rattle.cr_scalar.specs.Host.{host}
 use Rattle.cr_bags.specs.Bags.{gather}
 use Rattle.cr_query.specs.Query.{with_rows}
@@ -9,7 +9,7 @@ use Rattle.cr_exec.specs.LookUps.{join_of, rows_of}
 use Rattle.cr_exec.specs.Scopes.{there}
 use Rattle.cr_exec.proofs.Loops.{gather_next}
 use Rattle.cr_exec.proofs.Tails.{each_starts, each_fails}
-use Rattle.cr_exec.proofs.LeftOut.{inner_adds, left_adds, left_faults, indexed, later_sound}
+use Rattle.cr_exec.proofs.LeftOut.{inner_adds, left_adds, left_faults}
 use Rattle.cr_exec.proofs.join.+join.Goals as goal
 
 pub join_each-loop-row-init : goal.join_each-loop-row-init

@@ -1,9 +1,8 @@
-use Rattle.std.proofs.Common.{◌≡◌, ◌∙◌, ◌++◌, ◌∷◌, List, [], append_assoc, ap, map, map-id, subst, sym, true, false}
+use Rattle.std.proofs.Common.{◌≡◌, ◌∙◌, ◌++◌, ◌∷◌, List, [], append_assoc, ap, map, map-id, subst, sym}
 use Rattle.std.specs.Vec.Iter.{into_iter_items}
 use Rattle.std.proofs.lemmas.Iterator.Consumers.{YieldsList-end}
 use Rattle.std.proofs.lemmas.Iterator.Adapters.{YieldsList-from_vec}
 use Rattle.std.proofs.lemmas.Result.{err_from_is_err_and}
-use Rattle.cr_value.specs.declared.value.Value.{Value}
 use Rattle.cr_scalar.specs.Host.{Host, host}
 use Rattle.cr_bags.specs.Bags.{those}
 use Rattle.cr_query.specs.Query.{Row, all_true}

@@ -1,8 +1,7 @@
-use Rattle.std.proofs.Common.{rules, ◌≡◌, ◌∙◌, ap, map, sym, Some}
+use Rattle.std.proofs.Common.{◌∙◌, ap, map, sym}
 use Rattle.std.specs.Option.{option_map}
-use Rattle.cr_exec.specs.Equalities.{equality, sought}
+use Rattle.cr_exec.specs.Equalities.{sought}
 use Rattle.cr_exec.specs.Groups.{row_there}
-use Rattle.cr_exec.specs.Scopes.{there}
 use Rattle.cr_exec.proofs.Indexed.{wide_there}
 use Rattle.cr_exec.proofs.Sought.{asks_it, narrow_next, none_next}
 use Rattle.cr_exec.proofs.source.asked.Goals as goal

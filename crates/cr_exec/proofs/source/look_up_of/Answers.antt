@@ -1,9 +1,7 @@
-use Rattle.std.proofs.Common.{ap, map, ◌∙◌, rules}
+use Rattle.std.proofs.Common.{map, rules}
 use Rattle.cr_scalar.specs.Host.{host}
-use Rattle.cr_meaning.specs.View.{plain}
 use Rattle.cr_exec.specs.Groups.{row_there}
 use Rattle.cr_exec.specs.Scopes.{there}
-use Rattle.cr_exec.specs.Tails.{with_quiet_first}
 use Rattle.cr_exec.proofs.LeftOut.{inner_sound}
 use Rattle.cr_exec.proofs.source.look_up_of.Goals as goal
 

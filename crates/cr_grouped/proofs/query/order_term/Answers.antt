@@ -1,4 +1,4 @@
-use Rattle.std.proofs.Common.{rules, ◌∙◌, ap}
+use Rattle.std.proofs.Common.{rules}
 use Rattle.cr_grouped.proofs.Within.{ordered}
 use Rattle.cr_grouped.proofs.query.order_term.Goals as goal
 

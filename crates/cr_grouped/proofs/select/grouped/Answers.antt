@@ -1,4 +1,4 @@
-use Rattle.std.proofs.Common.{rules, ◌≡◌, ◌∙◌, ap, refl}
+use Rattle.std.proofs.Common.{rules, ◌∙◌, ap, refl}
 use Rattle.cr_grouped.specs.Grouping.{as_made, is_out_of_place, without_collates}
 use Rattle.cr_grouped.proofs.Finishing.{groups_want, groups_refused, groups_found}
 use Rattle.cr_grouped.proofs.select.grouped.Goals as goal

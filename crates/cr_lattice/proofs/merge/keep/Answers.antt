@@ -1,4 +1,4 @@
-use Rattle.std.proofs.Common.{List, [], rules}
+use Rattle.std.proofs.Common.{[], rules}
 use Rattle.std.proofs.lemmas.Fn.{always_returns_same, dedup_same}
 use Rattle.std.proofs.lemmas.List.Sorted.{ranks_by}
 use Rattle.cr_lattice.specs.Merge.{comes_before, goes_after}

@@ -1,7 +1,7 @@
-use Rattle.std.proofs.Common.{[], ◌∷◌, sym}
+use Rattle.std.proofs.Common.{[], sym}
 use Rattle.std.specs.Option.{option_map}
 use Rattle.cr_questions.specs.Questions.{asked_all}
-use Rattle.cr_questions.specs.Asked.{or_first_denied, relations, told}
+use Rattle.cr_questions.specs.Asked.{or_first_denied, told}
 use Rattle.cr_questions.proofs.Denials.{denied_more}
 use Rattle.cr_questions.proofs.Collected.{next_act}
 use Rattle.cr_permitted.proofs.insert.or_rows_denied.Goals as goal

@@ -1,8 +1,8 @@
-use Rattle.std.proofs.Common.{◌≡◌, [], ◌∷◌, drop}
+use Rattle.std.proofs.Common.{◌≡◌, [], drop}
 use Rattle.std.specs.Option.{option_map}
 use Rattle.std.specs.List.{flat_map}
 use Rattle.cr_questions.specs.Questions.{asked_all}
-use Rattle.cr_questions.specs.Asked.{or_first_denied, relations, told}
+use Rattle.cr_questions.specs.Asked.{or_first_denied, told}
 use Rattle.cr_permitted.proofs.insert.or_rows_denied.Given as goal
 
 abbrev pub invariant-loop-row : goal.invariant-loop-row

@@ -2,7 +2,7 @@ use Rattle.std.proofs.Common.{◌≡◌, [], ◌∷◌, drop}
 use Rattle.std.specs.Option.{option_map}
 use Rattle.std.specs.List.{flat_map}
 use Rattle.cr_questions.specs.Questions.{asked}
-use Rattle.cr_questions.specs.Asked.{or_first_denied, relations, told}
+use Rattle.cr_questions.specs.Asked.{or_first_denied, told}
 use Rattle.cr_permitted.proofs.update.or_values_denied.Given as goal
 
 abbrev pub invariant-loop-assignment : goal.invariant-loop-assignment

@@ -1,4 +1,4 @@
-use Rattle.std.proofs.Common.{rules, arith, ◌≡◌, ◌≢◌, ◌+◌, ◌<◌, ◌&&◌, ◌∙◌, ap, false, length, get_or, below_more, get_or-set_other, get_or-set_same}
+use Rattle.std.proofs.Common.{rules, arith, ◌≢◌, ◌+◌, ◌<◌, ◌&&◌, ◌∙◌, ap, false, length, get_or, below_more, get_or-set_other, get_or-set_same}
 use Rattle.std.proofs.lemmas.List.{get_or_read_under}
 use Rattle.cr_scalar.specs.Texts.{fits}
 use Rattle.cr_scalar.proofs.like.before_one.Goals as goal

@@ -6,7 +6,7 @@ use Rattle.std.specs.Ordering.{is_eq, is_lt}
 use Rattle.std.proofs.lemmas.List.Sorted.{IsPartitionPoint-from_clause}
 use Rattle.cr_query.specs.Query.{Row}
 use Rattle.cr_exec.specs.Equalities.{is_equal}
-use Rattle.cr_exec.specs.LookUps.{at_place, by_place, cell}
+use Rattle.cr_exec.specs.LookUps.{at_place, by_place}
 use Rattle.cr_exec.proofs.Indexed.{below_is, level_is, equal_is, null_finds, place_total, with_cell}
 use Rattle.cr_exec.proofs.Runs.{class_is, filter_agree, less_parted, level_parted, rest_is}
 use Rattle.cr_exec.proofs.index.Index.equal_to.Goals as goal

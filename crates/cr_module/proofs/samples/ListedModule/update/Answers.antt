@@ -1,4 +1,4 @@
-use Rattle.std.proofs.Common.{◌≡◌, ◌∙◌, ◌++◌, rules, sym, ap, List, Bool, true, cond, map, Ok, Err}
+use Rattle.std.proofs.Common.{◌≡◌, ◌∙◌, ◌++◌, rules, ap, List, Bool, true, cond, map, Ok, Err}
 use Rattle.cr_value.specs.declared.value.Value.{Value}
 use Rattle.cr_bags.specs.Bags.{single}
 use Rattle.cr_module.specs.Lawful.{value_at}
