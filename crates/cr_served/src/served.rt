@@ -42,6 +42,7 @@ pub trait Served {
         ensures ran { (has : List ℕ → Bool) → ⟦<F as Speaking>⟧.are_names functions.now has
             → ran (⟦<F as Speaking>⟧.language functions.now has) (⟦<G as Watching>⟧.closures guard.old) (self.old, G.rules guard.old) (self.new, G.rules guard.new) (command.now ∷ []) (result ∷ []) }
         ensures closures { ⟦<G as Watching>⟧.closures guard.new ≡ ⟦<G as Watching>⟧.closures guard.old }
+        ensures noting { G.noting guard.new ≡ G.noting guard.old }
         ensures faithful { G.is_faithful guard.new };
 
     /// None ran.

@@ -138,6 +138,7 @@ fn answer<T: Served, F: Functions, G: Guarding>(
     ensures replies { (entry : Entry) (before : List ℕ) → IfOk request (λ it. (it, gathered.old) ≡ asks before entry)
         → Replies (RanAs T.ran (⟦<F as Speaking>⟧.are_names functions.now) (⟦<F as Speaking>⟧.language functions.now) (⟦<G as Watching>⟧.closures guard.old)) (served.old, G.rules guard.old, before) entry result (served.new, G.rules guard.new, gathered.new) }
     ensures closures { ⟦<G as Watching>⟧.closures guard.new ≡ ⟦<G as Watching>⟧.closures guard.old }
+    ensures noting { G.noting guard.new ≡ G.noting guard.old }
     ensures faithful { G.is_faithful guard.new }
 {
     match request {
@@ -175,6 +176,7 @@ fn hear<W: Write, T: Served, F: Functions, G: Guarding>(
     ensures hears { (entry : Entry) (before : List ℕ) → IfOk request (λ it. (it, gathered.old) ≡ asks before entry)
         → Hears W.contents (RanAs T.ran (⟦<F as Speaking>⟧.are_names functions.now) (⟦<F as Speaking>⟧.language functions.now) (⟦<G as Watching>⟧.closures guard.old)) writer.old writer.new (served.old, G.rules guard.old, before) (served.new, G.rules guard.new, gathered.new) entry result }
     ensures closures { ⟦<G as Watching>⟧.closures guard.new ≡ ⟦<G as Watching>⟧.closures guard.old }
+    ensures noting { G.noting guard.new ≡ G.noting guard.old }
     ensures faithful { G.is_faithful guard.new }
 {
     match answer(alloc, served, functions, guard, gathered, request) {
@@ -201,6 +203,7 @@ fn hear_line<W: Write, T: Served, F: Functions, G: Guarding>(
         → HearsLine W.contents (RanAs T.ran (⟦<F as Speaking>⟧.are_names functions.now) (⟦<F as Speaking>⟧.language functions.now) (⟦<G as Watching>⟧.closures guard.old)) writer.old writer.new (served.old, G.rules guard.old, input.old.gathered) (served.new, G.rules guard.new, input.new.gathered) bytes result }
     ensures line { IsNewLine input.new.line }
     ensures closures { ⟦<G as Watching>⟧.closures guard.new ≡ ⟦<G as Watching>⟧.closures guard.old }
+    ensures noting { G.noting guard.new ≡ G.noting guard.old }
     ensures faithful { G.is_faithful guard.new }
 {
     let request = input.ask(alloc);
@@ -235,6 +238,7 @@ fn take_byte<W: Write, T: Served, F: Functions, G: Guarding>(
     requires guard { G.is_faithful guard.old }
     ensures takes { Takes W.contents (RanAs T.ran (⟦<F as Speaking>⟧.are_names functions.now) (⟦<F as Speaking>⟧.language functions.now) (⟦<G as Watching>⟧.closures guard.old)) writer.old writer.new (served.old, G.rules guard.old, input.old.gathered) (served.new, G.rules guard.new, input.new.gathered) input.old.line input.new.line byte result }
     ensures closures { ⟦<G as Watching>⟧.closures guard.new ≡ ⟦<G as Watching>⟧.closures guard.old }
+    ensures noting { G.noting guard.new ≡ G.noting guard.old }
     ensures faithful { G.is_faithful guard.new }
 {
     if byte != b'\n' {
@@ -259,6 +263,7 @@ fn hear_unfinished<W: Write, T: Served, F: Functions, G: Guarding>(
     ensures hears { (bytes : List ℕ) → IsKept input.old.line bytes
         → HearsUnfinished W.contents (RanAs T.ran (⟦<F as Speaking>⟧.are_names functions.now) (⟦<F as Speaking>⟧.language functions.now) (⟦<G as Watching>⟧.closures guard.old)) writer.old writer.new (served.old, G.rules guard.old, input.old.gathered) (served.new, G.rules guard.new, input.new.gathered) bytes result }
     ensures closures { ⟦<G as Watching>⟧.closures guard.new ≡ ⟦<G as Watching>⟧.closures guard.old }
+    ensures noting { G.noting guard.new ≡ G.noting guard.old }
     ensures faithful { G.is_faithful guard.new }
 {
     if input.line.is_empty() {
@@ -282,6 +287,7 @@ fn hear_last<W: Write, T: Served, F: Functions, G: Guarding>(
     ensures ends { (bytes : List ℕ) → IsKept input.old.line bytes
         → Ends W.contents (RanAs T.ran (⟦<F as Speaking>⟧.are_names functions.now) (⟦<F as Speaking>⟧.language functions.now) (⟦<G as Watching>⟧.closures guard.old)) writer.old writer.new (served.old, G.rules guard.old, input.old.gathered) (served.new, G.rules guard.new, input.new.gathered) bytes result }
     ensures closures { ⟦<G as Watching>⟧.closures guard.new ≡ ⟦<G as Watching>⟧.closures guard.old }
+    ensures noting { G.noting guard.new ≡ G.noting guard.old }
     ensures faithful { G.is_faithful guard.new }
 {
     match hear_unfinished(alloc, writer, served, functions, guard, input) {
@@ -328,6 +334,7 @@ pub fn serve<R: Read, W: Write, T: Served, F: Functions, G: Guarding>(
     requires guard { G.is_faithful guard.old }
     ensures serves { Serves W.contents (RanAs T.ran (⟦<F as Speaking>⟧.are_names functions.now) (⟦<F as Speaking>⟧.language functions.now) (⟦<G as Watching>⟧.closures guard.old)) R.remaining result reader.old reader.new writer.old writer.new (served.old, G.rules guard.old) (served.new, G.rules guard.new) }
     ensures closures { ⟦<G as Watching>⟧.closures guard.new ≡ ⟦<G as Watching>⟧.closures guard.old }
+    ensures noting { G.noting guard.new ≡ G.noting guard.old }
     ensures faithful { G.is_faithful guard.new }
 {
     let mut input = Input::new(alloc);

@@ -24,6 +24,7 @@ loop-init g c =
       reader = c.requires.reader;
       writer = c.requires.writer;
       closures = refl;
+      noting = refl;
       faithful = c.requires.guard;
     }
 
@@ -91,5 +92,6 @@ loop-preserved g c =
       reader = search rules;
       writer = t.1;
       closures = c.take_byte.ensures.closures ∙ c.loop.invariant.closures;
+      noting = c.take_byte.ensures.noting ∙ c.loop.invariant.noting;
       faithful = c.take_byte.ensures.faithful;
     }

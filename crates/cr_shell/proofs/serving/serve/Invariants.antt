@@ -13,5 +13,6 @@ invariant-loop g l = record {
   reader : l.reader.1 ≡ false;
   writer : l.writer.1 ≡ false;
   closures : closures (g.G.Guarding.allows l.guard) (g.G.Guarding.refuses l.guard) ≡ closures (g.G.Guarding.allows l.fn.guard) (g.G.Guarding.refuses l.fn.guard);
+  noting : g.G.Guarding.noting l.guard ≡ g.G.Guarding.noting l.fn.guard;
   faithful : g.G.Guarding.is_faithful l.guard;
 }
