@@ -1,13 +1,13 @@
 //! The modules of a session.
 
-ghost use Rattle.std.specs.Prelude.{◌≡◌, ◌⊎◌, ◌++◌, ◌∷◌, [], true, map, IfErr, IfOk, OnOk, is_some};
+ghost use Rattle.std.specs.Prelude.{◌≡◌, ◌⊎◌, [], true, map, IfErr, IfOk, OnOk, is_some};
 ghost use Rattle.std.specs.Option.{ForSome};
 ghost use Rattle.std.specs.Str.{str_to_ascii_lowercase};
 ghost use Rattle.cr_lattice.specs.Check.{same_bytes};
 ghost use Rattle.cr_lattice.specs.Profile.{is_reserved};
 ghost use Rattle.cr_module.specs.Lawful.{AreWide};
 ghost use Rattle.cr_world.specs.State.{ModuleState};
-ghost use Rattle.cr_world.specs.Causes.{Cause, Free, Tells};
+ghost use Rattle.cr_world.specs.Causes.{Free, Tells};
 ghost use Rattle.cr_world.specs.declared.refusal.Refusal.TheVariants.{Memory};
 ghost use Rattle.cr_modules.specs.States.{AreListed, IsPlace, Registers, Updates, are_distinct, definition_listed, made, module_in, module_width, register_cause};
 

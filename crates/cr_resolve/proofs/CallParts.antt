@@ -12,12 +12,12 @@ use Rattle.cr_resolve.specs.declared.call.Owner.TheVariants as of
 use Rattle.cr_resolve.specs.declared.call.Unread.{Unread}
 use Rattle.cr_resolve.specs.declared.call.Callee.{Callee}
 use Rattle.cr_resolve.specs.declared.call.Callee.TheVariants as to
-use Rattle.cr_resolve.specs.Known.{Known, collation}
+use Rattle.cr_resolve.specs.Known.{Known}
 use Rattle.cr_resolve.specs.Reading.{Read, each}
 use Rattle.cr_resolve.specs.Scope.{Source}
 use Rattle.cr_resolve.specs.Expressions.{Place, reader, expr}
-use Rattle.cr_resolve.specs.Told.{told, Refuses, Reads}
-use Rattle.cr_resolve.specs.Calls.{callee, unread_call, CallsUnread, scalar_call, CallsScalar, aggregate_call, CallsAggregate}
+use Rattle.cr_resolve.specs.Told.{Refuses, Reads}
+use Rattle.cr_resolve.specs.Calls.{callee, CallsUnread, scalar_call, CallsScalar, aggregate_call, CallsAggregate}
 use Rattle.cr_resolve.specs.Answered.{IsRead, AreRead}
 use Rattle.cr_resolve.proofs.Refusals.{ahead}
 use Rattle.cr_resolve.proofs.Called.{by_callee, called_as}

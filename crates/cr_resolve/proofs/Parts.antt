@@ -1,5 +1,5 @@
 -- What an answer says of an expression, by what answers say of its parts.
-use Rattle.std.proofs.Common.{◌≡◌, ◌∙◌, ℕ, Bool, false, not, List, [], ◌∷◌, ◌++◌, length, map, Option, Some, None, Result, Ok, Err, refl, ap, sym, subst}
+use Rattle.std.proofs.Common.{◌≡◌, ◌∙◌, ℕ, Bool, not, List, [], ◌++◌, map, Option, Result, Ok, Err, refl, ap, sym, subst}
 use Rattle.std.specs.Prelude.{IsErrAnd}
 use Rattle.std.specs.Option.{option_map}
 use Rattle.cr_value.specs.declared.value.Value.{Value}
@@ -18,10 +18,10 @@ use Rattle.cr_resolve.specs.declared.reading.Made.{Made}
 use Rattle.cr_resolve.specs.declared.operator.Operation.{Operation}
 use Rattle.cr_resolve.specs.declared.operator.Operation.TheVariants.{Comparison, Combination}
 use Rattle.cr_resolve.specs.Known.{Known, collation}
-use Rattle.cr_resolve.specs.Reading.{Read, fine, with, with_both, also, also_misplaced, each, if_any}
+use Rattle.cr_resolve.specs.Reading.{Read, fine, with, also, also_misplaced, each, if_any}
 use Rattle.cr_resolve.specs.Scope.{Source, column}
 use Rattle.cr_resolve.specs.Expressions.{Pair, sign_of, binary, in_of, between_of, case_of, cast_node, cast_target, expr}
-use Rattle.cr_resolve.specs.Told.{told, Refuses, Reads, Finds}
+use Rattle.cr_resolve.specs.Told.{told, Refuses, Reads}
 use Rattle.cr_resolve.specs.Operators.{operation_of, Operates}
 use Rattle.cr_resolve.specs.Compares.{IsAmong, IsBetween}
 use Rattle.cr_resolve.specs.declared.case.Arms.{Arms}

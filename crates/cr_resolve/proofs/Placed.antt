@@ -1,5 +1,5 @@
 -- What an expression is read as at a place, one node a lemma, and what an answer says of it by what answers say of its parts.
-use Rattle.std.proofs.Common.{◌≡◌, ◌∙◌, Bool, false, not, List, [], ◌∷◌, ◌++◌, length, map, Option, Some, None, Result, Ok, Err, refl, ap, sym, subst}
+use Rattle.std.proofs.Common.{◌≡◌, ◌∙◌, Bool, not, List, [], ◌∷◌, map, Option, Some, None, refl, ap, sym}
 use Rattle.std.specs.Option.{option_map}
 use Rattle.cr_value.specs.declared.value.Value.{Value}
 use Rattle.cr_tree.specs.declared.expr.Unary.{Unary as Sign}
@@ -15,13 +15,10 @@ use Rattle.cr_term.specs.declared.operator.Aggregate.TheVariants as k
 use Rattle.cr_term.specs.Nodes as e
 use Rattle.cr_term.specs.At.{at_is}
 use Rattle.cr_questions.specs.Questions.{Name}
-use Rattle.cr_resolve.specs.declared.refusal.Refusal.{Refusal}
-use Rattle.cr_resolve.specs.declared.reading.Made.{Made}
 use Rattle.cr_resolve.specs.Known.{Known, collation}
 use Rattle.cr_resolve.specs.Reading.{Read, fine, with, with_both, also, also_misplaced, each, if_any}
 use Rattle.cr_resolve.specs.Scope.{Source, column}
 use Rattle.cr_resolve.specs.Expressions.{Place, Reader, Arm, Pair, sign_of, binary, in_of, between_of, case_of, pair_of, cast_node, cast_target, call, node, arm, reader, expr}
-use Rattle.cr_resolve.specs.Told.{told, Refuses, Reads}
 use Rattle.cr_resolve.specs.Answered.{pair}
 
 -- ---- the nodes

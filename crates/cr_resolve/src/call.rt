@@ -5,7 +5,7 @@ ghost use Rattle.std.specs.Option.{option_copied, option_to_list};
 ghost use Rattle.cr_term.specs.Nodes as e;
 ghost use Rattle.cr_term.specs.Operands.{collation_of};
 ghost use Rattle.cr_resolve.specs.declared.call.Owner.TheVariants as of;
-ghost use Rattle.cr_resolve.specs.Calls.{callee_by, callee, engine_callee, CallsUnread, own_function, CallsScalar, engine_kind, kind_of, CallsAggregate};
+ghost use Rattle.cr_resolve.specs.Calls.{callee, engine_callee, CallsUnread, own_function, CallsScalar, engine_kind, kind_of, CallsAggregate};
 ghost use Rattle.cr_resolve.specs.Expressions.{own_collations};
 ghost use Rattle.cr_resolve.specs.Known.{collation, collations};
 ghost use Rattle.cr_resolve.specs.Reading.{with, also_misplaced};

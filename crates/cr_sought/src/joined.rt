@@ -1,7 +1,7 @@
 //! The keys of the rows of a table that can be joined with rows of others.
 
 ghost use Rattle.std.specs.Prelude.{◌≡◌, ◌++◌, IfOk};
-ghost use Rattle.std.specs.List.{list_all, list_any};
+ghost use Rattle.std.specs.List.{list_all};
 ghost use Rattle.std.specs.Option.{option_map};
 ghost use Rattle.cr_bags.specs.Bags.{single};
 ghost use Rattle.cr_term.specs.Terms.{quiet};

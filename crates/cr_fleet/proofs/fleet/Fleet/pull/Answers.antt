@@ -24,7 +24,7 @@ returns-in_default-place_of-clause-steps g c = λ l.
     rw (← c.self.view_is) (
       pull_unknown l _ (clean g.C.Cells.is_clean) (standing g.C.Cells.holding) _ _ c.args.name.now c.in-Some.at _ place paired
           (ap (λ (o : Option ℕ). item_at o (map pair items)) (place_paired items c.self.inside.in_use c.args.name.now None (search rules))),
-      λ clean w s. quiet_pull l (closures (g.G.Guarding.allows c.args.guard.now) (g.G.Guarding.refuses c.args.guard.now)) (λ from to events. HasHeard g.G.Guarding.noted g.G.Guarding.noting from to events) w c.args.name.now _ _ _ refl,
+      λ clean w s. quiet_pull l (closures (g.G.Guarding.allows c.args.guard.now) (g.G.Guarding.refuses c.args.guard.now)) (λ from to events. HasHeard g.G.Guarding.noted g.G.Guarding.noting from to events) w c.args.name.now _ _ _ (refl, refl),
     )
 
 pub returns-then-in_transaction-clause-steps : goal.returns-then-in_transaction-clause-steps
@@ -36,7 +36,7 @@ returns-then-in_transaction-clause-steps g c = λ l.
     let met = c.in-Some-get-2.ensures.lookup in
     let there = pair_at items c.in-Some-place_of.from c.in-Some-get-2.peer.now (found_there c.deref-3.result.now items c.in-Some-place_of.from c.in-Some-get-2.peer.now c.deref-3.ensures.value met.3.0 met.1) in
     let from = place_paired items c.self.inside.in_use c.args.name.now (Some c.in-Some-place_of.from) (sym c.in-Some-place_of.is ∙ c.place_of.ensures ∙ (λ i. position (λ n. same_bytes n.name (c.as_str.ensures.value i)) (c.deref-2.ensures.value i))) in
-    rw (← c.self.view_is) (pull_in_transaction l _ (clean g.C.Cells.is_clean) (standing g.C.Cells.holding) _ _ c.args.name.now c.in-Some.at _ place paired c.in-Some-place_of.from _ from there (sym c.in_transaction.ensures ∙ c.if-in_transaction.true), λ clean w s. quiet_pull l (closures (g.G.Guarding.allows c.args.guard.now) (g.G.Guarding.refuses c.args.guard.now)) (λ from to events. HasHeard g.G.Guarding.noted g.G.Guarding.noting from to events) w c.args.name.now _ _ _ refl)
+    rw (← c.self.view_is) (pull_in_transaction l _ (clean g.C.Cells.is_clean) (standing g.C.Cells.holding) _ _ c.args.name.now c.in-Some.at _ place paired c.in-Some-place_of.from _ from there (sym c.in_transaction.ensures ∙ c.if-in_transaction.true), λ clean w s. quiet_pull l (closures (g.G.Guarding.allows c.args.guard.now) (g.G.Guarding.refuses c.args.guard.now)) (λ from to events. HasHeard g.G.Guarding.noted g.G.Guarding.noting from to events) w c.args.name.now _ _ _ (refl, refl))
 
 pub returns-then-same_bytes-clause-steps : goal.returns-then-same_bytes-clause-steps
 returns-then-same_bytes-clause-steps g c = λ l.
@@ -52,7 +52,7 @@ returns-then-same_bytes-clause-steps g c = λ l.
           sym (λ i. same_bytes (c.site_id.ensures (all_at (λ x. g.C.Cells.is_clean x.1.0) (map pair items) c.in-Some-place_of.from _ clean there) i)
           (c.site_id-2.ensures (all_at (λ x. g.C.Cells.is_clean x.1.0) (map pair items) c.in-Some.at _ clean paired) i))
           ∙ sym c.same_bytes.ensures ∙ c.if-same_bytes.true),
-      λ clean w s. quiet_pull l (closures (g.G.Guarding.allows c.args.guard.now) (g.G.Guarding.refuses c.args.guard.now)) (λ from to events. HasHeard g.G.Guarding.noted g.G.Guarding.noting from to events) w c.args.name.now _ _ _ refl,
+      λ clean w s. quiet_pull l (closures (g.G.Guarding.allows c.args.guard.now) (g.G.Guarding.refuses c.args.guard.now)) (λ from to events. HasHeard g.G.Guarding.noted g.G.Guarding.noting from to events) w c.args.name.now _ _ _ (refl, refl),
     )
 
 pub returns-in-Err-clause-steps : goal.returns-in-Err-clause-steps
@@ -76,7 +76,7 @@ returns-in-Err-clause-steps g c = λ l.
     rw c.from.ensures (rw (← c.self.view_is) (rw (map_set pair items c.in-Some-place_of.from _) (
       pull_unread l _ (clean g.C.Cells.is_clean) (standing g.C.Cells.holding) _ _ c.args.name.now c.in-Some.at _ place paired c.in-Some-place_of.from _ from there (sym c.in_transaction.ensures ∙ c.if-in_transaction.false) _ refl c.changes_above.ensures.device.was_clean sites c.in-Err.error (c.in-Err.ensures.device.stays_clean (g.met.C.NewCells.always_honest _))
           (λ clean. ((λ i. state_of ((c.in-Err.ensures.reads clean).same i) (c.changes_above.ensures.pending i)), (c.in-Err.ensures.reads clean).answers)),
-      λ clean w s. quiet_pull l (closures (g.G.Guarding.allows c.args.guard.now) (g.G.Guarding.refuses c.args.guard.now)) (λ from to events. HasHeard g.G.Guarding.noted g.G.Guarding.noting from to events) w c.args.name.now _ _ _ refl,
+      λ clean w s. quiet_pull l (closures (g.G.Guarding.allows c.args.guard.now) (g.G.Guarding.refuses c.args.guard.now)) (λ from to events. HasHeard g.G.Guarding.noted g.G.Guarding.noting from to events) w c.args.name.now _ _ _ (refl, refl),
     )))
 
 pub returns-clause-steps : goal.returns-clause-steps

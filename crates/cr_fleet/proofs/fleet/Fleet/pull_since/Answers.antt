@@ -23,7 +23,7 @@ returns-in_default-place_of-clause-steps g c = λ l.
     rw (← c.self.view_is) (
       since_unknown l _ (clean g.C.Cells.is_clean) (standing g.C.Cells.holding) _ _ c.args.name.now c.in-Some.at _ place paired
           (ap (λ (o : Option ℕ). item_at o (map pair items)) (place_paired items c.self.inside.in_use c.args.name.now None (search rules))),
-      λ clean w s. quiet_pull_since l (closures (g.G.Guarding.allows c.args.guard.now) (g.G.Guarding.refuses c.args.guard.now)) (λ from to events. HasHeard g.G.Guarding.noted g.G.Guarding.noting from to events) w c.args.name.now _ _ _ refl,
+      λ clean w s. quiet_pull_since l (closures (g.G.Guarding.allows c.args.guard.now) (g.G.Guarding.refuses c.args.guard.now)) (λ from to events. HasHeard g.G.Guarding.noted g.G.Guarding.noting from to events) w c.args.name.now _ _ _ (refl, refl),
     )
 
 pub returns-then-in_transaction-clause-steps : goal.returns-then-in_transaction-clause-steps
@@ -37,7 +37,7 @@ returns-then-in_transaction-clause-steps g c = λ l.
     let from = place_paired items c.self.inside.in_use c.args.name.now (Some c.in-Some-place_of.from) (sym c.in-Some-place_of.is ∙ c.place_of.ensures ∙ (λ i. position (λ n. same_bytes n.name (c.as_str.ensures.value i)) (c.deref-2.ensures.value i))) in
     rw (← c.self.view_is) (
       since_in_transaction l _ (clean g.C.Cells.is_clean) (standing g.C.Cells.holding) _ _ c.args.name.now c.in-Some.at _ place paired c.in-Some-place_of.from _ from there (sym c.in_transaction.ensures ∙ c.if-in_transaction.true),
-      λ clean w s. quiet_pull_since l (closures (g.G.Guarding.allows c.args.guard.now) (g.G.Guarding.refuses c.args.guard.now)) (λ from to events. HasHeard g.G.Guarding.noted g.G.Guarding.noting from to events) w c.args.name.now _ _ _ refl,
+      λ clean w s. quiet_pull_since l (closures (g.G.Guarding.allows c.args.guard.now) (g.G.Guarding.refuses c.args.guard.now)) (λ from to events. HasHeard g.G.Guarding.noted g.G.Guarding.noting from to events) w c.args.name.now _ _ _ (refl, refl),
     )
 
 pub returns-then-same_bytes-clause-steps : goal.returns-then-same_bytes-clause-steps
@@ -54,7 +54,7 @@ returns-then-same_bytes-clause-steps g c = λ l.
           sym (λ i. same_bytes (c.site_id-site.ensures (all_at (λ x. g.C.Cells.is_clean x.1.0) (map pair items) c.in-Some-place_of.from _ clean there) i)
           (c.site_id.ensures (all_at (λ x. g.C.Cells.is_clean x.1.0) (map pair items) c.in-Some.at _ clean paired) i))
           ∙ sym c.same_bytes.ensures ∙ c.if-same_bytes.true),
-      λ clean w s. quiet_pull_since l (closures (g.G.Guarding.allows c.args.guard.now) (g.G.Guarding.refuses c.args.guard.now)) (λ from to events. HasHeard g.G.Guarding.noted g.G.Guarding.noting from to events) w c.args.name.now _ _ _ refl,
+      λ clean w s. quiet_pull_since l (closures (g.G.Guarding.allows c.args.guard.now) (g.G.Guarding.refuses c.args.guard.now)) (λ from to events. HasHeard g.G.Guarding.noted g.G.Guarding.noting from to events) w c.args.name.now _ _ _ (refl, refl),
     )
 
 pub returns-in-Err-clause-steps : goal.returns-in-Err-clause-steps
@@ -79,7 +79,7 @@ returns-in-Err-clause-steps g c = λ l.
     rw c.from.ensures (rw (← c.self.view_is) (rw (map_set pair items c.in-Some.at _) (
       since_unseen l _ (clean g.C.Cells.is_clean) (standing g.C.Cells.holding) _ _ c.args.name.now c.in-Some.at _ place paired c.in-Some-place_of.from _ from there outside sites _ refl c.seen.ensures.device.was_clean c.in-Err.error (c.in-Err.ensures.device.stays_clean (g.met.C.NewCells.always_honest _))
           (λ clean. ((λ i. state_of ((c.in-Err.ensures.reads clean).same i) (c.seen.ensures.pending i)), (c.in-Err.ensures.reads clean).answers)),
-      λ clean w s. quiet_pull_since l (closures (g.G.Guarding.allows c.args.guard.now) (g.G.Guarding.refuses c.args.guard.now)) (λ from to events. HasHeard g.G.Guarding.noted g.G.Guarding.noting from to events) w c.args.name.now _ _ _ refl,
+      λ clean w s. quiet_pull_since l (closures (g.G.Guarding.allows c.args.guard.now) (g.G.Guarding.refuses c.args.guard.now)) (λ from to events. HasHeard g.G.Guarding.noted g.G.Guarding.noting from to events) w c.args.name.now _ _ _ (refl, refl),
     )))
 
 pub returns-clause-steps : goal.returns-clause-steps

@@ -23,7 +23,7 @@ returns-in-Err-clause-steps g c = λ l name o.
     rw c.from.ensures (rw (← c.self.view_is) (rw (map_set pair items c.args.from _) (
       since_unread l _ (clean g.C.Cells.is_clean) (standing g.C.Cells.holding) _ _ name c.args.at c.args.from c.args.seen (met_peer (clean g.C.Cells.is_clean) (standing g.C.Cells.holding) _ name c.args.at c.args.from c.args.seen (rw (← c.self.view_is) at o) _ there) _ refl c.changes_above.ensures.device.was_clean
           c.in-Err.error (c.in-Err.ensures.device.stays_clean (g.met.C.NewCells.always_honest _)) (λ clean. ((λ i. state_of ((c.in-Err.ensures.reads clean).same i) (c.changes_above.ensures.pending i)), (c.in-Err.ensures.reads clean).answers)),
-      λ clean w s. quiet_pull_since l (closures (g.G.Guarding.allows c.args.guard.now) (g.G.Guarding.refuses c.args.guard.now)) (λ from to events. HasHeard g.G.Guarding.noted g.G.Guarding.noting from to events) w name _ _ _ refl,
+      λ clean w s. quiet_pull_since l (closures (g.G.Guarding.allows c.args.guard.now) (g.G.Guarding.refuses c.args.guard.now)) (λ from to events. HasHeard g.G.Guarding.noted g.G.Guarding.noting from to events) w name _ _ _ (refl, refl),
     )))
 
 pub returns-then-version-lt0-clause-steps : goal.returns-then-version-lt0-clause-steps
@@ -35,7 +35,7 @@ returns-then-version-lt0-clause-steps g c = λ l name o.
     rw (← c.self.view_is) (rw (map_set pair items c.args.from _) (
       since_no_version l _ (clean g.C.Cells.is_clean) (standing g.C.Cells.holding) _ _ name c.args.at c.args.from c.args.seen (met_peer (clean g.C.Cells.is_clean) (standing g.C.Cells.holding) _ name c.args.at c.args.from c.args.seen (rw (← c.self.view_is) at o) _ there) _ refl c.changes_above.ensures.device.was_clean
           (λ clean i. state_of ((c.in-Ok.ensures.reads clean).same i) (c.changes_above.ensures.pending i)),
-      λ clean w s. quiet_pull_since l (closures (g.G.Guarding.allows c.args.guard.now) (g.G.Guarding.refuses c.args.guard.now)) (λ from to events. HasHeard g.G.Guarding.noted g.G.Guarding.noting from to events) w name _ _ _ refl,
+      λ clean w s. quiet_pull_since l (closures (g.G.Guarding.allows c.args.guard.now) (g.G.Guarding.refuses c.args.guard.now)) (λ from to events. HasHeard g.G.Guarding.noted g.G.Guarding.noting from to events) w name _ _ _ (refl, refl),
     ))
 
 pub returns-in_default-get_mut-clause-steps : goal.returns-in_default-get_mut-clause-steps
