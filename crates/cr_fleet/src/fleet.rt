@@ -1,6 +1,6 @@
 //! A fleet of replicas that take and pull changes and run scripts.
 
-ghost use Rattle.std.specs.Prelude.{◌≡◌, ◌⊎◌, IfOk, OnErr, position};
+ghost use Rattle.std.specs.Prelude.{◌≡◌, IfOk, OnErr, position};
 ghost use Rattle.std.specs.List.{list_any, list_all, AllByRecursion};
 ghost use Rattle.std.specs.Char.{is_ascii_alphanumeric};
 ghost use Rattle.cr_lattice.specs.Check.{same_bytes};

@@ -43,7 +43,7 @@ fn read_only(alloc: Global, relation: &Relation) -> Refusal
 }
 
 impl<C: Cells, M: Module> HostedSession<C, M> {
-    ghost use Rattle.std.specs.Prelude.{true, false, List, is_some, map};
+    ghost use Rattle.std.specs.Prelude.{true, false, is_some, map};
     ghost use Rattle.std.specs.Option.{ForSome};
     ghost use Rattle.cr_value.specs.declared.value.Value.{Value};
     ghost use Rattle.cr_cells.specs.Holding.{IsSound};
@@ -51,7 +51,6 @@ impl<C: Cells, M: Module> HostedSession<C, M> {
     ghost use Rattle.cr_language.specs.Sql.{target};
     ghost use Rattle.cr_modules.specs.States.{definition_listed, module_in};
     ghost use Rattle.cr_replica.specs.Snapshots.{IsWhole};
-    ghost use Rattle.cr_scalar.specs.Host.{Host as Means};
     ghost use Rattle.cr_snapshot.specs.Seen.{IsNamed, catalog_of};
     ghost use Rattle.cr_term.specs.declared.query.Resolved.TheVariants as r;
     ghost use Rattle.cr_world.specs.State.{heard_between};

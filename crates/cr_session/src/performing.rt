@@ -158,7 +158,7 @@ impl<C: Cells> Session<C> {
     ghost use Rattle.cr_world.specs.Statement.{Host};
     ghost use Rattle.cr_script.specs.Hearing.{Hears};
     ghost use Rattle.cr_session.specs.Joining.{IsJoinOf};
-    ghost use Rattle.cr_session.specs.Performing.{Performed, is_performed, is_table};
+    ghost use Rattle.cr_session.specs.Performing.{Performed, is_performed};
     ghost use Rattle.cr_session.specs.Sessions.{clean, honest, standing};
 
     // Answers a SELECT of tables that are joined.

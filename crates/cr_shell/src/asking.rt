@@ -1,7 +1,6 @@
 //! What a line asks, and the SQL that is gathered.
 
-ghost use Rattle.std.specs.Prelude.{◌≡◌, ◌==◌, ◌∷◌, ◌++◌, [], nat_lt, IfOk};
-ghost use Rattle.std.specs.List.{list_any};
+ghost use Rattle.std.specs.Prelude.{◌≡◌, ◌==◌, [], IfOk};
 ghost use Rattle.std.specs.Io.BufRead.{strip_last};
 ghost use Rattle.cr_language.specs.Texts.{tokens_of};
 ghost use Rattle.cr_shell.specs.Asking.{has_token, ends_in_semicolon, has_semicolon, begins_with_dot, asks_command, is_command, is_too_long, gathered_with, asks_sql, asked, asked_at_end, AsksReady};

@@ -4,10 +4,9 @@ ghost use Rattle.std.specs.Prelude.{◌≡◌, drop, IfOk, IfSome};
 ghost use Rattle.cr_world.specs.Answers.{IsReady};
 ghost use Rattle.std.specs.Option.{option_map};
 ghost use Rattle.hex.specs.Hex.{decode_sized};
-ghost use Rattle.cr_value.specs.Reading.{literal_at};
 ghost use Rattle.cr_world.specs.declared.command.Command.TheVariants.{Use, Rows, Changes, Pull, PullSince, Take};
 ghost use Rattle.cr_host.specs.Names.{folded};
-ghost use Rattle.cr_shell.specs.Lines.{barred, is_int, integer_behind_bar, cell_of, content_of, origin_of, row_of, site_in, open_of, word_of, integer_of, most_of, rule_of, veto_of, command_in, command_of};
+ghost use Rattle.cr_shell.specs.Lines.{barred, integer_behind_bar, cell_of, content_of, origin_of, row_of, site_in, open_of, word_of, integer_of, most_of, rule_of, veto_of, command_in, command_of};
 
 use crate::table_line::table_of;
 use crate::words::{behind_from, has_space, is_at_end, literal_from, split_at_space};

@@ -1,6 +1,6 @@
 //! Values as bytes, in pieces that take no memory.
 
-ghost use Rattle.std.specs.Prelude.{◌≡◌, ◌∷◌, ◌++◌, codes, [], List};
+ghost use Rattle.std.specs.Prelude.{◌∷◌, ◌++◌, codes, []};
 ghost use Rattle.hex.specs.Hex.{encode_upper};
 ghost use Rattle.cr_value.specs.Literal.{doubled, quoted, blob_literal, text_literal, literal};
 ghost use Rattle.cr_shell.specs.Printing.{Prints};

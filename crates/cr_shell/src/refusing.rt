@@ -1,6 +1,6 @@
 //! Refusals as bytes, in pieces that take no memory.
 
-ghost use Rattle.std.specs.Prelude.{◌≡◌, ◌∷◌, ◌++◌, codes, decimal, List};
+ghost use Rattle.std.specs.Prelude.{◌≡◌, ◌∷◌, ◌++◌, codes, decimal};
 ghost use Rattle.cr_value.specs.Literal.{text_literal};
 ghost use Rattle.cr_shell.specs.Printing.{Prints};
 ghost use Rattle.cr_shell.specs.Refusing.{outside_word, limit_word, reason_word, denied, eval_fault, details, refusal_head, refusal_line};

@@ -4,7 +4,7 @@ ghost use Rattle.std.specs.Prelude.{◌≡◌, ◌≤◌, drop, map, length, IfO
 ghost use Rattle.std.specs.List.{list_any};
 ghost use Rattle.std.specs.Option.{option_map};
 ghost use Rattle.cr_world.specs.Answers.{IsReady};
-ghost use Rattle.cr_shell.specs.TableLine.{mark_at, marks_at, word_len, word_at, default_at, place_in_key, column_of, column_at, keys_with, columns_in, declaration_of, table_of};
+ghost use Rattle.cr_shell.specs.TableLine.{mark_at, marks_at, word_len, word_at, default_at, place_in_key, column_of, column_at, columns_in, declaration_of, table_of};
 
 use crate::words::{behind_from, is_at_end, literal_from, split_at_space};
 use cr_lattice::table::{ColumnDef, Items, TableDef};

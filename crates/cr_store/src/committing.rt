@@ -1,6 +1,6 @@
 //! A commit, over a connection.
 
-ghost use Rattle.std.specs.Prelude.{◌≡◌, ℤ, pos, ◌+ℤ◌, not, ◌&&◌, cond, true, false, IsTrue, MatchResult, IfOk, Option};
+ghost use Rattle.std.specs.Prelude.{◌≡◌, ℤ, pos, ◌+ℤ◌, not, cond, false, IsTrue, MatchResult, IfOk, Option};
 ghost use Rattle.std.specs.Ordering.{int_eq};
 ghost use Rattle.sqlite.specs.Held.{state};
 ghost use Rattle.sqlite.specs.State.{HasCleanDisk};

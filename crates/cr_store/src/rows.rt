@@ -1,6 +1,6 @@
 //! The rows of `cr_cell2`: what is written and read.
 
-ghost use Rattle.std.specs.Prelude.{◌≡◌, true, [], ◌∷◌, ◌++◌, IfOk, OnOk};
+ghost use Rattle.std.specs.Prelude.{◌≡◌, true, [], ◌∷◌, IfOk};
 ghost use Rattle.sqlite.specs.declared.types.Value.TheVariants.{Null as SqlNull, Text as SqlText, Blob as SqlBlob, Int as SqlInt};
 ghost use Rattle.sqlite.specs.Values.{bound, bound_value};
 ghost use Rattle.sqlite_value.specs.Order.{column};

@@ -1,14 +1,13 @@
 //! The store.
 
-ghost use Rattle.std.specs.Prelude.{◌≡◌, ◌≢◌, None, ◌≤ℤ◌, ◌+◌, pos, length, true, false, [], IsTrue, IfOk, IfErr, OnErr, MatchResult, Err};
+ghost use Rattle.std.specs.Prelude.{◌≡◌, ◌≢◌, None, ◌+◌, true, false, IfOk, IfErr, MatchResult, Err};
 ghost use Rattle.std.specs.List.{AllByRecursion};
-ghost use Rattle.std.specs.Option.{ForSome};
 ghost use Rattle.sqlite.specs.Held.{state};
 ghost use Rattle.sqlite.specs.State.{HasCleanDisk};
 ghost use Rattle.cr_rows.specs.Schema.{no_schema};
-ghost use Rattle.cr_cells.specs.Calls.{IsRefusal, Reads, Defines, Commits, is_want, StaysClean};
+ghost use Rattle.cr_cells.specs.Calls.{IsRefusal, Defines, is_want, StaysClean};
 ghost use Rattle.cr_cells.specs.Holding.{empty_holding, IsSound, since, cells_of, cells_of_table};
-ghost use Rattle.cr_cells.specs.Tables.{AreWellFormed, IsNewTable, IsNewColumn, has_defaults, with_table, with_replicated, with_added, is_markable};
+ghost use Rattle.cr_cells.specs.Tables.{IsNewTable, has_defaults, with_table, with_replicated, with_added};
 ghost use Rattle.cr_store.specs.Making.{has_store, IsRefused};
 ghost use Rattle.cr_store.specs.Opening.{IsReadableTable, IsHeldIn, IsHeld, IsOpenError, FailsToOpen};
 ghost use Rattle.cr_store.specs.Schema.{schema_of};
@@ -26,7 +25,7 @@ use crate::records::crr_of;
 use crate::rows::refusal;
 use crate::shape::format_of;
 use crate::tables::{add_table, make, redefine, replicate};
-use cr_cells::marks::{Mark, seen_of};
+use cr_cells::marks::seen_of;
 use cr_cells::page::Page;
 use cr_cells::store::{Cells, CellsError, StoreFault};
 use cr_cells::tables::{add, copies, table_named, with_added, with_column, with_replicated};

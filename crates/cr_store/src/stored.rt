@@ -1,6 +1,6 @@
 //! What the rows of a store's tables say, read without trust in them.
 
-ghost use Rattle.std.specs.Prelude.{◌≡◌, ◌≢◌, ℕ, ℤ, ◌<◌, List, map, length, IfOk, IfErr, MatchOption, MatchResult, Decides};
+ghost use Rattle.std.specs.Prelude.{◌≡◌, ◌≢◌, ◌<◌, List, map, length, IfOk, MatchOption, MatchResult, Decides};
 ghost use Rattle.std.specs.List.{AllByRecursion, IsDistinct};
 ghost use Rattle.std.specs.Ordering.{int_eq};
 ghost use Rattle.sqlite.specs.declared.error.Error.TheVariants.{SqliteFailure};
@@ -15,7 +15,6 @@ ghost use Rattle.cr_store.specs.Rows.{value_in};
 ghost use Rattle.cr_store.specs.Stored.{IsText, IsBlob, IsInteger, IsSite, IsFlag, is_one, IsKept, AreStored};
 ghost use Rattle.cr_store.specs.Opening.{IsDamage};
 
-use crate::rows::OUT_OF_MEMORY;
 use cr_cells::marks::Mark;
 use cr_cells::store::{CellsError, StoreFault};
 use cr_lattice::change::Site;

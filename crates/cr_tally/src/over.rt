@@ -1,6 +1,6 @@
 //! What a query without GROUP BY evaluates over its one group, where what the aggregates give is shown.
 
-ghost use Rattle.std.specs.Prelude.{◌≡◌, [], map, IfOk};
+ghost use Rattle.std.specs.Prelude.{[], map, IfOk};
 ghost use Rattle.std.specs.Option.{ForSome};
 ghost use Rattle.cr_exec.specs.Answers.{IsBoth};
 ghost use Rattle.cr_exec.specs.Shows.{shown_of};

@@ -1,6 +1,6 @@
 //! A table of the host's that has no row in memory.
 
-ghost use Rattle.std.specs.Prelude.{◌≡◌, ◌≤◌, ◌<◌, ◌+◌, ◌^◌, ◌∷◌, ◌++◌, [], length, map, position, IfOk, OnOk};
+ghost use Rattle.std.specs.Prelude.{◌≡◌, ◌<◌, ◌+◌, ◌^◌, ◌∷◌, ◌++◌, [], length, map, position, IfOk, OnOk};
 ghost use Rattle.embedding.specs.Counted.{bounds_below, cut, digit, digits, end_of, is_lower, is_upper, natural, number_column, numbers, op_at, op_of, part, passed, place_of, places, whole};
 
 use cr_lattice::table::{ColumnDef, Items, Row};

@@ -13,8 +13,6 @@
 //! | `compares` | the name of a collation, and a row of two texts |
 //! | `built_in` | a name, and a count of arguments, without a registry |
 
-ghost use Rattle.std.specs.Prelude.{IfOk};
-
 use crate::values::order_word;
 use cr_host::built_in::{is_built_in_aggregate, is_built_in_function, is_built_in_scalar};
 use cr_host::fault::{AddFault, FnFault};
