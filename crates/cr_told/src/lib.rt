@@ -4,6 +4,7 @@
 //! may be empty, and then `|NOT NULL` or `||` and a collation may stand. The parts of a list stand apart by ` / `.
 #![tactic(auto)]
 
+pub mod cases;
 pub mod error;
 pub mod expansion;
 pub mod lines;
