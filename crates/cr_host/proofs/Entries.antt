@@ -183,6 +183,17 @@ pub any-shown : {K X L : Type 0} (shown : K × X → L) (p : L → Bool) (q : K 
 any-shown shown p q same [] = refl
 any-shown shown p q same (e ∷ es) = ap (λ b. b || list_any q (keys_of es)) (same e) ∙ ap (λ b. p (shown e) || b) (any-shown shown p q same es)
 
+-- and the place where one passes
+prefix-shown : {K X L : Type 0} (shown : K × X → L) (p : L → Bool) (q : K → Bool) → ((e : K × X) → q e.0 ≡ p (shown e)) → (es : List (K × X)) → prefix_len q (keys_of es) ≡ prefix_len p (map shown es)
+prefix-shown shown p q same [] = refl
+prefix-shown shown p q same (e ∷ es) = ap (λ b. cond b (1 + prefix_len q (keys_of es)) 0) (same e) ∙ ap (λ n. cond (p (shown e)) (1 + n) 0) (prefix-shown shown p q same es)
+
+pub position-shown : {K X L : Type 0} (shown : K × X → L) (p : L → Bool) (q : K → Bool) → ((e : K × X) → q e.0 ≡ p (shown e)) → (es : List (K × X)) → position q (keys_of es) ≡ position p (map shown es)
+position-shown shown p q same es =
+    let lengths : length (keys_of es) ≡ length (map shown es) = length-map es _ ∙ sym (length-map es shown) in
+    let before = prefix-shown shown (λ l. not (p l)) (λ k. not (q k)) (λ e. ap not (same e)) es in
+    ap (λ n. cond (nat_lt n (length (keys_of es))) (Some n) None) before ∙ ap (λ m. cond (nat_lt (prefix_len (λ l. not (p l)) (map shown es)) m) (Some (prefix_len (λ l. not (p l)) (map shown es))) None) lengths
+
 module _ {X : Type 0} (number : X → ℕ) (order : ℕ → List ℕ → List ℕ → Ordering) where
   -- a collation as it is listed
   abbrev pub named : FoldedName × X → Named

@@ -1,5 +1,5 @@
 -- What a registry lists, and how its entries are found. Source: this project's own rules.
-use Rattle.std.specs.Prelude.{◌≡◌, ℕ, ◌&&◌, ◌==◌, not, List, [], ◌∷◌, Bool, true, false, if◌then◌else◌, Option, Some, None, Result, Ok, Err, map, filter, slice_get}
+use Rattle.std.specs.Prelude.{◌≡◌, ℕ, ◌&&◌, ◌==◌, not, List, [], ◌∷◌, Bool, true, false, if◌then◌else◌, Option, Some, None, Result, Ok, Err, map, filter, position, slice_get}
 use Rattle.std.specs.Option.{option_map}
 use Rattle.std.specs.List.{list_any}
 use Rattle.std.specs.Str.{bytes_eq}
@@ -75,6 +75,10 @@ with_collation name number (c ∷ cs) = if is_named name c then record c { numbe
 -- the order of texts under a name: a built-in collation's, else that of the host's definition under that name
 abbrev pub order_for : (ℕ → List ℕ → List ℕ → Ordering) → List ℕ → List Named → Option (List ℕ → List ℕ → Ordering)
 order_for order name cs = elim (built_in_collation name) as (λ _. Option (List ℕ → List ℕ → Ordering)) [ Some c ↦ Some (text_cmp c) | None ↦ option_map order (number_at name cs) ]
+
+-- the collation of a name as it is found: a built-in one, else the place of the host's under that name, the oldest at 0
+abbrev pub found_for : List ℕ → List Named → Option FoundCollation
+found_for name cs = elim (built_in_collation name) as (λ _. Option FoundCollation) [ Some c ↦ Some (BuiltIn c) | None ↦ option_map Host (position (is_named name) cs) ]
 
 -- the order of texts under the host's collation at a place: that of its definition, or BINARY's where there is none
 abbrev pub order_at : (ℕ → List ℕ → List ℕ → Ordering) → List Named → ℕ → List ℕ → List ℕ → Ordering

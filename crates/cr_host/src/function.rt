@@ -2,7 +2,7 @@
 
 ghost use Rattle.std.specs.Prelude.{◌≡◌, Some, IfSome};
 ghost use Rattle.cr_host.specs.Meets.{Meets, AnswersAs, StepsAs, FinishesAs, ComparesAs, CallsAt, FoldsAt, HasMemory};
-ghost use Rattle.cr_host.specs.Registry.{definition};
+ghost use Rattle.cr_host.specs.Registry.{AnswersBy, definition};
 
 use crate::fault::FnFault;
 use crate::functions::Answering;
@@ -113,6 +113,7 @@ impl<H: HostMeaning> Function<H> {
     pub fn call(&self, args: &[Value]) -> Option<Result<Value, FnFault>>
         requires { ⟦<Function<H> as Answering>⟧.answers self.now }
         ensures value { CallsAt (Some (definition self.now)) (λ n. H.scalar n args.now) result }
+        ensures given { AnswersBy (λ s. IfSome result (ScalarFn.post s.call args.entry)) (λ a. Unit {0}) self.now }
         ensures memory { ⟦<Function<H> as Answering>⟧.never_lacks self.now → IfSome result HasMemory }
     {
         match self {
@@ -126,6 +127,7 @@ impl<H: HostMeaning> Function<H> {
     pub fn step(&self, held: &Value, row: &[Value]) -> Option<Result<Value, FnFault>>
         requires { ⟦<Function<H> as Answering>⟧.answers self.now }
         ensures value { FoldsAt (Some (definition self.now)) (λ n. H.step n held.now row.now) result }
+        ensures given { AnswersBy (λ s. Unit {0}) (λ a. IfSome result (StepFn.post a.step held.entry row.entry)) self.now }
         ensures memory { ⟦<Function<H> as Answering>⟧.never_lacks self.now → IfSome result HasMemory }
     {
         match self {
@@ -139,6 +141,7 @@ impl<H: HostMeaning> Function<H> {
     pub fn finish(&self, held: &Value) -> Option<Result<Value, FnFault>>
         requires { ⟦<Function<H> as Answering>⟧.answers self.now }
         ensures value { FoldsAt (Some (definition self.now)) (λ n. H.finish n held.now) result }
+        ensures given { AnswersBy (λ s. Unit {0}) (λ a. IfSome result (FinishFn.post a.finish held.entry)) self.now }
         ensures memory { ⟦<Function<H> as Answering>⟧.never_lacks self.now → IfSome result HasMemory }
     {
         match self {

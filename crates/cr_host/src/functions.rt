@@ -82,6 +82,9 @@ pub trait Functions {
     /// The order of texts under the collation of a name.
     ghost order_of: { Self → List ℕ → Option (List ℕ → List ℕ → Ordering) };
 
+    /// The collation of a name, as it is found.
+    ghost found_at: { Self → List ℕ → Option FoundCollation };
+
     /// Each is a total preorder: any two texts compare, consistently, and some may tie.
     ghost orders_total: { (s : Self) (name : List ℕ) (order : List ℕ → List ℕ → Ordering) → order_of s name ≡ Some order → IsTotalOrder order };
 
@@ -100,15 +103,15 @@ pub trait Functions {
         ensures value { result ≡ names_function self.now name.now }
         ensures names { IsTrue result ↔ ((count : ℕ) × IsSome (function_of self.now name.now count)) };
 
-    /// The value of a scalar function; `None` where there is no such scalar function. Want of memory is answered only
-    /// where a closure of it answers that.
+    /// The value of a scalar function; `None` where there is no such scalar function. Want of memory isn't answered of one
+    /// whose closure never answers that.
     fn call(&self, name: &str, args: &[Value]) -> Option<Result<Value, FnFault>>
         requires { is_faithful self.now }
         ensures value { CallsAt (function_of self.now name.now (length args.now)) (λ n. scalar self.now n args.now) result }
         ensures memory { IfSome (function_of self.now name.now (length args.now)) (never_lacks self.now) → IfSome result HasMemory };
 
     /// What an aggregate holds after one more row; `None` where there is no such aggregate. Before the first row it
-    /// holds NULL. Want of memory is answered only where a closure of it answers that.
+    /// holds NULL. Want of memory isn't answered of one whose closures never answer that.
     fn step(
         &self,
         name: &str,
@@ -121,14 +124,14 @@ pub trait Functions {
         ensures memory { IfSome (function_of self.now name.now count) (never_lacks self.now) → IfSome result HasMemory };
 
     /// The value of an aggregate, of what it holds after the last row; `None` where there is no such aggregate. Want of
-    /// memory is answered only where a closure of it answers that.
+    /// memory isn't answered of one whose closures never answer that.
     fn finish(&self, name: &str, count: usize, held: &Value) -> Option<Result<Value, FnFault>>
         requires { is_faithful self.now }
         ensures value { FoldsAt (function_of self.now name.now count) (λ n. finish self.now n held.now) result }
         ensures memory { IfSome (function_of self.now name.now count) (never_lacks self.now) → IfSome result HasMemory };
 
     /// The value of an aggregate over rows, in their order: its steps from NULL, and then its end; `None` where there is
-    /// no such aggregate. Want of memory is answered only where a closure of it answers that.
+    /// no such aggregate. Want of memory isn't answered of one whose closures never answer that.
     fn fold(&self, name: &str, count: usize, rows: &[Row]) -> Option<Result<Value, FnFault>>
         requires { is_faithful self.now }
         ensures value { FoldsAt (function_of self.now name.now count) (λ n. aggregated (step self.now n) (finish self.now n) rows.now) result }
@@ -146,6 +149,7 @@ pub trait Functions {
 
     /// The collation of a name, to be held while texts are compared under it; `None` where there is none of that name.
     fn find_collation(&self, name: &str) -> Option<FoundCollation>
+        ensures found { result ≡ found_at self.now name.now }
         ensures order { option_map (found_order (order_at self.now)) result ≡ order_of self.now name.now }
         ensures built_in { IfSome (built_in_collation name.now) (λ c. result ≡ Some (BuiltIn c)) };
 
@@ -166,7 +170,7 @@ pub trait Functions {
 impl<H: HostMeaning> Functions for Registry<H> {
     ghost use Rattle.std.specs.List.{AllByRecursion};
     ghost use Rattle.cr_host.specs.Meets.{AnswersAs, StepsAs, FinishesAs, ComparesAs, NeverLacks, NeverLacksAt};
-    ghost use Rattle.cr_host.specs.Registry.{AnswersBy, definition, functions, orders, listed, collations, function_for, names_function, order_for, order_at};
+    ghost use Rattle.cr_host.specs.Registry.{AnswersBy, definition, functions, orders, listed, collations, function_for, names_function, order_for, found_for, order_at};
     ghost use Rattle.cr_host.specs.Orders.{order_for_total, order_at_total, found_order_total};
 
     ghost is_faithful = { λ r. AllByRecursion (AnswersBy
@@ -189,6 +193,8 @@ impl<H: HostMeaning> Functions for Registry<H> {
     ghost finish = { λ r. H.finish };
 
     ghost order_of = { λ r name. order_for H.order name (collations r) };
+
+    ghost found_at = { λ r name. found_for name (collations r) };
 
     ghost orders_total = { λ r name order e. order_for_total H.order H.order_total name (collations r) order e };
 
@@ -248,7 +254,7 @@ pub struct BuiltIns;
 
 impl Functions for BuiltIns {
     ghost use Rattle.std.specs.Prelude.{None, Err, [], false};
-    ghost use Rattle.cr_host.specs.Registry.{order_for};
+    ghost use Rattle.cr_host.specs.Registry.{order_for, found_for};
     ghost use Rattle.cr_host.specs.Orders.{order_for_total, found_order_total, built_in_only, built_in_only_total};
 
     ghost is_faithful = { λ s. Unit {0} };
@@ -266,6 +272,8 @@ impl Functions for BuiltIns {
     ghost finish = { λ s n held. Err [] };
 
     ghost order_of = { λ s name. order_for built_in_only name [] };
+
+    ghost found_at = { λ s name. found_for name [] };
 
     ghost orders_total = { λ s name order e. order_for_total built_in_only built_in_only_total name [] order e };
 

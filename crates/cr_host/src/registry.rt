@@ -7,7 +7,7 @@ ghost use Rattle.std.specs.Str.{bytes_eq};
 ghost use Rattle.indexmap.specs.IndexMap.{keys};
 ghost use Rattle.cr_host.specs.Names.{folded, arity_of, is_function_name, is_collation_name};
 ghost use Rattle.cr_host.specs.Meets.{AnswersAs, StepsAs, FinishesAs, ComparesAs, NeverLacks, NeverLacksAt};
-ghost use Rattle.cr_host.specs.Registry.{listed, collations, definition, is_key, is_collation_key, entry_at, number_at, with_entry, without_entry, function_for, with_collation, order_at, names_function, RefusesBadNames};
+ghost use Rattle.cr_host.specs.Registry.{listed, collations, definition, is_key, is_named, is_collation_key, entry_at, number_at, with_entry, without_entry, function_for, with_collation, order_at, names_function, RefusesBadNames};
 ghost use Rattle.cr_host.specs.declared.function.Definition.{Definition};
 ghost use Rattle.cr_host.specs.declared.function.Definition.TheVariants.{Scalar as ScalarOf, Aggregate as AggregateOf};
 
@@ -254,10 +254,11 @@ impl<H: HostMeaning> Registry<H> {
         has_name(&self.functions, name)
     }
 
-    /// The place of the host's collation under that name, its ASCII letters in either case. It stays as collations are
-    /// added.
+    /// The place of the host's collation under that name, its ASCII letters in either case, the oldest at 0. It stays as
+    /// collations are added.
     pub(crate) fn find_host_collation(&self, name: &str) -> Option<usize>
-        ensures { option_map (order_at H.order (collations self.now)) result ≡ option_map H.order (number_at name.now (collations self.now)) }
+        ensures place { result ≡ position (is_named name.now) (collations self.now) }
+        ensures order { option_map (order_at H.order (collations self.now)) result ≡ option_map H.order (number_at name.now (collations self.now)) }
     {
         place_of_collation(&self.collations, name)
     }
