@@ -2,4 +2,3 @@ pub mod Finding
 pub mod HeardLaws
 pub mod PolicyLaws
 pub mod Rising
-pub mod Hearing

@@ -11,4 +11,3 @@ pub mod laws;
 pub mod listener;
 pub mod policy;
 pub mod samples;
-pub mod telling;
