@@ -68,6 +68,7 @@ module _ {E C G : Type 0} (l : Language Statement E) (host : Host) (is_honest is
             (subst (λ (ps : List (Piece Statement)). HearsAll l host hears h (stands now) ps (t.0 ∷ xs) why k) (sym (one_left n source rest goes.statement t.1 goes.is)) (
               (stands now').modules,
               h',
+              goes.carries.answers clean,
               subst (λ (st : State). hears h h' (heard_of_statement goes.statement (stands now) st)) (sym (goes.carries.leaves clean)) (heard clean),
               subst (λ (st : State). HearsAll l host hears h' st (pieces_left n source (drop t.1 rest)) xs why k) (sym (goes.carries.leaves clean)) run,
             )));

@@ -11,7 +11,7 @@ use Rattle.cr_world.specs.Causes.{IsWant}
 use Rattle.cr_world.specs.Language.{Language, Piece}
 use Rattle.cr_world.specs.Language as language
 use Rattle.cr_world.specs.State.{ModuleState, State, heard_between}
-use Rattle.cr_world.specs.Statement.{Host, stepped}
+use Rattle.cr_world.specs.Statement.{Answers, Host, stepped}
 
 -- a statement that opens or ends a transaction
 abbrev pub is_transaction : Statement → Bool
@@ -51,8 +51,8 @@ HearsTurn hears old found (Ok (Some t)) new = (x : Statement) × (n : ℕ) × (f
 HearsTurn hears old found (Err r) new = IsWant r ⊎ hears []
 
 module _ {E G : Type 0} (l : Language Statement E) (host : Host) (hears : G → G → List Event → Type 0) where
-  -- Of each that is accepted all there is to hear was heard, in their order and nothing else; of one that is refused for want perhaps
-  -- something.
+  -- Of each that is accepted all there is to hear was heard, in their order and nothing else, where the modules are as it leaves them;
+  -- of one that is refused for want perhaps something.
   abbrev pub HearsAll : G → State → List (Piece Statement) → List Reply → Option Refusal → G → Type 0
   HearsAll g st [] xs None h = hears g h []
   HearsAll g st [] xs (Some r) h = IsWant r ⊎ hears g h []
@@ -61,5 +61,5 @@ module _ {E G : Type 0} (l : Language Statement E) (host : Host) (hears : G → 
   HearsAll g st (language.Statement s ∷ ps) [] None h = hears g h []
   HearsAll g st (language.Statement s ∷ ps) [] (Some r) h = IsWant r ⊎ hears g h []
   HearsAll g st (language.Statement s ∷ ps) (x ∷ xs) why h =
-      (ms : List ModuleState) × (mid : G) × hears g mid (heard_of_statement s st (stepped l host st [] s (Ok x) ms))
+      (ms : List ModuleState) × (mid : G) × Answers l host st [] s (Ok x) ms × hears g mid (heard_of_statement s st (stepped l host st [] s (Ok x) ms))
       × HearsAll mid (stepped l host st [] s (Ok x) ms) ps xs why h
