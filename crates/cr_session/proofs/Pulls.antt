@@ -1,5 +1,5 @@
 -- Pulls by a call: what was read of the peer is taken, or nothing is changed.
-use Rattle.std.proofs.Common.{◌≡◌, false, List, Option, Some, None, Result, Ok, Err, refl, sym, subst, ◌∙◌}
+use Rattle.std.proofs.Common.{◌≡◌, false, List, Option, Some, None, Result, Ok, Err, inl, inr, refl, sym, ap, subst, ◌∙◌}
 use Rattle.cr_lattice.specs.declared.change.Change.{Change}
 use Rattle.cr_cells.specs.declared.store.CellsError.{CellsError}
 use Rattle.cr_cells.specs.Calls as calls
@@ -11,8 +11,8 @@ use Rattle.cr_world.specs.Refusals.{is_want, of_store}
 use Rattle.cr_world.specs.Causes.{IsWant}
 use Rattle.cr_world.specs.State.{State}
 use Rattle.cr_world.specs.Statement.{Host}
-use Rattle.cr_world.specs.Takings.{at_once, take_cause, taking_cause}
-use Rattle.cr_session.specs.Sessions.{PullsUnless, SessionOf, TakenUnless, TakesAll, standing, state_of}
+use Rattle.cr_world.specs.Takings.{at_once, take_cause, taking, taking_cause}
+use Rattle.cr_session.specs.Sessions.{AllOrNone, PullsUnless, SessionOf, TakenUnless, TakesAll, standing, state_of}
 use Rattle.cr_session.proofs.Takings.{goes_on, stopped, want_of_store, wanted, wanting}
 
 -- a reading left a session where it stood
@@ -53,6 +53,8 @@ module _ {C D : Type 0} (host : Host) (more : State → Holding → List Change)
     peer_device = record { was_honest = λ h. h; was_clean = λ c. c; stays_clean = λ h c w. c };
     peer_same = λ c. refl;
     takes = λ c d. stopped host (stands old) (first from) (more (stands old) from) (mark from) r (told c d);
+    all_or_none = λ c. refl;
+    not_both = inl (λ h c. c);
   }
 
   -- this replica's store failed
@@ -62,6 +64,8 @@ module _ {C D : Type 0} (host : Host) (more : State → Holding → List Change)
     peer_device = record { was_honest = λ h. h; was_clean = λ c. c; stays_clean = λ h c w. c };
     peer_same = λ c. refl;
     takes = λ c d. wanted host (stands old) (first from) (more (stands old) from) (mark from) (of_store e) (stands new) (s.same c) (wanting e (s.refusal c));
+    all_or_none = s.same;
+    not_both = inr (λ h c. c);
   }
 
   module _ (mid : C) (s : Stays is_honest is_clean stands old mid) where
@@ -72,6 +76,8 @@ module _ {C D : Type 0} (host : Host) (more : State → Holding → List Change)
       peer_device = record { was_honest = t.was_honest; was_clean = t.was_clean; stays_clean = λ h c w. t.lasts h c (sym (want_of_store e) ∙ w) };
       peer_same = t.same;
       takes = λ c d. wanted host (stands old) (first from) (more (stands old) from) (mark from) (of_store e) (stands mid) (s.same c) (wanting e (t.refusal d));
+      all_or_none = s.same;
+      not_both = inl s.lasts;
     }
 
     module _ (peer_new : D) (t : Stays peer_honest peer_clean peer_stands peer peer_new) where
@@ -82,6 +88,8 @@ module _ {C D : Type 0} (host : Host) (more : State → Holding → List Change)
         peer_device = record { was_honest = t.was_honest; was_clean = t.was_clean; stays_clean = λ h c u. t.lasts h c };
         peer_same = t.same;
         takes = λ c d. wanted host (stands old) (first from) (more (stands old) from) (mark from) r (stands mid) (s.same c) w;
+        all_or_none = s.same;
+        not_both = inl s.lasts;
       }
 
       moved : (st : State) (changes : List Change) (m : Option Mark) (result : Result (Unit {0}) Refusal) (new : State) → st ≡ stands old → changes ≡ more (stands old) from → m ≡ mark from
@@ -100,7 +108,13 @@ module _ {C D : Type 0} (host : Host) (more : State → Holding → List Change)
             let was = k.device.was_clean c in
             goes_on host (stands old) (first from) (more (stands old) from) (mark from) result (stands new) (free (s.was_clean was) (t.was_clean d))
             (moved (stands mid) changes m result (stands new) (s.same was) (sent was d) (marked d) (k.takes c));
+        all_or_none = λ c. whole result (stands new) (s.same (k.device.was_clean c)) (k.takes c);
+        not_both = inr t.lasts;
       } where
+        whole : (result : Result (Unit {0}) Refusal) (new : State) → stands mid ≡ stands old → TakenUnless (taking_cause host (stands mid) changes) (stands mid) changes m result new → AllOrNone (stands old) result new
+        whole (Ok u) new e x = (changes, m, x.1 ∙ ap (taking changes m) e)
+        whole (Err r) new e x = x.1 ∙ e
+
         lasting : (result : Result (Unit {0}) Refusal) → peer_honest peer_new → peer_clean peer → calls.UnlessWant is_want result (peer_clean peer_new)
         lasting (Ok u) h c = t.lasts h c
         lasting (Err r) h c = λ w. t.lasts h c

@@ -115,7 +115,13 @@ pub record CommitsTaking {C : Type 0} (is_honest is_clean : C → Type 0) (stand
   pub device : StaysClean is_honest is_clean is_want old new result
   pub commits : is_clean new → IsCommitted (stands old) more mark result (stands new)
 
--- A session takes what a peer holds, which stands where it stood. Where the peer is read and its store fails, that is want.
+-- all of what was sent was taken at once, with a mark, or nothing was
+abbrev pub AllOrNone : State → Result (Unit {0}) Refusal → State → Type 0
+AllOrNone old (Ok u) new = (sent : List Change) × (mark : Option Mark) × (new ≡ taking sent mark old)
+AllOrNone old (Err r) new = new ≡ old
+
+-- A session takes what a peer holds, which stands where it stood. Where the peer is read and its store fails, that is want; whatever
+-- becomes of the peer's store, what is refused changes nothing, and no failure is of both stores.
 pub record PullsUnless {C D : Type 0} (is_honest is_clean : C → Type 0) (stands : C → State) (peer_honest peer_clean : D → Type 0) (peer_stands : D → State)
     (cause : State → Holding → Cause) (more : State → Holding → List Change) (mark : Holding → Option Mark) (old : C) (peer : D) (result : Result (Unit {0}) Refusal) (new : C) (peer_new : D) : Type 0 where
   pub device : StaysClean is_honest is_clean is_want old new result
@@ -123,6 +129,8 @@ pub record PullsUnless {C D : Type 0} (is_honest is_clean : C → Type 0) (stand
   pub peer_same : peer_clean peer_new → peer_stands peer_new ≡ peer_stands peer
   pub takes : is_clean new → peer_clean peer_new
       → TakenUnless (cause (stands old) (peer_stands peer).holding) (stands old) (more (stands old) (peer_stands peer).holding) (mark (peer_stands peer).holding) result (stands new)
+  pub all_or_none : is_clean new → AllOrNone (stands old) result (stands new)
+  pub not_both : (is_honest new → is_clean old → is_clean new) ⊎ (peer_honest peer_new → peer_clean peer → peer_clean peer_new)
 
 -- done, or the refusal that there is
 abbrev pub unless : Option Refusal → Result (Unit {0}) Refusal
