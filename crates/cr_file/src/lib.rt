@@ -161,6 +161,7 @@ impl FileCells {
         ensures foreign { (state over_files conn).in_transaction ≡ false → has_store (state over_files conn).now.schema ≡ false → (state over_files conn).now.schema ≢ no_schema → IsRefused result Refused conn }
         ensures why { has_store (state over_files conn).now.schema ≡ false → IfErr result (λ e. IsRefusal e.0) }
         ensures same { IfErr result (λ e. IsClean over_files e.1 → (state over_files e.1).now ≡ (state over_files conn).now) }
+        ensures mode { IfErr result (λ e. e.1.in_transaction ≡ conn.in_transaction) }
     {
         match Store::create(alloc, conn, site) {
             Ok(store) => Ok(FileCells { store }),
@@ -187,6 +188,7 @@ impl FileCells {
         ensures damaged { IfErr result (λ e. IsClean over_files e.1 → opening.FailsToOpen (state over_files conn).now e.0) }
         ensures why { IfErr result (λ e. IsOpenError e.0) }
         ensures same { IfErr result (λ e. IsClean over_files e.1 → (state over_files e.1).now ≡ (state over_files conn).now) }
+        ensures mode { IfErr result (λ e. e.1.in_transaction ≡ conn.in_transaction) }
     {
         match Store::open(alloc, conn) {
             Ok(store) => Ok(FileCells { store }),
