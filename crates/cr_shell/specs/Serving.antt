@@ -150,6 +150,15 @@ abbrev pub Quits : {T : Type 0} → Standing T → Standing T → Entry → Type
 Quits s0 s1 entry = ((asks s0.2 entry).0 ≡ Quit) × (s1.0 ≡ s0.0) × (s1.1 ≡ s0.1)
 
 module _ {T : Type 0} (runs : Ruled T → Ruled T → List Command → List FleetReply → Type 0) where
+  -- what is known to be asked is answered: by what the command replied that it asks for, or else without running one
+  abbrev pub Answers : Ruled T → Ruled T → Asked → Option Answer → Type 0
+  Answers f0 f1 (Asks c) x = (r : FleetReply) × (x ≡ Some (answer.Reply r)) × runs f0 f1 (c ∷ []) (r ∷ [])
+  Answers f0 f1 Nothing x = (x ≡ own_answer Nothing) × (f1 ≡ f0)
+  Answers f0 f1 Help x = (x ≡ own_answer Help) × (f1 ≡ f0)
+  Answers f0 f1 Quit x = (x ≡ None) × (f1 ≡ f0)
+  Answers f0 f1 NoCommand x = (x ≡ own_answer NoCommand) × (f1 ≡ f0)
+  Answers f0 f1 TooLong x = (x ≡ own_answer TooLong) × (f1 ≡ f0)
+
   -- it was answered, or ends the run
   abbrev pub Replies : Standing T → Entry → Option Answer → Standing T → Type 0
   Replies s0 entry None s1 = Quits s0 s1 entry

@@ -3,7 +3,7 @@
 ghost use Rattle.std.specs.Prelude.{◌≡◌, ℕ, List, [], true, false, IfOk};
 ghost use Rattle.cr_shell.specs.Asking.{asked, AsksReady};
 ghost use Rattle.cr_shell.specs.Running.{RanAs};
-ghost use Rattle.cr_shell.specs.Serving.{Entry, asks, IsKept, IsNewLine, IsPushed, IsEmpty, Replies, Hears, HearsLine, HearsUnfinished, Takes, Ends, Serves};
+ghost use Rattle.cr_shell.specs.Serving.{Entry, asks, IsKept, IsNewLine, IsPushed, IsEmpty, Answers, Replies, Hears, HearsLine, HearsUnfinished, Takes, Ends, Serves};
 
 use crate::asking::{Asked, Gathered};
 use crate::printing::{Answer, print_answer};
@@ -137,6 +137,8 @@ fn answer<T: Served, F: Functions, G: Guarding>(
     requires ready { IfOk request AsksReady }
     ensures replies { (entry : Entry) (before : List ℕ) → IfOk request (λ it. (it, gathered.old) ≡ asks before entry)
         → Replies (RanAs T.ran (⟦<F as Speaking>⟧.are_names functions.now) (⟦<F as Speaking>⟧.language functions.now) (⟦<G as Watching>⟧.closures guard.old)) (served.old, G.rules guard.old, before) entry result (served.new, G.rules guard.new, gathered.new) }
+    ensures answers { IfOk request (λ it. Answers (RanAs T.ran (⟦<F as Speaking>⟧.are_names functions.now) (⟦<F as Speaking>⟧.language functions.now) (⟦<G as Watching>⟧.closures guard.old)) (served.old, G.rules guard.old) (served.new, G.rules guard.new) it result) }
+    ensures gathered { IfOk request (λ it. gathered.new ≡ gathered.old) }
     ensures closures { ⟦<G as Watching>⟧.closures guard.new ≡ ⟦<G as Watching>⟧.closures guard.old }
     ensures noting { G.noting guard.new ≡ G.noting guard.old }
     ensures faithful { G.is_faithful guard.new }
