@@ -16,7 +16,7 @@ use std::alloc::{AllocError, Global};
 pub struct Page {
     /// The cells, in the order of changes.
     pub cells: Vec<Stamped>,
-    /// The key at which the page ends, the last of its keys; `None` where no key is left behind it.
+    /// A key at which the page ends. Where it is `None`, no key is left behind it.
     pub bound: Option<Bytes>,
 }
 

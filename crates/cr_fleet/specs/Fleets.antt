@@ -17,7 +17,7 @@ use Rattle.cr_world.specs.Answers.{Answers, after, tells_want, AreAnswered, is_r
 abbrev pub FleetOf : Type 0 → Type 0
 FleetOf C = List (List ℕ × C) × Option ℕ
 
--- the device of each store gave back what was written
+-- the device of each store gave back what was written, and it is still there
 abbrev pub AreClean : {C : Type 0} → (C → Type 0) → FleetOf C → Type 0
 AreClean is_clean f = AllByRecursion (λ r. is_clean r.1) f.0
 

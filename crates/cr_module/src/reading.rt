@@ -47,7 +47,7 @@ pub fn read_all<M: Module>(
     Ok(Items::new(rows))
 }
 
-/// All rows of a module, in the order in which it gives them where no constraint is passed.
+/// All rows of a module, in an order that is its own, as it gives them where no constraint is passed.
 ///
 /// # Errors
 /// Want of memory, of the module or for the rows.

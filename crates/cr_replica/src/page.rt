@@ -8,6 +8,6 @@ use cr_value::text::Bytes;
 pub struct KeptPage {
     /// The changes, in the order of changes.
     pub kept: Vec<Change>,
-    /// The key up to which they are, the last of their keys; `None` where no key is left behind it.
+    /// A key up to which they are. Where it is `None`, no key is left behind them.
     pub bound: Option<Bytes>,
 }

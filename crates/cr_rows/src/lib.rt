@@ -77,7 +77,7 @@ pub fn write<S: Alter>(
 /// The rows that a query shows, all of them.
 ///
 /// # Errors
-/// sqlite's. Then nothing is changed.
+/// sqlite's. Then nothing was committed; nothing is changed, or an open transaction is rolled back.
 pub fn ask<S: Alter>(
     conn: &mut Connection<S>,
     sql: &str,
@@ -98,7 +98,8 @@ pub fn ask<S: Alter>(
 /// time, and what sqlite reads ahead.
 ///
 /// # Errors
-/// sqlite's, those of `read`, and want of memory. Then nothing is changed, unless the text is a write that shows rows.
+/// sqlite's, those of `read`, and want of memory. Then nothing is changed, or an open transaction is rolled back, unless the text
+/// is a write that shows rows.
 pub fn read_each<S: Alter, T: Drop, F: Fn(&Row) -> Result<T, Error>>(
     conn: &mut Connection<S>,
     sql: &str,

@@ -70,7 +70,7 @@ pub record IsHeldIn (f : Format) (db : Database) (h : Holding) : Type 0 where
 abbrev pub IsHeld : Database → Holding → Type 0
 IsHeld db h = (f : Format) × IsHeldIn f db h
 
--- damaged is said of a database only where it holds nothing
+-- damaged is said of a database only where it holds nothing that could be read
 abbrev pub FailsToOpen : Database → CellsError → Type 0
 FailsToOpen db error.Memory = Unit {0}
 FailsToOpen db (error.Store fault.Taken) = ⊥
