@@ -9,7 +9,6 @@ use Rattle.cr_lattice.specs.declared.table.Table.{Table}
 use Rattle.cr_lattice.specs.declared.table.TableDef.{TableDef}
 use Rattle.cr_lattice.specs.Profile.{profile_fault}
 use Rattle.cr_lattice.specs.Rows.{rows}
-use Rattle.cr_cells.specs.Holding.{Holding, IsSound, kept_of}
 use Rattle.cr_cells.specs.Tables.{first_fault}
 use Rattle.cr_delta.specs.Delta.{delta}
 use Rattle.cr_delta.specs.Key.{key_of, HasKey}
@@ -20,8 +19,8 @@ use Rattle.cr_query.specs.Writes.{wanted_by_insert, wanted_by_update, wanted_by_
 use Rattle.cr_meaning.specs.View.{Ordered}
 use Rattle.cr_meaning.specs.Meaning.{sized}
 use Rattle.cr_wanted.specs.Judged.{AreTaken}
-use Rattle.cr_taken.specs.Taken.{AreFitting, AreHeld, Replicates, AreKept, Keeps64Bits, Gives64Bits}
-use Rattle.cr_taken.proofs.Tables.{fit, sound_kept}
+use Rattle.cr_taken.specs.Taken.{AreFitting, AreHeld, Replicates, AreKept, Have64Bits, Inserts64Bits, Updates64Bits}
+use Rattle.cr_taken.proofs.Tables.{fit}
 use Rattle.cr_taken.proofs.Changes.{changes_are_taken}
 use Rattle.cr_taken.proofs.Shown.{shown_fit}
 use Rattle.cr_taken.proofs.Puts.{insert_fits, update_fits, delete_fits}
@@ -44,28 +43,28 @@ module _ (tables : List Table) (kept : List Change) (def : TableDef) (are : AreK
     pub delete_fitting : (w : Delete E) (out : List Row) → wanted_by_delete m w (rows kept def) ≡ Some out → AreFitting def out
     delete_fitting w out k = delete_fits m def w (rows kept def) out (shown_fit tables kept def are there) k
 
-module _ (h : Holding) (def : TableDef) (sound : IsSound h) (there : Replicates h.tables def) (bits : Keeps64Bits h) where
-  pub shown_held : AreHeld def (rows (kept_of h) def)
-  shown_held = record { fitting = shown_fit h.tables (kept_of h) def (sound_kept h sound) there; small = rows_small h def sound there bits }
+module _ (tables : List Table) (kept : List Change) (def : TableDef) (are : AreKept tables kept) (there : Replicates tables def) (bits : Have64Bits kept) where
+  pub shown_held : AreHeld def (rows kept def)
+  shown_held = record { fitting = shown_fit tables kept def are there; small = rows_small tables kept def are there bits }
 
   accepted : profile_fault def ≡ None
-  accepted = (fit h.tables (kept_of h) def (sound_kept h sound) there).profile
+  accepted = (fit tables kept def are there).profile
 
   module _ (host : Host) (params : List Value) where
-    pub insert_held : (w : Insert Ordered) (out : List Row) → Gives64Bits (sized host params) → wanted_by_insert (sized host params) def.columns w (rows (kept_of h) def) ≡ Some out → AreHeld def out
+    pub insert_held : (w : Insert Ordered) (out : List Row) → Inserts64Bits (sized host params) w → wanted_by_insert (sized host params) def.columns w (rows kept def) ≡ Some out → AreHeld def out
     insert_held w out given k = record {
-      fitting = insert_fitting h.tables (kept_of h) def (sound_kept h sound) there (sized host params) w out k;
-      small = insert_small (sized host params) def accepted given (sized_small host params) w (rows (kept_of h) def) out (rows_small h def sound there bits) k;
+      fitting = insert_fitting tables kept def are there (sized host params) w out k;
+      small = insert_small (sized host params) def accepted (sized_small host params) w (rows kept def) out given (rows_small tables kept def are there bits) k;
     }
 
-    pub update_held : (w : Update Ordered) (out : List Row) → Gives64Bits (sized host params) → wanted_by_update (sized host params) def.columns w (rows (kept_of h) def) ≡ Some out → AreHeld def out
+    pub update_held : (w : Update Ordered) (out : List Row) → Updates64Bits (sized host params) w (rows kept def) → wanted_by_update (sized host params) def.columns w (rows kept def) ≡ Some out → AreHeld def out
     update_held w out given k = record {
-      fitting = update_fitting h.tables (kept_of h) def (sound_kept h sound) there (sized host params) w out k;
-      small = update_small (sized host params) def accepted given (sized_small host params) w (rows (kept_of h) def) out (rows_small h def sound there bits) k;
+      fitting = update_fitting tables kept def are there (sized host params) w out k;
+      small = update_small (sized host params) def accepted (sized_small host params) w (rows kept def) out given (rows_small tables kept def are there bits) k;
     }
 
-    pub delete_held : (w : Delete Ordered) (out : List Row) → wanted_by_delete (sized host params) w (rows (kept_of h) def) ≡ Some out → AreHeld def out
+    pub delete_held : (w : Delete Ordered) (out : List Row) → wanted_by_delete (sized host params) w (rows kept def) ≡ Some out → AreHeld def out
     delete_held w out k = record {
-      fitting = delete_fitting h.tables (kept_of h) def (sound_kept h sound) there (sized host params) w out k;
-      small = delete_small (sized host params) w (rows (kept_of h) def) out (rows_small h def sound there bits) k;
+      fitting = delete_fitting tables kept def are there (sized host params) w out k;
+      small = delete_small (sized host params) w (rows kept def) out (rows_small tables kept def are there bits) k;
     }

@@ -12,7 +12,7 @@ use Rattle.cr_query.specs.Query.{Row, Meaning, holds}
 use Rattle.cr_query.specs.Queries.{Insert, Update, Delete}
 use Rattle.cr_query.specs.Writes.{put, put_all, defaults, inserted, inserted_rows, assigned, updated, wanted_by_insert, wanted_by_update, wanted_by_delete}
 use Rattle.cr_taken.specs.Taken.{IsFitting, AreFitting}
-use Rattle.cr_taken.proofs.Members.{all_append, none_asked}
+use Rattle.cr_taken.proofs.Members.{all_append}
 use Rattle.cr_taken.proofs.Shown.{Fixed, applied_fixed, zip_fixed}
 
 -- ---- one row
@@ -73,45 +73,60 @@ mapped : {X Y : Type 0} (Q : X → Type 0) (P : Y → Type 0) (g : X → Y) → 
 mapped Q P g one None y q h = absurd cc
 mapped Q P g one (Some x) y q h = let is : g x ≡ y = cc in subst P is (one x (q x refl))
 
--- ---- what is kept of a row as columns take values of which V holds is kept by a write
+-- what holds of everything holds of each
+pub all_of : {X : Type 0} (P : X → Type 0) → ((x : X) → P x) → (xs : List X) → AllByRecursion P xs
+all_of P p [] = tt
+all_of P p (x ∷ xs) = (p x, all_of P p xs)
+
+both : {X : Type 0} (P Q : X → Type 0) (xs : List X) → AllByRecursion P xs → AllByRecursion Q xs → AllByRecursion (λ x. P x × Q x) xs
+both P Q [] all more = tt
+both P Q (x ∷ xs) all more = ((all.0, more.0), both P Q xs all.1 more.1)
+
+-- ---- what is kept of a row as columns take values of which V holds is kept by a write whose expressions give such
 
 module _ {E : Type 0} (m : Meaning E) (cols : List ColumnDef) (V : Value → Type 0) (P : Row → Type 0)
-    (gives : (e : E) (c : Row) (v : Value) → m.value e c ≡ Some v → V v)
     (fresh : P (defaults cols))
     (takes : (places : List ℕ) (vs row : Row) → AllByRecursion V vs → P row → P (put_all cols places vs row)) where
-  inserted_all : (places : List ℕ) (es : List E) (r : Row) → inserted m cols places es ≡ Some r → P r
-  inserted_all places es r h =
-      mapped (AllByRecursion V) P (λ vs. put_all cols places vs (defaults cols)) (λ vs all. takes places vs (defaults cols) all fresh) (each (λ e. m.value e []) es) r
-      (λ vs k. each_all (λ e. Unit {0}) V (λ e. m.value e []) (λ e v u d. gives e [] v d) es vs (none_asked es) k) h
+  abbrev pub Gives : Row → E → Type 0
+  Gives row e = (v : Value) → m.value e row ≡ Some v → V v
 
-  pub brought_all : (w : Insert E) (more : List Row) → inserted_rows m cols w ≡ Some more → AllByRecursion P more
-  brought_all w more h =
+  inserted_all : (places : List ℕ) (es : List E) (r : Row) → AllByRecursion (Gives []) es → inserted m cols places es ≡ Some r → P r
+  inserted_all places es r given h =
+      mapped (AllByRecursion V) P (λ vs. put_all cols places vs (defaults cols)) (λ vs all. takes places vs (defaults cols) all fresh) (each (λ e. m.value e []) es) r
+      (λ vs k. each_all (Gives []) V (λ e. m.value e []) (λ e v g d. g v d) es vs given k) h
+
+  pub brought_all : (w : Insert E) (more : List Row) → AllByRecursion (λ es. AllByRecursion (Gives []) es) w.tuples → inserted_rows m cols w ≡ Some more → AllByRecursion P more
+  brought_all w more given h =
       elim w.is_ignored as (λ b. cond b (Some []) (each (inserted m cols w.places) w.tuples) ≡ Some more → AllByRecursion P more) [
         | true ↦ λ k. (let is : [] ≡ more = cc in subst (AllByRecursion P) is tt)
-        | false ↦ λ k. each_all (λ es. Unit {0}) P (inserted m cols w.places) (λ es r u e. inserted_all w.places es r e) w.tuples more (none_asked w.tuples) k
+        | false ↦ λ k. each_all (λ es. AllByRecursion (Gives []) es) P (inserted m cols w.places) (λ es r g e. inserted_all w.places es r g e) w.tuples more given k
       ] h
 
-  pub insert_all : (w : Insert E) (rows out : List Row) → AllByRecursion P rows → wanted_by_insert m cols w rows ≡ Some out → AllByRecursion P out
-  insert_all w rows out all h =
+  pub insert_all : (w : Insert E) (rows out : List Row) → AllByRecursion (λ es. AllByRecursion (Gives []) es) w.tuples → AllByRecursion P rows → wanted_by_insert m cols w rows ≡ Some out → AllByRecursion P out
+  insert_all w rows out given all h =
       elim (inserted_rows m cols w) as (λ o. inserted_rows m cols w ≡ o → option_map (λ more. rows ++ more) o ≡ Some out → AllByRecursion P out) [
         | None ↦ λ e k. absurd cc
-        | Some more ↦ λ e k. (let is : rows ++ more ≡ out = cc in subst (AllByRecursion P) is (all_append P rows more all (brought_all w more e)))
+        | Some more ↦ λ e k. (let is : rows ++ more ≡ out = cc in subst (AllByRecursion P) is (all_append P rows more all (brought_all w more given e)))
       ] refl h
 
-  updated_all : (w : Update E) (r new : Row) → P r → updated m cols w r ≡ Some new → P new
-  updated_all w r new p h =
-      elim (holds m w.terms r) as (λ o. option_and_then (λ b. cond b (assigned m cols w.assignments r) (Some r)) o ≡ Some new → P new) [
-        | None ↦ λ k. absurd cc
-        | Some b ↦ by b
-      ] h where
-        by : (b : Bool) → cond b (assigned m cols w.assignments r) (Some r) ≡ Some new → P new
-        by true k =
-            mapped (AllByRecursion V) P (λ vs. put_all cols (map (λ a. a.place) w.assignments) vs r) (λ vs all. takes (map (λ a. a.place) w.assignments) vs r all p) (each (λ a. m.value a.expr r) w.assignments) new
-            (λ vs d. each_all (λ a. Unit {0}) V (λ a. m.value a.expr r) (λ a v u e. gives a.expr r v e) w.assignments vs (none_asked w.assignments) d) k
-        by false k = let is : r ≡ new = cc in subst P is p
+  -- where the row is changed
+  abbrev pub Changes : Update E → Row → Type 0
+  Changes w r = holds m w.terms r ≡ Some true → AllByRecursion (λ a. Gives r a.expr) w.assignments
 
-  pub update_all : (w : Update E) (rows out : List Row) → AllByRecursion P rows → wanted_by_update m cols w rows ≡ Some out → AllByRecursion P out
-  update_all w rows out all h = each_all P P (updated m cols w) (λ r new p k. updated_all w r new p k) rows out all h
+  updated_all : (w : Update E) (r new : Row) → P r → Changes w r → updated m cols w r ≡ Some new → P new
+  updated_all w r new p given h =
+      elim (holds m w.terms r) as (λ o. holds m w.terms r ≡ o → option_and_then (λ b. cond b (assigned m cols w.assignments r) (Some r)) o ≡ Some new → P new) [
+        | None ↦ λ e k. absurd cc
+        | Some b ↦ by b
+      ] refl h where
+        by : (b : Bool) → holds m w.terms r ≡ Some b → cond b (assigned m cols w.assignments r) (Some r) ≡ Some new → P new
+        by true e k =
+            mapped (AllByRecursion V) P (λ vs. put_all cols (map (λ a. a.place) w.assignments) vs r) (λ vs all. takes (map (λ a. a.place) w.assignments) vs r all p) (each (λ a. m.value a.expr r) w.assignments) new
+            (λ vs d. each_all (λ a. Gives r a.expr) V (λ a. m.value a.expr r) (λ a v g d. g v d) w.assignments vs (given e) d) k
+        by false e k = let is : r ≡ new = cc in subst P is p
+
+  pub update_all : (w : Update E) (rows out : List Row) → AllByRecursion (Changes w) rows → AllByRecursion P rows → wanted_by_update m cols w rows ≡ Some out → AllByRecursion P out
+  update_all w rows out given all h = each_all (λ r. P r × Changes w r) P (updated m cols w) (λ r new p k. updated_all w r new p.0 p.1 k) rows out (both P (Changes w) rows all given) h
 
 -- DELETE leaves some of the rows
 pub delete_all : {E : Type 0} (m : Meaning E) (P : Row → Type 0) (w : Delete E) (rows out : List Row) → AllByRecursion P rows → wanted_by_delete m w rows ≡ Some out → AllByRecursion P out
@@ -127,10 +142,15 @@ delete_all m P w rows out all h =
 
 module _ {E : Type 0} (m : Meaning E) (def : TableDef) where
   pub insert_fits : (w : Insert E) (rows out : List Row) → AreFitting def rows → wanted_by_insert m def.columns w rows ≡ Some out → AreFitting def out
-  insert_fits w rows out all h = insert_all m def.columns (λ v. Unit {0}) (IsFitting def) (λ e c v k. tt) (defaults_fitting def) (λ places vs row u f. put_fitting def places vs row f) w rows out all h
+  insert_fits w rows out all h =
+      insert_all m def.columns (λ v. Unit {0}) (IsFitting def) (defaults_fitting def) (λ places vs row u f. put_fitting def places vs row f) w rows out
+      (all_of (λ es. AllByRecursion (λ e. (v : Value) → m.value e [] ≡ Some v → Unit {0}) es) (λ es. all_of (λ e. (v : Value) → m.value e [] ≡ Some v → Unit {0}) (λ e v k. tt) es) w.tuples) all h
 
   pub update_fits : (w : Update E) (rows out : List Row) → AreFitting def rows → wanted_by_update m def.columns w rows ≡ Some out → AreFitting def out
-  update_fits w rows out all h = update_all m def.columns (λ v. Unit {0}) (IsFitting def) (λ e c v k. tt) (defaults_fitting def) (λ places vs row u f. put_fitting def places vs row f) w rows out all h
+  update_fits w rows out all h =
+      update_all m def.columns (λ v. Unit {0}) (IsFitting def) (defaults_fitting def) (λ places vs row u f. put_fitting def places vs row f) w rows out
+      (all_of (λ r. holds m w.terms r ≡ Some true → AllByRecursion (λ a. (v : Value) → m.value a.expr r ≡ Some v → Unit {0}) w.assignments)
+        (λ r e. all_of (λ a. (v : Value) → m.value a.expr r ≡ Some v → Unit {0}) (λ a v k. tt) w.assignments) rows) all h
 
   pub delete_fits : (w : Delete E) (rows out : List Row) → AreFitting def rows → wanted_by_delete m w rows ≡ Some out → AreFitting def out
   delete_fits w rows out all h = delete_all m (IsFitting def) w rows out all h

@@ -19,23 +19,23 @@ use Rattle.cr_value.specs.Unpacking.{unpacked}
 use Rattle.cr_value.proofs.Numerals.{fits_yes}
 use Rattle.cr_lattice.specs.declared.change.Change.{Change}
 use Rattle.cr_lattice.specs.declared.table.ColumnDef.{ColumnDef}
+use Rattle.cr_lattice.specs.declared.table.Table.{Table}
 use Rattle.cr_lattice.specs.declared.table.TableDef.{TableDef}
 use Rattle.cr_lattice.specs.Faults.{first_failed}
 use Rattle.cr_lattice.specs.Profile.{is_default_too_long, profile_fault, rules_of}
 use Rattle.cr_lattice.specs.Rows.{is_cell, alive_keys, default_of, shown, kept_change, column_value, cell, row, rows}
 use Rattle.cr_lattice.proofs.Tested.{and_true, not_true, split}
-use Rattle.cr_cells.specs.Holding.{Holding, IsSound, kept_of}
 use Rattle.cr_cells.specs.Tables.{fault_in}
 use Rattle.cr_delta.specs.Wanted.{AreSmall}
 use Rattle.cr_delta.proofs.Among.{Among, member_has, any_member}
 use Rattle.cr_delta.proofs.Members.{same_is}
-use Rattle.cr_query.specs.Query.{Row, Meaning}
+use Rattle.cr_query.specs.Query.{Row, Meaning, holds}
 use Rattle.cr_query.specs.Queries.{Insert, Update, Delete}
 use Rattle.cr_query.specs.Writes.{put, put_all, defaults, wanted_by_insert, wanted_by_update, wanted_by_delete}
-use Rattle.cr_taken.specs.Taken.{IsOf64Bits, Keeps64Bits, Gives64Bits, Replicates}
+use Rattle.cr_taken.specs.Taken.{AreKept, IsOf64Bits, Have64Bits, Gives64Bits, Inserts64Bits, Updates64Bits, Replicates}
 use Rattle.cr_taken.proofs.Members.{all_map, found_member, none_asked, some_is}
 use Rattle.cr_taken.proofs.Puts.{insert_all, update_all, delete_all}
-use Rattle.cr_taken.proofs.Tables.{fit, fault_is, small_change, sound_kept}
+use Rattle.cr_taken.proofs.Tables.{fit, fault_is, small_change}
 use Rattle.cr_taken.proofs.Keys.{IsSmall, unpacked_small}
 
 -- ---- affinity
@@ -123,23 +123,23 @@ found_so p (x ∷ xs) a e =
       | inr not_so ↦ found_so p xs a (rw not_so at e)
     ]
 
-module _ (h : Holding) (def : TableDef) (sound : IsSound h) (there : Replicates h.tables def) (bits : Keeps64Bits h) where
-  kept_small : (c : Change) → Among (kept_of h) c → c.table ≡ def.name → IsSmall c.val
-  kept_small c m table = small_change c def (sym (fault_is def h.tables c there table) ∙ member_has (λ c. fault_in h.tables c ≡ None) (kept_of h) c sound.well_formed m)
+module _ (tables : List Table) (kept : List Change) (def : TableDef) (are : AreKept tables kept) (there : Replicates tables def) (bits : Have64Bits kept) where
+  kept_small : (c : Change) → Among kept c → c.table ≡ def.name → IsSmall c.val
+  kept_small c m table = small_change c def (sym (fault_is def tables c there table) ∙ member_has (λ c. fault_in tables c ≡ None) kept c are.well_formed m)
 
-  found_small : (pk : List ℕ) (col : ColumnDef) → IsSmall (default_of col) → (o : Option Change) → kept_change (kept_of h) def.name pk col.name ≡ o → IsSmall (option_map_or (λ c. shown col c.val) o (default_of col))
+  found_small : (pk : List ℕ) (col : ColumnDef) → IsSmall (default_of col) → (o : Option Change) → kept_change kept def.name pk col.name ≡ o → IsSmall (option_map_or (λ c. shown col c.val) o (default_of col))
   unfolding kept_change
   found_small pk col d None e = d
   found_small pk col d (Some c) e =
-      let m = found_member (is_cell def.name pk col.name) (kept_of h) c e in
-      let so = and_true _ _ (found_so (is_cell def.name pk col.name) (kept_of h) c e) in
+      let m = found_member (is_cell def.name pk col.name) kept c e in
+      let so = and_true _ _ (found_so (is_cell def.name pk col.name) kept c e) in
       let table = same_is c.table def.name (and_true _ _ so.0).0 in
-      shown_small col c.val d (member_has (λ c. IsOf64Bits c.val) (kept_of h) c bits m) (kept_small c m table)
+      shown_small col c.val d (member_has (λ c. IsOf64Bits c.val) kept c bits m) (kept_small c m table)
 
-  cell_small : (pk : List ℕ) (col : ColumnDef) → Among def.columns col → IsSmall (cell (kept_of h) def.name pk col)
+  cell_small : (pk : List ℕ) (col : ColumnDef) → Among def.columns col → IsSmall (cell kept def.name pk col)
   cell_small pk col m =
-      elim (col.key) as (λ k. IsSmall (option_map_or (λ place. slice_index_or (unwrap_or (unpacked pk) []) (place - 1) Null) k (column_value (kept_of h) def.name pk col))) [
-        | None ↦ found_small pk col (default_small def (fit h.tables (kept_of h) def (sound_kept h sound) there).profile col m) (kept_change (kept_of h) def.name pk col.name) refl
+      elim (col.key) as (λ k. IsSmall (option_map_or (λ place. slice_index_or (unwrap_or (unpacked pk) []) (place - 1) Null) k (column_value kept def.name pk col))) [
+        | None ↦ found_small pk col (default_small def (fit tables kept def are there).profile col m) (kept_change kept def.name pk col.name) refl
         | Some place ↦ read_small pk (place - 1) (unpacked pk) refl
       ]
 
@@ -147,13 +147,13 @@ module _ (h : Holding) (def : TableDef) (sound : IsSound h) (there : Replicates 
   map_small f [] each = tt
   map_small f (col ∷ cols) each = (each col (inl refl), map_small f cols (λ c m. each c (inr m)))
 
-  row_small : (pk : List ℕ) → AllByRecursion IsSmall (row (kept_of h) def pk)
+  row_small : (pk : List ℕ) → AllByRecursion IsSmall (row kept def pk)
   unfolding row
-  row_small pk = map_small (cell (kept_of h) def.name pk) def.columns (cell_small pk)
+  row_small pk = map_small (cell kept def.name pk) def.columns (cell_small pk)
 
-  pub rows_small : AreSmall (rows (kept_of h) def)
+  pub rows_small : AreSmall (rows kept def)
   unfolding rows
-  rows_small = all_map (λ pk. Unit {0}) (λ r. AllByRecursion IsSmall r) (row (kept_of h) def) (alive_keys (kept_of h) def.name) (λ pk u. row_small pk) (none_asked (alive_keys (kept_of h) def.name))
+  rows_small = all_map (λ pk. Unit {0}) (λ r. AllByRecursion IsSmall r) (row kept def) (alive_keys kept def.name) (λ pk u. row_small pk) (none_asked (alive_keys kept def.name))
 
 -- ---- what is wanted
 
@@ -172,7 +172,7 @@ put_all_small cols [] vs r g all = all
 put_all_small cols (p ∷ ps) [] r g all = all
 put_all_small cols (p ∷ ps) (v ∷ vs) r g all = put_all_small cols ps vs (put cols p v r) g.1 (put_small cols p v r g.0 all)
 
-module _ {E : Type 0} (m : Meaning E) (def : TableDef) (accepted : profile_fault def ≡ None) (bits : Gives64Bits m) (small : (e : E) (c : Row) (v : Value) → m.value e c ≡ Some v → IsSmall v) where
+module _ {E : Type 0} (m : Meaning E) (def : TableDef) (accepted : profile_fault def ≡ None) (small : (e : E) (c : Row) (v : Value) → m.value e c ≡ Some v → IsSmall v) where
   fresh_small : AllByRecursion IsSmall (defaults def.columns)
   fresh_small = each def.columns (λ col i. default_small def accepted col i)
     where
@@ -180,11 +180,24 @@ module _ {E : Type 0} (m : Meaning E) (def : TableDef) (accepted : profile_fault
       each [] f = tt
       each (col ∷ cols) f = (f col (inl refl), each cols (λ c i. f c (inr i)))
 
-  pub insert_small : (w : Insert E) (shown out : List Row) → AreSmall shown → wanted_by_insert m def.columns w shown ≡ Some out → AreSmall out
-  insert_small w shown out all k = insert_all m def.columns IsGiven (λ r. AllByRecursion IsSmall r) (λ e c v d. (bits e c v d, small e c v d)) fresh_small (put_all_small def.columns) w shown out all k
+  -- what gives 64 bits gives a value that an expression may have
+  given_of : {X : Type 0} (e : X → E) (row : Row) (xs : List X) → AllByRecursion (λ x. Gives64Bits m row (e x)) xs → AllByRecursion (λ x. (v : Value) → m.value (e x) row ≡ Some v → IsGiven v) xs
+  given_of e row [] all = tt
+  given_of e row (x ∷ xs) all = ((λ v k. (all.0 v k, small (e x) row v k)), given_of e row xs all.1)
 
-  pub update_small : (w : Update E) (shown out : List Row) → AreSmall shown → wanted_by_update m def.columns w shown ≡ Some out → AreSmall out
-  update_small w shown out all k = update_all m def.columns IsGiven (λ r. AllByRecursion IsSmall r) (λ e c v d. (bits e c v d, small e c v d)) fresh_small (put_all_small def.columns) w shown out all k
+  tuples_given : (tuples : List (List E)) → AllByRecursion (λ es. AllByRecursion (λ e. Gives64Bits m [] e) es) tuples → AllByRecursion (λ es. AllByRecursion (λ e. (v : Value) → m.value e [] ≡ Some v → IsGiven v) es) tuples
+  tuples_given [] all = tt
+  tuples_given (es ∷ tuples) all = (given_of (λ e. e) [] es all.0, tuples_given tuples all.1)
+
+  rows_given : (w : Update E) (rows : List Row) → Updates64Bits m w rows → AllByRecursion (λ r. holds m w.terms r ≡ Some true → AllByRecursion (λ a. (v : Value) → m.value a.expr r ≡ Some v → IsGiven v) w.assignments) rows
+  rows_given w [] all = tt
+  rows_given w (r ∷ rows) all = ((λ e. given_of (λ a. a.expr) r w.assignments (all.0 e)), rows_given w rows all.1)
+
+  pub insert_small : (w : Insert E) (shown out : List Row) → Inserts64Bits m w → AreSmall shown → wanted_by_insert m def.columns w shown ≡ Some out → AreSmall out
+  insert_small w shown out bits all k = insert_all m def.columns IsGiven (λ r. AllByRecursion IsSmall r) fresh_small (put_all_small def.columns) w shown out (tuples_given w.tuples bits) all k
+
+  pub update_small : (w : Update E) (shown out : List Row) → Updates64Bits m w shown → AreSmall shown → wanted_by_update m def.columns w shown ≡ Some out → AreSmall out
+  update_small w shown out bits all k = update_all m def.columns IsGiven (λ r. AllByRecursion IsSmall r) fresh_small (put_all_small def.columns) w shown out (rows_given w shown bits) all k
 
 pub delete_small : {E : Type 0} (m : Meaning E) (w : Delete E) (shown out : List Row) → AreSmall shown → wanted_by_delete m w shown ≡ Some out → AreSmall out
 delete_small m w shown out all k = delete_all m (λ r. AllByRecursion IsSmall r) w shown out all k

@@ -20,7 +20,7 @@ use Rattle.cr_query.proofs.Refining.{Gains}
 use Rattle.cr_meaning.specs.View.{Ordered}
 use Rattle.cr_meaning.specs.Meaning.{sized}
 use Rattle.cr_wanted.specs.Judged.{AreTaken}
-use Rattle.cr_taken.specs.Taken.{AreFitting, AreHeld, Replicates, AreKept, Keeps64Bits, Gives64Bits}
+use Rattle.cr_taken.specs.Taken.{AreFitting, AreHeld, Replicates, AreKept, Have64Bits, Inserts64Bits, Updates64Bits}
 
 -- ---- what is kept
 
@@ -71,22 +71,23 @@ SizedIsSmall = (host : Host) (params : List Value) (e : Ordered) (row : Row) (v 
     → (sized host params).value e row ≡ Some v → value_len v ≤ size_limit
 
 abbrev pub ShownRowsAreHeld : Type 0
-ShownRowsAreHeld = (h : Holding) (def : TableDef) → IsSound h → Replicates h.tables def → Keeps64Bits h → AreHeld def (rows (kept_of h) def)
+ShownRowsAreHeld = (tables : List Table) (kept : List Change) (def : TableDef)
+    → AreKept tables kept → Replicates tables def → Have64Bits kept → AreHeld def (rows kept def)
 
 abbrev pub InsertsAreHeld : Type 0
-InsertsAreHeld = (h : Holding) (def : TableDef) (host : Host) (params : List Value) (w : Insert Ordered) (out : List Row)
-    → IsSound h → Replicates h.tables def → Keeps64Bits h → Gives64Bits (sized host params)
-    → wanted_by_insert (sized host params) def.columns w (rows (kept_of h) def) ≡ Some out → AreHeld def out
+InsertsAreHeld = (tables : List Table) (kept : List Change) (def : TableDef) (host : Host) (params : List Value) (w : Insert Ordered) (out : List Row)
+    → AreKept tables kept → Replicates tables def → Have64Bits kept → Inserts64Bits (sized host params) w
+    → wanted_by_insert (sized host params) def.columns w (rows kept def) ≡ Some out → AreHeld def out
 
 abbrev pub UpdatesAreHeld : Type 0
-UpdatesAreHeld = (h : Holding) (def : TableDef) (host : Host) (params : List Value) (w : Update Ordered) (out : List Row)
-    → IsSound h → Replicates h.tables def → Keeps64Bits h → Gives64Bits (sized host params)
-    → wanted_by_update (sized host params) def.columns w (rows (kept_of h) def) ≡ Some out → AreHeld def out
+UpdatesAreHeld = (tables : List Table) (kept : List Change) (def : TableDef) (host : Host) (params : List Value) (w : Update Ordered) (out : List Row)
+    → AreKept tables kept → Replicates tables def → Have64Bits kept → Updates64Bits (sized host params) w (rows kept def)
+    → wanted_by_update (sized host params) def.columns w (rows kept def) ≡ Some out → AreHeld def out
 
 abbrev pub DeletesAreHeld : Type 0
-DeletesAreHeld = (h : Holding) (def : TableDef) (host : Host) (params : List Value) (w : Delete Ordered) (out : List Row)
-    → IsSound h → Replicates h.tables def → Keeps64Bits h
-    → wanted_by_delete (sized host params) w (rows (kept_of h) def) ≡ Some out → AreHeld def out
+DeletesAreHeld = (tables : List Table) (kept : List Change) (def : TableDef) (host : Host) (params : List Value) (w : Delete Ordered) (out : List Row)
+    → AreKept tables kept → Replicates tables def → Have64Bits kept
+    → wanted_by_delete (sized host params) w (rows kept def) ≡ Some out → AreHeld def out
 
 -- ---- two meanings
 

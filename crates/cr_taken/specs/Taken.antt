@@ -1,5 +1,5 @@
 -- The rows that a write may bring to a replicated table of a store. Source: this project's own.
-use Rattle.std.specs.Prelude.{◌≡◌, true, find, List, length, Some, FitsSigned}
+use Rattle.std.specs.Prelude.{◌≡◌, true, find, List, [], length, Some, FitsSigned}
 use Rattle.std.specs.List.{AllByRecursion}
 use Rattle.std.specs.Int.{w64}
 use Rattle.cr_value.specs.declared.value.Value.{Value}
@@ -9,11 +9,11 @@ use Rattle.cr_lattice.specs.declared.table.Table.{Table}
 use Rattle.cr_lattice.specs.declared.table.TableDef.{TableDef}
 use Rattle.cr_lattice.specs.Check.{is_fixed}
 use Rattle.cr_lattice.specs.Keep.{keep}
-use Rattle.cr_cells.specs.Holding.{Holding, kept_of}
 use Rattle.cr_cells.specs.Tables.{is_named, IsStored, AreWellFormed}
 use Rattle.cr_delta.specs.Key.{cells_of}
 use Rattle.cr_delta.specs.Wanted.{AreSmall}
-use Rattle.cr_query.specs.Query.{Row, Meaning}
+use Rattle.cr_query.specs.Query.{Row, Meaning, holds}
+use Rattle.cr_query.specs.Queries.{Insert, Update}
 
 -- a value for each column, each as its column's affinity wants it
 pub record IsFitting (def : TableDef) (row : List Value) : Type 0 where
@@ -51,10 +51,18 @@ IsOf64Bits (Int n) = FitsSigned w64 n
 IsOf64Bits (Text t) = Unit {0}
 IsOf64Bits (Blob b) = Unit {0}
 
--- what is kept has no others
-abbrev pub Keeps64Bits : Holding → Type 0
-Keeps64Bits h = AllByRecursion (λ c. IsOf64Bits c.val) (kept_of h)
+-- changes have no others
+abbrev pub Have64Bits : List Change → Type 0
+Have64Bits changes = AllByRecursion (λ c. IsOf64Bits c.val) changes
 
--- expressions have no others
-abbrev pub Gives64Bits : {E : Type 0} → Meaning E → Type 0
-Gives64Bits m = (e : _) (row : Row) (v : Value) → m.value e row ≡ Some v → IsOf64Bits v
+-- an expression gives no other on a row
+abbrev pub Gives64Bits : {E : Type 0} → Meaning E → Row → E → Type 0
+Gives64Bits m row e = (v : Value) → m.value e row ≡ Some v → IsOf64Bits v
+
+-- nor do those of an INSERT
+abbrev pub Inserts64Bits : {E : Type 0} → Meaning E → Insert E → Type 0
+Inserts64Bits m w = AllByRecursion (λ es. AllByRecursion (λ e. Gives64Bits m [] e) es) w.tuples
+
+-- nor those of an UPDATE, on the rows of these that it changes
+abbrev pub Updates64Bits : {E : Type 0} → Meaning E → Update E → List Row → Type 0
+Updates64Bits m w rows = AllByRecursion (λ row. holds m w.terms row ≡ Some true → AllByRecursion (λ a. Gives64Bits m row a.expr) w.assignments) rows

@@ -31,7 +31,8 @@ pub fn sized_meanings_give_small()
     ensures { SizedIsSmall }
 {}
 
-/// The table may hold the rows that a write wants with a limit on values, where all integers are of 64 bits.
+/// The table may hold the rows that a write wants with a limit on values, of a store or within a transaction, where the integers that
+/// are kept are of 64 bits, and those that the write's own expressions give.
 pub fn writes_want_held_rows()
     ensures shown { ShownRowsAreHeld }
     ensures insert { InsertsAreHeld }

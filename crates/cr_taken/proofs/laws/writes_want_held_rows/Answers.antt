@@ -3,8 +3,8 @@ use Rattle.cr_taken.proofs.laws.writes_want_held_rows.Goals as goal
 
 pub returns : goal.returns
 returns c = record {
-  shown = λ h def sound there kept. shown_held h def sound there kept;
-  insert = λ h def host params w out sound there kept bits k. insert_held h def sound there kept host params w out bits k;
-  update = λ h def host params w out sound there kept bits k. update_held h def sound there kept host params w out bits k;
-  delete = λ h def host params w out sound there kept k. delete_held h def sound there kept host params w out k;
+  shown = λ tables kept def are there bits. shown_held tables kept def are there bits;
+  insert = λ tables kept def host params w out are there bits given k. insert_held tables kept def are there bits host params w out given k;
+  update = λ tables kept def host params w out are there bits given k. update_held tables kept def are there bits host params w out given k;
+  delete = λ tables kept def host params w out are there bits k. delete_held tables kept def are there bits host params w out k;
 }
