@@ -150,7 +150,7 @@ module _ {E : Type 0} (m : Meaning E) (def : TableDef) where
   update_fits w rows out all h =
       update_all m def.columns (λ v. Unit {0}) (IsFitting def) (defaults_fitting def) (λ places vs row u f. put_fitting def places vs row f) w rows out
       (all_of (λ r. holds m w.terms r ≡ Some true → AllByRecursion (λ a. (v : Value) → m.value a.expr r ≡ Some v → Unit {0}) w.assignments)
-        (λ r e. all_of (λ a. (v : Value) → m.value a.expr r ≡ Some v → Unit {0}) (λ a v k. tt) w.assignments) rows) all h
+      (λ r e. all_of (λ a. (v : Value) → m.value a.expr r ≡ Some v → Unit {0}) (λ a v k. tt) w.assignments) rows) all h
 
   pub delete_fits : (w : Delete E) (rows out : List Row) → AreFitting def rows → wanted_by_delete m w rows ≡ Some out → AreFitting def out
   delete_fits w rows out all h = delete_all m (IsFitting def) w rows out all h
