@@ -115,7 +115,7 @@ pub record CommitsTaking {C : Type 0} (is_honest is_clean : C → Type 0) (stand
   pub device : StaysClean is_honest is_clean is_want old new result
   pub commits : is_clean new → IsCommitted (stands old) more mark result (stands new)
 
--- all of what was sent was taken at once, with a mark, or nothing was
+-- some changes were taken at once, with a mark or without, or nothing is changed
 abbrev pub AllOrNone : State → Result (Unit {0}) Refusal → State → Type 0
 AllOrNone old (Ok u) new = (sent : List Change) × (mark : Option Mark) × (new ≡ taking sent mark old)
 AllOrNone old (Err r) new = new ≡ old
