@@ -6,7 +6,7 @@ use Rattle.cr_scalar.specs.Host.{Host}
 use Rattle.cr_scalar.specs.declared.fault.EvalFault.{EvalFault}
 use Rattle.cr_query.specs.Query.{Row, answer}
 use Rattle.cr_meaning.specs.View as view
-use Rattle.cr_exec.specs.Answers.{Faults, IsBoth, Stage}
+use Rattle.cr_exec.specs.Answers.{Faults, IsMeant, Stage}
 use Rattle.cr_replica.specs.declared.snapshot.Snapshot.{Snapshot}
 use Rattle.cr_snapshot.specs.Seen.{name_of, rows_seen}
 use Rattle.cr_world.specs.declared.refusal.Refusal.{Refusal}
@@ -22,5 +22,5 @@ answer_seen snapshot q = answer_over (map (λ j. rows_seen snapshot (name_of j))
 
 -- the rows, or the fault of an expression
 abbrev pub Gives : Host → List Value → Stage (List Row) → Result (List Row) Refusal → Type 0
-Gives host params f (Ok rows) = IsBoth host params f rows
+Gives host params f (Ok rows) = IsMeant host params f rows
 Gives host params f (Err why) = (e : EvalFault) × ((why ≡ of_fault e) × Faults host params f e)

@@ -1,5 +1,5 @@
 -- The rows that a write wants have a value for each column.
-use Rattle.std.proofs.Common.{◌≡◌, List, ◌++◌, length}
+use Rattle.std.proofs.Common.{◌≡◌, inl, List, ◌++◌, length, None, refl}
 use Rattle.cr_value.specs.declared.value.Value.{Value}
 use Rattle.cr_lattice.specs.declared.change.Change.{Change}
 use Rattle.cr_lattice.specs.declared.table.TableDef.{TableDef}
@@ -10,8 +10,8 @@ use Rattle.cr_term.specs.declared.query.Update.{Update}
 use Rattle.cr_term.specs.declared.query.Delete.{Delete}
 use Rattle.cr_query.specs.Query.{Row}
 use Rattle.cr_meaning.specs.View as view
-use Rattle.cr_meaning.specs.Meaning.{exact}
-use Rattle.cr_exec.specs.Answers.{IsBoth}
+use Rattle.cr_meaning.specs.Meaning.{exact, strict}
+use Rattle.cr_exec.specs.Answers.{IsMeant}
 use Rattle.cr_wanted.specs.Judged.{AreWide}
 use Rattle.cr_wanted.proofs.Widths.{all-append, brought_wide, shown_wide, update_wide, delete_wide}
 use Rattle.cr_replica.specs.declared.snapshot.Snapshot.{Snapshot}
@@ -22,16 +22,16 @@ pub behind_wide : (kept : List Change) (def : TableDef) (more : List Row) → Ar
 behind_wide kept def more wide = all-append (λ row. length row ≡ length def.columns) (rows kept def) more (shown_wide kept def) wide
 
 -- so are those that an INSERT brings
-pub brought : (host : Host) (params : List Value) (w : Insert) (out : List Row) → IsBoth host params (insert_brings w) out → AreWide w.relation.definition.columns out
-brought host params w out both = brought_wide (exact host params) w.relation.definition.columns (view.insert w) out both.exact
+pub brought : (host : Host) (params : List Value) (w : Insert) (out : List Row) → IsMeant host params (insert_brings w) out → AreWide w.relation.definition.columns out
+brought host params w out both = brought_wide (exact host params) w.relation.definition.columns (view.insert w) out (both.under (strict None) (inl refl))
 
 module _ (host : Host) (params : List Value) (s : Snapshot) where
-  pub updated_wide : (w : Update) (out : List Row) → IsBoth host params (update_wants s w) out → AreWide w.relation.definition.columns out
+  pub updated_wide : (w : Update) (out : List Row) → IsMeant host params (update_wants s w) out → AreWide w.relation.definition.columns out
   updated_wide w out both =
       let def = w.relation.definition in
-      update_wide (exact host params) def.columns (view.update w) (rows s.kept def) out (shown_wide s.kept def) both.exact
+      update_wide (exact host params) def.columns (view.update w) (rows s.kept def) out (shown_wide s.kept def) (both.under (strict None) (inl refl))
 
-  pub deleted_wide : (w : Delete) (out : List Row) → IsBoth host params (delete_wants s w) out → AreWide w.relation.definition.columns out
+  pub deleted_wide : (w : Delete) (out : List Row) → IsMeant host params (delete_wants s w) out → AreWide w.relation.definition.columns out
   deleted_wide w out both =
       let def = w.relation.definition in
-      delete_wide (exact host params) def.columns (view.delete w) (rows s.kept def) out (shown_wide s.kept def) both.exact
+      delete_wide (exact host params) def.columns (view.delete w) (rows s.kept def) out (shown_wide s.kept def) (both.under (strict None) (inl refl))

@@ -14,7 +14,7 @@ use Rattle.cr_term.specs.declared.query.Delete.{Delete}
 use Rattle.cr_query.specs.Query.{Row}
 use Rattle.cr_query.specs.Writes.{inserted_rows, wanted_by_insert, wanted_by_update, wanted_by_delete, has_long_key, lacks_value, has_twice, by_key}
 use Rattle.cr_meaning.specs.View as view
-use Rattle.cr_exec.specs.Answers.{Stage, IsBoth, Faults}
+use Rattle.cr_exec.specs.Answers.{Stage, IsMeant, Faults}
 use Rattle.cr_replica.specs.declared.snapshot.Snapshot.{Snapshot}
 use Rattle.cr_world.specs.declared.refusal.Refusal.{Refusal}
 use Rattle.cr_world.specs.declared.refusal.Refusal.TheVariants as refusal
@@ -78,7 +78,7 @@ StandAlone def rows (Err r) = StandsAlone def rows r
 -- the rows are wanted, nothing stands against them, and these are the changes that lead to them
 pub record Leads (host : Host) (params : List Value) (def : TableDef) (site : List ℕ) (kept : List Change) (f : Stage (List Row)) (changes : List Change) : Type 0 where
   pub rows : List Row
-  pub both : IsBoth host params f rows
+  pub both : IsMeant host params f rows
   pub short : has_long_key def rows ≡ false
   pub whole : lacks_value def rows ≡ false
   pub once : has_twice def rows ≡ false
@@ -90,7 +90,7 @@ abbrev pub IsRefused : Host → List Value → TableDef → List ℕ → List Ch
 IsRefused host params def site kept f r =
     (r ≡ refusal.Memory)
     ⊎ (((e : EvalFault) × (r ≡ of_fault e) × Faults host params f e)
-    ⊎ ((rows : List Row) × IsBoth host params f rows × Stands def site kept rows r))
+    ⊎ ((rows : List Row) × IsMeant host params f rows × Stands def site kept rows r))
 
 abbrev pub Changes : {X : Type 0} → Host → List Value → TableDef → List ℕ → List Change → Stage (List Row) → Result X Refusal → (X → List Change) → Type 0
 Changes host params def site kept f (Ok x) view = Leads host params def site kept f (view x)

@@ -22,19 +22,18 @@ use Rattle.cr_scalar.specs.Host.{Host}
 use Rattle.cr_expr.specs.declared.given.Given.{Given}
 use Rattle.cr_expr.specs.Setting.{Setting, setting}
 use Rattle.cr_expr.specs.Eval.{Meaning as Meaning-of, Arm, layer, meaning as meaning-of, arm_of, eval_of}
-use Rattle.cr_expr.specs.Laws.{unlimited}
 use Rattle.cr_expr.proofs.LimitLaw.{limit_law}
 use Rattle.cr_expr.proofs.Nodes.{one_node}
 use Rattle.cr_query.specs.Query.{Row, Group}
 use Rattle.cr_meaning.specs.View.{Ordered, plain}
-use Rattle.cr_meaning.specs.Meaning.{value_of, is_so, at_row, at_group}
-use Rattle.cr_exec.specs.Answers.{Faults, IsBoth, Answers}
-use Rattle.cr_exec.specs.Values.{null_wanted, null_test, HasValue, Limited}
+use Rattle.cr_meaning.specs.Meaning.{Regard, IsLimit, Counts, taken, so_taken, at_row, at_group}
+use Rattle.cr_exec.specs.Answers.{Faults, IsMeant, Answers}
+use Rattle.cr_exec.specs.Values.{null_wanted, null_test, HasValue}
 use Rattle.cr_exec.specs.Scopes.{in_scope, is_so_in}
 use Rattle.std.specs.Borrow.{Bor}
 use Rattle.cr_exec.specs.declared.value.Scope.{Scope}
 use Rattle.cr_exec.specs.declared.value.Scope.TheVariants as scope
-use Rattle.cr_exec.proofs.Stages.{faults_on, faults_of}
+use Rattle.cr_exec.proofs.Stages.{faults_on, faults_by, limit_of_count, alone}
 
 abbrev unbounded : Host → Given → Setting
 unbounded host given = setting None host given
@@ -119,89 +118,73 @@ quiet_null host given x y y' op v w u b n is o a h q k d =
           ∙ ap (λ t. Ok (null_test t b)) (ap is_null (sym q) ∙ sym k) ∙ ap Ok (sym d);
     }
 
-limited_ok : (s : Setting) (e : Expr) (v : Value) → eval_of s e ≡ Ok v → Limited s e (Ok v)
-limited_ok s e v h = (limit_law e s (λ big. let q : Ok v ≡ Err TooBig = sym h ∙ big in absurd cc) ∙ h, h)
+-- what an expression means under the limit, but for a value over it, it means under the other
+under_limit : (e : Expr) (s : Setting) (most : Option ℕ) (o : Meant) → s.most ≡ byte_limit → IsLimit most → (o ≡ Err TooBig → ⊥) → eval_of s e ≡ o → eval_of (record s { most = most }) e ≡ o
+under_limit e s most o is (inl none) ne h = ap (λ (n : Option ℕ). eval_of (record s { most = n }) e) none ∙ limit_law e s (λ big. ne (sym h ∙ big)) ∙ h
+under_limit e s most o is (inr big) ne h = ap (λ (n : Option ℕ). eval_of (record s { most = n }) e) (big ∙ sym is) ∙ h
 
--- a fault other than that of the limit is one without
-other : (s : Setting) (e : Expr) (f : EvalFault) → eval_of s e ≡ Err f → (f ≡ TooBig → ⊥) → value_of (eval_of (unlimited s) e) ≡ None
-other s e f h ne = ap value_of (limit_law e s (λ big. ne (let q : Err f ≡ Err TooBig = sym h ∙ big in cc)) ∙ h)
+value_under : (e : Expr) (s : Setting) (g : Regard) (v : Value) → s.most ≡ byte_limit → IsLimit g.most → eval_of s e ≡ Ok v → taken g.value (eval_of (record s { most = g.most }) e) ≡ Some v
+value_under e s g v is limit h = ap (taken g.value) (under_limit e s g.most (Ok v) is limit (λ q. absurd cc) h)
 
-limited_err : (s : Setting) (e : Expr) (f : EvalFault) → FaultsAs (eval_of s e) f → Limited s e (Err f)
-limited_err s e Overflow h = other s e Overflow h (λ q. absurd cc)
-limited_err s e NotANumber h = other s e NotANumber h (λ q. absurd cc)
-limited_err s e NotUtf8 h = other s e NotUtf8 h (λ q. absurd cc)
-limited_err s e (Said text) h = other s e (Said text) h (λ q. absurd cc)
-limited_err s e TooBig h = ap value_of h
-limited_err s e Memory h = tt
-
--- a value under the limit, or its fault
-pub limited : (s : Setting) (e : Expr) (r : Result Value EvalFault) → Evaluates (eval_of s e) r → Limited s e r
-limited s e (Ok v) h = limited_ok s e v h
-limited s e (Err f) h = limited_err s e f h
+-- a fault is one wherever it counts
+fault_under : (e : Expr) (s : Setting) (g : Regard) (f : EvalFault) → s.most ≡ byte_limit → FaultsAs (eval_of s e) f → Counts g f → taken g.value (eval_of (record s { most = g.most }) e) ≡ None
+fault_under e s g Overflow is h c = ap (taken g.value) (under_limit e s g.most (Err Overflow) is c.0 (λ q. absurd cc) h) ∙ c.1.0
+fault_under e s g NotANumber is h c = ap (taken g.value) (under_limit e s g.most (Err NotANumber) is c.0 (λ q. absurd cc) h) ∙ c.1.0
+fault_under e s g NotUtf8 is h c = ap (taken g.value) (under_limit e s g.most (Err NotUtf8) is c.0 (λ q. absurd cc) h) ∙ c.1.0
+fault_under e s g (Said text) is h c = ap (taken g.value) (under_limit e s g.most (Err (Said text)) is c.0 (λ q. absurd cc) h) ∙ c.1.0
+fault_under e s g TooBig is h c = ap (λ (n : Option ℕ). taken g.value (eval_of (record s { most = n }) e)) (c.0 ∙ sym is) ∙ ap (taken g.value) h ∙ c.1.0
+fault_under e s g Memory is h c = absurd c
 
 -- a quiet expression's value
-pub quiet_answers : (host : Host) (params : List Value) (row : Row) (e : Expr) (v : Value) → HasValue quiet (at_row None host params row) e v → IsBoth host params (λ m. m.value (plain e) row) v
+pub quiet_answers : (host : Host) (params : List Value) (row : Row) (e : Expr) (v : Value) → HasValue quiet (at_row None host params row) e v → IsMeant host params (λ m. m.value (plain e) row) v
 quiet_answers host params row e v h = record {
-  exact = under None;
-  sized = under byte_limit;
-} where
-  under : (most : Option ℕ) → value_of (eval_of (at_row (cond (quiet e) None most) host params row) e) ≡ Some v
-  under most = ap (λ b. value_of (eval_of (at_row (cond b None most) host params row) e)) h.of_kind ∙ ap value_of h.value
+  under = λ g l. ap (λ b. taken g.value (eval_of (at_row (cond b None g.most) host params row) e)) h.of_kind ∙ ap (taken g.value) h.value;
+}
 
 -- and that of another one
-pub loud_answers : (host : Host) (params : List Value) (row : Row) (e : Expr) (r : Result Value EvalFault) → quiet e ≡ false → Limited (at_row byte_limit host params row) e r → Answers host params r (λ v. v) (λ m. m.value (plain e) row)
-loud_answers host params row e r loud = by r
+pub loud_answers : (host : Host) (params : List Value) (row : Row) (e : Expr) (r : Result Value EvalFault) → quiet e ≡ false → Evaluates (eval_of (at_row byte_limit host params row) e) r → Answers host params r (λ v. v) (λ m. m.value (plain e) row)
+loud_answers host params row e r loud h = by r h
   where
-    at : (most : Option ℕ) → value_of (eval_of (at_row (cond (quiet e) None most) host params row) e) ≡ value_of (eval_of (at_row most host params row) e)
-    at most = ap (λ b. value_of (eval_of (at_row (cond b None most) host params row) e)) loud
+    at : (g : Regard) → taken g.value (eval_of (at_row (cond (quiet e) None g.most) host params row) e) ≡ taken g.value (eval_of (at_row g.most host params row) e)
+    at g = ap (λ b. taken g.value (eval_of (at_row (cond b None g.most) host params row) e)) loud
 
-    by : (r : Result Value EvalFault) → Limited (at_row byte_limit host params row) e r → Answers host params r (λ v. v) (λ m. m.value (plain e) row)
-    by (Ok v) h = record { exact = at None ∙ ap value_of h.0; sized = at byte_limit ∙ ap value_of h.1 }
-    by (Err Overflow) h = at None ∙ h
-    by (Err NotANumber) h = at None ∙ h
-    by (Err NotUtf8) h = at None ∙ h
-    by (Err (Said text)) h = at None ∙ h
-    by (Err TooBig) h = at byte_limit ∙ h
-    by (Err Memory) h = tt
+    by : (r : Result Value EvalFault) → Evaluates (eval_of (at_row byte_limit host params row) e) r → Answers host params r (λ v. v) (λ m. m.value (plain e) row)
+    by (Ok v) h = record { under = λ g l. at g ∙ value_under e (at_row byte_limit host params row) g v refl l h }
+    by (Err f) h = faults_by host params (λ m. m.value (plain e) row) f (λ g c. at g ∙ fault_under e (at_row byte_limit host params row) g f refl h c)
 
-pub row_quiet : (host : Host) (params : List Value) (row : Row) (e : Expr) (o : Option Value) (v w : Value) → MatchOption o (quiet e ≡ false) (λ v. HasValue quiet (at_row None host params row) e v) → o ≡ Some v → w ≡ v → IsBoth host params (λ m. m.value (plain e) row) w
+pub row_quiet : (host : Host) (params : List Value) (row : Row) (e : Expr) (o : Option Value) (v w : Value) → MatchOption o (quiet e ≡ false) (λ v. HasValue quiet (at_row None host params row) e v) → o ≡ Some v → w ≡ v → IsMeant host params (λ m. m.value (plain e) row) w
 row_quiet host params row e None v w h is made = absurd cc
 row_quiet host params row e (Some u) v w h is made = quiet_answers host params row e w (subst (HasValue quiet (at_row None host params row) e) (let q : u ≡ w = cc in q) h)
 
-pub row_loud : (host : Host) (params : List Value) (row : Row) (e : Expr) (o : Option Value) (r : Result Value EvalFault) → MatchOption o (quiet e ≡ false) (λ v. HasValue quiet (at_row None host params row) e v) → o ≡ None → Limited (at_row byte_limit host params row) e r → Answers host params r (λ v. v) (λ m. m.value (plain e) row)
+pub row_loud : (host : Host) (params : List Value) (row : Row) (e : Expr) (o : Option Value) (r : Result Value EvalFault) → MatchOption o (quiet e ≡ false) (λ v. HasValue quiet (at_row None host params row) e v) → o ≡ None → Evaluates (eval_of (at_row byte_limit host params row) e) r → Answers host params r (λ v. v) (λ m. m.value (plain e) row)
 row_loud host params row e None r h is l = loud_answers host params row e r h l
 row_loud host params row e (Some u) r h is l = absurd cc
 
-pub group_answers : (host : Host) (params : List Value) (g : Group) (e : Expr) (r : Result Value EvalFault) → Limited (at_group byte_limit host params g) e r → Answers host params r (λ v. v) (λ m. m.over (plain e) g)
-group_answers host params g e (Ok v) h = record { exact = ap value_of h.0; sized = ap value_of h.1 }
-group_answers host params g e (Err Overflow) h = h
-group_answers host params g e (Err NotANumber) h = h
-group_answers host params g e (Err NotUtf8) h = h
-group_answers host params g e (Err (Said text)) h = h
-group_answers host params g e (Err TooBig) h = h
-group_answers host params g e (Err Memory) h = tt
+pub group_answers : (host : Host) (params : List Value) (g : Group) (e : Expr) (r : Result Value EvalFault) → Evaluates (eval_of (at_group byte_limit host params g) e) r → Answers host params r (λ v. v) (λ m. m.over (plain e) g)
+group_answers host params g e (Ok v) h = record { under = λ regard l. value_under e (at_group byte_limit host params g) regard v refl l h }
+group_answers host params g e (Err f) h = faults_by host params (λ m. m.over (plain e) g) f (λ regard c. fault_under e (at_group byte_limit host params g) regard f refl h c)
 
-is_so_known : (o : Outcome (Option Bool)) (t : Option Bool) → o ≡ Ok t → is_so o ≡ Some (is_true t)
-is_so_known o None h = ap is_so h
-is_so_known o (Some true) h = ap is_so h
-is_so_known o (Some false) h = ap is_so h
+is_so_known : (g : Regard) (o : Outcome (Option Bool)) (t : Option Bool) → o ≡ Ok t → so_taken g.truth o ≡ Some (is_true t)
+is_so_known g o None h = ap (so_taken g.truth) h
+is_so_known g o (Some true) h = ap (so_taken g.truth) h
+is_so_known g o (Some false) h = ap (so_taken g.truth) h
 
 -- whether a value is true
-pub so_known : (host : Host) (params : List Value) (s : Scope) (e : Ordered) (v : Value) (t : Option Bool) → IsBoth host params (λ m. in_scope m s e) v → Ok t ≡ truth v → IsBoth host params (λ m. is_so_in m s e) (is_true t)
+pub so_known : (host : Host) (params : List Value) (s : Scope) (e : Ordered) (v : Value) (t : Option Bool) → IsMeant host params (λ m. in_scope m s e) v → Ok t ≡ truth v → IsMeant host params (λ m. is_so_in m s e) (is_true t)
 so_known host params s e v t b h = record {
-  exact = ap (option_and_then (λ w. is_so (truth w))) b.exact ∙ is_so_known (truth v) t (sym h);
-  sized = ap (option_and_then (λ w. is_so (truth w))) b.sized ∙ is_so_known (truth v) t (sym h);
+  under = λ g l. ap (option_and_then (λ w. so_taken g.truth (truth w))) (b.under g l) ∙ is_so_known g (truth v) t (sym h);
 }
 
-pub so_unknown : (host : Host) (params : List Value) (s : Scope) (e : Ordered) (v : Value) (f : EvalFault) → IsBoth host params (λ m. in_scope m s e) v → Err f ≡ truth v → Faults host params (λ m. is_so_in m s e) f
-so_unknown host params s e v f b h = faults_of host params (λ m. is_so_in m s e) f
-    (ap (option_and_then (λ w. is_so (truth w))) b.exact ∙ ap is_so (sym h)) (ap (option_and_then (λ w. is_so (truth w))) b.sized ∙ ap is_so (sym h))
+pub so_unknown : (host : Host) (params : List Value) (s : Scope) (e : Ordered) (v : Value) (f : EvalFault) → IsMeant host params (λ m. in_scope m s e) v → Err f ≡ truth v → Faults host params (λ m. is_so_in m s e) f
+so_unknown host params s e v f b h =
+    faults_by host params (λ m. is_so_in m s e) f
+    (λ g c. ap (option_and_then (λ w. so_taken g.truth (truth w))) (b.under g (limit_of_count g f c)) ∙ ap (so_taken g.truth) (sym h) ∙ (alone g f c).1)
 
 pub so_faults : (host : Host) (params : List Value) (s : Scope) (e : Ordered) (f : EvalFault) → Faults host params (λ m. in_scope m s e) f → Faults host params (λ m. is_so_in m s e) f
-so_faults host params s e f h = faults_on host params (λ m. in_scope m s e) (λ m. is_so_in m s e) f (λ most k. ap (option_and_then (λ w. is_so (truth w))) k) h
+so_faults host params s e f h = faults_on host params (λ m. in_scope m s e) (λ m. is_so_in m s e) f (λ g k. ap (option_and_then (λ w. so_taken g.truth (truth w))) k) h
 
 pub in_row : (host : Host) (params : List Value) (s : Scope) (row : Bor (List Value)) (e : Expr) (r : Result Value EvalFault) → s ≡ scope.Row row → Answers host params r (λ v. v) (λ m. m.value (plain e) row.now) → Answers host params r (λ v. v) (λ m. in_scope m s (plain e))
 in_row host params s row e r is h = subst (λ t. Answers host params r (λ v. v) (λ m. in_scope m t (plain e))) (sym is) h
 
-pub in_group : (host : Host) (params : List Value) (s : Scope) (shown : Bor (List Value)) (members : Bor (List (List Value))) (e : Expr) (r : Result Value EvalFault) → s ≡ scope.Group shown members → Limited (at_group byte_limit host params (record { shown = shown.now; members = members.now })) e r → Answers host params r (λ v. v) (λ m. in_scope m s (plain e))
+pub in_group : (host : Host) (params : List Value) (s : Scope) (shown : Bor (List Value)) (members : Bor (List (List Value))) (e : Expr) (r : Result Value EvalFault) → s ≡ scope.Group shown members → Evaluates (eval_of (at_group byte_limit host params (record { shown = shown.now; members = members.now })) e) r → Answers host params r (λ v. v) (λ m. in_scope m s (plain e))
 in_group host params s shown members e r is h = subst (λ t. Answers host params r (λ v. v) (λ m. in_scope m t (plain e))) (sym is) (group_answers host params (record { shown = shown.now; members = members.now }) e r h)

@@ -9,11 +9,11 @@ use Rattle.cr_bags.specs.Bags.{joins, single, those}
 use Rattle.cr_query.specs.Query.{Row, Meaning, all_true, answer, finished, joined, shown}
 use Rattle.cr_query.proofs.PlanLaws.{gather-append, joined_one}
 use Rattle.cr_meaning.specs.View.{Ordered, joining, query, terms}
-use Rattle.cr_meaning.specs.Meaning.{meaning}
-use Rattle.cr_exec.specs.Answers.{Answers, Faults, IsBoth, Stage}
+use Rattle.cr_meaning.specs.Meaning.{Regard, regarded}
+use Rattle.cr_exec.specs.Answers.{Answers, Faults, IsMeant, Stage}
 use Rattle.cr_exec.specs.Combinations.{IsOfOneTable}
 use Rattle.cr_exec.specs.Tails.{with_quiet_first}
-use Rattle.cr_exec.proofs.Stages.{both_after, faults_after, faults_on}
+use Rattle.cr_exec.proofs.Stages.{meant_after, faults_after, faults_on}
 
 -- what a row adds, by whether it is kept
 abbrev added : Row → Option Bool → Option (List Row)
@@ -40,41 +40,41 @@ module _ (host : Host) (params : List Value) (ts : List Ordered) (rows out : Lis
   abbrev stage : List Row → Stage (List Row)
   stage xs m = those (all_true m ts) xs
 
-  pub both_kept : IsBoth host params (stage rows) out → IsBoth host params (λ m. all_true m ts r) true → IsBoth host params (stage (rows ++ r ∷ [])) (out ++ r ∷ [])
+  pub both_kept : IsMeant host params (stage rows) out → IsMeant host params (λ m. all_true m ts r) true → IsMeant host params (stage (rows ++ r ∷ [])) (out ++ r ∷ [])
   both_kept before is =
-      both_after host params (stage rows) out (λ m. all_true m ts r) true (stage (rows ++ r ∷ [])) (out ++ r ∷ []) (λ most. kept_true (meaning most host params) ts rows out r) before is
+      meant_after host params (stage rows) out (λ m. all_true m ts r) true (stage (rows ++ r ∷ [])) (out ++ r ∷ []) (λ regard. kept_true (regarded regard host params) ts rows out r) before is
 
-  pub both_left_out : IsBoth host params (stage rows) out → IsBoth host params (λ m. all_true m ts r) false → IsBoth host params (stage (rows ++ r ∷ [])) out
+  pub both_left_out : IsMeant host params (stage rows) out → IsMeant host params (λ m. all_true m ts r) false → IsMeant host params (stage (rows ++ r ∷ [])) out
   both_left_out before is =
-      both_after host params (stage rows) out (λ m. all_true m ts r) false (stage (rows ++ r ∷ [])) out (λ most. kept_false (meaning most host params) ts rows out r) before is
+      meant_after host params (stage rows) out (λ m. all_true m ts r) false (stage (rows ++ r ∷ [])) out (λ regard. kept_false (regarded regard host params) ts rows out r) before is
 
-  pub fault_on : (rest : List Row) (e : EvalFault) → IsBoth host params (stage rows) out → Faults host params (λ m. all_true m ts r) e → Faults host params (stage ((rows ++ r ∷ []) ++ rest)) e
+  pub fault_on : (rest : List Row) (e : EvalFault) → IsMeant host params (stage rows) out → Faults host params (λ m. all_true m ts r) e → Faults host params (stage ((rows ++ r ∷ []) ++ rest)) e
   fault_on rest e before h =
-      faults_after host params (stage rows) out (λ m. all_true m ts r) (stage ((rows ++ r ∷ []) ++ rest)) e (λ most. kept_none (meaning most host params) ts rows out r rest) before h
+      faults_after host params (stage rows) out (λ m. all_true m ts r) (stage ((rows ++ r ∷ []) ++ rest)) e (λ regard. kept_none (regarded regard host params) ts rows out r rest) before h
 
 -- ---- the answer
 
 module _ (host : Host) (params : List Value) (q : Resolved) (one : IsOfOneTable q) (ts : List Ordered) (are : ts ≡ with_quiet_first (terms q)) (rows : List Row) where
-  joined_are : (most : Option ℕ) → joined (meaning most host params) (query q) (single rows) ≡ those (all_true (meaning most host params) ts) rows
+  joined_are : (regard : Regard) → joined (regarded regard host params) (query q) (single rows) ≡ those (all_true (regarded regard host params) ts) rows
   joined_are most =
-      let m = meaning most host params in
+      let m = regarded regard host params in
       joined_one m (query q) (joining one.table) (ap (map joining) one.only) one.inner rows ∙ ap (λ es. those (all_true m es) rows) (sym are)
 
   abbrev last : List Row → Stage (List Row)
   last cs m = option_map (finished m (query q)) (shown m (query q) cs)
 
-  over : (most : Option ℕ) (cs : List Row) → those (all_true (meaning most host params) ts) rows ≡ Some cs → answer (meaning most host params) (query q) (single rows) ≡ last cs (meaning most host params)
-  over most cs kept = ap (λ o. option_map (finished (meaning most host params) (query q)) (option_and_then (shown (meaning most host params) (query q)) o)) (joined_are most ∙ kept)
+  over : (regard : Regard) (cs : List Row) → those (all_true (regarded regard host params) ts) rows ≡ Some cs → answer (regarded regard host params) (query q) (single rows) ≡ last cs (regarded regard host params)
+  over regard cs kept = ap (λ o. option_map (finished (regarded regard host params) (query q)) (option_and_then (shown (regarded regard host params) (query q)) o)) (joined_are regard ∙ kept)
 
   -- where the rows that are kept have a fault
   pub unkept : (e : EvalFault) → Faults host params (λ m. those (all_true m ts) rows) e → Faults host params (λ m. answer m (query q) (single rows)) e
   unkept e h =
       faults_on host params (λ m. those (all_true m ts) rows) (λ m. answer m (query q) (single rows)) e
-      (λ most none. ap (λ o. option_map (finished (meaning most host params) (query q)) (option_and_then (shown (meaning most host params) (query q)) o)) (joined_are most ∙ none)) h
+      (λ regard none. ap (λ o. option_map (finished (regarded regard host params) (query q)) (option_and_then (shown (regarded regard host params) (query q)) o)) (joined_are regard ∙ none)) h
 
-  pub answers_kept : (cs : List Row) → IsBoth host params (λ m. those (all_true m ts) rows) cs → {X : Type 0} (view : X → List Row) (result : Result X EvalFault)
+  pub answers_kept : (cs : List Row) → IsMeant host params (λ m. those (all_true m ts) rows) cs → {X : Type 0} (view : X → List Row) (result : Result X EvalFault)
       → Answers host params result view (last cs) → Answers host params result view (λ m. answer m (query q) (single rows))
   answers_kept cs kept view (Ok x) both =
-      both_after host params (λ m. those (all_true m ts) rows) cs (last cs) (view x) (λ m. answer m (query q) (single rows)) (view x) (λ most k l. over most cs k ∙ l) kept both
+      meant_after host params (λ m. those (all_true m ts) rows) cs (last cs) (view x) (λ m. answer m (query q) (single rows)) (view x) (λ regard k l. over regard cs k ∙ l) kept both
   answers_kept cs kept view (Err e) h =
-      faults_after host params (λ m. those (all_true m ts) rows) cs (last cs) (λ m. answer m (query q) (single rows)) e (λ most k l. over most cs k ∙ l) kept h
+      faults_after host params (λ m. those (all_true m ts) rows) cs (last cs) (λ m. answer m (query q) (single rows)) e (λ regard k l. over regard cs k ∙ l) kept h

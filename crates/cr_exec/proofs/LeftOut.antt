@@ -18,16 +18,16 @@ use Rattle.cr_bags.specs.Bags.{joins, gather, those, single}
 use Rattle.cr_query.specs.Query.{Row, Meaning, all_true, combined, joined, joined_with, nulls, or_padded, with_rows}
 use Rattle.cr_query.proofs.PlanLaws.{gather-map}
 use Rattle.cr_meaning.specs.View.{Ordered, joining, plain, query, terms as terms_of}
-use Rattle.cr_meaning.specs.Meaning.{meaning}
+use Rattle.cr_meaning.specs.Meaning.{Regard, regarded}
 use Rattle.cr_exec.specs.declared.source.LookUp.{LookUp}
 use Rattle.cr_exec.specs.declared.source.Source.{Source}
-use Rattle.cr_exec.specs.Answers.{Stage, Faults, IsBoth, Adds, behind}
+use Rattle.cr_exec.specs.Answers.{Stage, Faults, IsMeant, Adds, behind}
 use Rattle.cr_exec.specs.Combinations.{tail, left_with}
 use Rattle.cr_exec.specs.Equalities.{OrdersBytes, is_equal, sought}
 use Rattle.cr_exec.specs.LookUps.{IsWanted, rows_with, AreSound, IsIndexOf, IsLookUpOf, IsQuietFirst, IsSound, asked, cell, is_left, is_wide, join_of, joined_rows, rows_of, terms_on, with_value, Wants}
 use Rattle.cr_exec.specs.Scopes.{there}
 use Rattle.cr_exec.specs.Tails.{with_quiet_first}
-use Rattle.cr_exec.proofs.Stages.{faults_on, both_on}
+use Rattle.cr_exec.proofs.Stages.{faults_on, meant_on}
 use Rattle.cr_exec.proofs.Tails.{tail_inner, adds_on, rest_inner, rest_left, rest_fault, joined_fault, joined_both}
 use Rattle.cr_exec.proofs.Sought.{asked_wide, not_all_true}
 
@@ -35,7 +35,7 @@ use Rattle.cr_exec.proofs.Sought.{asked_wide, not_all_true}
 
 -- on a combination with this row, whatever stands behind it, the terms are not all true, and do not fault
 abbrev Rejects : Host → List Value → List Ordered → Row → Row → Type 0
-Rejects host params terms c r = (most : Option ℕ) (more : Row) → all_true (meaning most host params) terms ((c ++ r) ++ more) ≡ Some false
+Rejects host params terms c r = (regard : Regard) (more : Row) → all_true (regarded regard host params) terms ((c ++ r) ++ more) ≡ Some false
 
 -- rows are left out that are rejected
 record Leaves (host : Host) (params : List Value) (terms : List Ordered) (c : Row) (rows kept : List Row) : Type 0 where
@@ -88,9 +88,9 @@ unfolding passes_at
 leaves host params terms later s l c kept first sound found = record {
   passes = passes_at l.equality.place found.value;
   are = found.are ∙ all_wide l.equality.place found.value (rows_of s) (asked_wide l.start (rows_of s) (terms_on terms s.join.now) (sought l.equality) sound.by_terms.asks);
-  rejects = λ r out most more.
+  rejects = λ r out regard more.
       let k = left_out (nat_lt l.equality.place (length r)) (is_equal found.value (cell l.equality.place r)) out in
-      not_all_true host sound.bytes params c r more l.start (sought l.equality) found.value found.beside (ltb-true l.equality.place (length r) k.0) found.wanted k.1 most (rows_of s) (terms_on terms s.join.now) first sound.by_terms.asks;
+      not_all_true host sound.bytes params c r more l.start (sought l.equality) found.value found.beside (ltb-true l.equality.place (length r) k.0) found.wanted k.1 regard (rows_of s) (terms_on terms s.join.now) first sound.by_terms.asks;
 }
 
 -- ---- look-ups that serve
@@ -145,9 +145,9 @@ fewer g c p rows kept is none =
     ∙ sym (gather-map (λ r. c ++ r) g (filter p rows))
     ∙ ap (λ (l : List Row). gather g (with_rows c l)) (sym is)
 
-module _ (most : Option ℕ) (host : Host) (params : List Value) (terms : List Ordered) where
+module _ (regard : Regard) (host : Host) (params : List Value) (terms : List Ordered) where
   abbrev m : Meaning Ordered
-  m = meaning most host params
+  m = regarded regard host params
 
   abbrev rest : List Source → Row → Option (List Row)
   rest sources = tail m terms (map join_of sources) (map rows_of sources)
@@ -157,7 +157,7 @@ module _ (most : Option ℕ) (host : Host) (params : List Value) (terms : List O
   to_nothing [] d inner out = ap (λ o. joins (option_map (λ b. cond b (single d) []) o) (Some [])) (ap (all_true m terms) (sym (append-nil d)) ∙ out [])
   to_nothing (s ∷ ss) d inner out =
       let k = or_false (is_left s) (list_any is_left ss) inner in
-      tail_inner most host params terms s.join.now (map join_of ss) (rows_of s) (map rows_of ss) d k.0
+      tail_inner regard host params terms s.join.now (map join_of ss) (rows_of s) (map rows_of ss) d k.0
       ∙ gather-map (λ r. d ++ r) (rest ss) (rows_of s)
       ∙ gather_none (λ r. rest ss (d ++ r)) (λ r. to_nothing ss (d ++ r) k.1 (λ more. ap (all_true m terms) (append_assoc d r more) ∙ out (r ++ more))) (rows_of s)
 
@@ -177,7 +177,7 @@ module _ (most : Option ℕ) (host : Host) (params : List Value) (terms : List O
           let on : terms_on terms s.join.now ≡ terms = ap (λ b. cond b (with_quiet_first (map plain s.join.now.on)) terms) inner in
           let l = leaves host params terms later s found.0 c kept (subst IsQuietFirst (sym on) first) sound found.2 in
           sym (fewer (rest later) c l.passes (rows_of s) kept l.are
-          (λ r out. to_nothing later (c ++ r) (sound.no_left_follows inner) (λ more. ap (λ es. all_true m es ((c ++ r) ++ more)) (sym on) ∙ l.rejects r out most more))))
+          (λ r out. to_nothing later (c ++ r) (sound.no_left_follows inner) (λ more. ap (λ es. all_true m es ((c ++ r) ++ more)) (sym on) ∙ l.rejects r out regard more))))
     ]
 
     -- a table that a LEFT JOIN brings
@@ -190,7 +190,7 @@ module _ (most : Option ℕ) (host : Host) (params : List Value) (terms : List O
           let l = leaves host params terms later s found.0 c kept (record { of = map plain s.join.now.on; are = on }) (found_by found.0 found.1) found.2 in
           let none = λ (r : Row) (out : l.passes r ≡ false).
           ap (λ o. option_map (λ b. cond b (single (c ++ r)) []) o)
-          (ap (all_true m own) (sym (append-nil (c ++ r))) ∙ ap (λ es. all_true m es ((c ++ r) ++ [])) (sym on) ∙ l.rejects r out most []) in
+          (ap (all_true m own) (sym (append-nil (c ++ r))) ∙ ap (λ es. all_true m es ((c ++ r) ++ [])) (sym on) ∙ l.rejects r out regard []) in
           ap (option_map (or_padded (nulls (length s.join.now.relation.definition.columns)) c))
           (sym (fewer (λ x. option_map (λ b. cond b (single x) []) (all_true m own x)) c l.passes (rows_of s) kept l.are none)))
     ]
@@ -237,21 +237,21 @@ module _ (host : Host) (params : List Value) (terms : List Ordered) (first : IsQ
   inner_adds inner old new r h =
       rest_inner host params terms (map join_of sources) (map join_of later) s.join.now (map rows_of sources) (map rows_of later) (rows_of s) c (ap (map join_of) cut) (ap (map rows_of) cut) inner old new r
       (adds_on host params (λ m. gather (tail m terms (map join_of later) (map rows_of later)) (with_rows c kept)) (λ m. gather (tail m terms (map join_of later) (map rows_of later)) (with_rows c (rows_of s)))
-      (λ most. inner_kept most host params terms first s later c kept parted are inner) old new r h)
+      (λ regard. inner_kept regard host params terms first s later c kept parted are inner) old new r h)
 
   -- those of a LEFT JOIN's
   pub left_faults : is_left s ≡ true → (e : EvalFault) → Faults host params (λ m. left_with m s.join.now kept c) e → Faults host params tail_of e
   left_faults left e h =
       rest_fault host params terms (map join_of sources) (map join_of later) s.join.now (map rows_of sources) (map rows_of later) (rows_of s) c (ap (map join_of) cut) (ap (map rows_of) cut) left e
       (faults_on host params (λ m. left_with m s.join.now kept c) (λ m. left_with m s.join.now (rows_of s) c) e
-      (λ most k. sym (left_kept most host params terms first s later c kept parted are left) ∙ k) h)
+      (λ regard k. sym (left_kept regard host params terms first s later c kept parted are left) ∙ k) h)
 
-  pub left_adds : is_left s ≡ true → (cs : List Row) → IsBoth host params (λ m. left_with m s.join.now kept c) cs → (old new : List Row) (r : Result (Unit {0}) EvalFault)
+  pub left_adds : is_left s ≡ true → (cs : List Row) → IsMeant host params (λ m. left_with m s.join.now kept c) cs → (old new : List Row) (r : Result (Unit {0}) EvalFault)
       → Adds host params (λ m. gather (tail m terms (map join_of later) (map rows_of later)) (with_rows [] cs)) old new r → Adds host params tail_of old new r
   left_adds left cs b old new r h =
       rest_left host params terms (map join_of sources) (map join_of later) s.join.now (map rows_of sources) (map rows_of later) (rows_of s) c (ap (map join_of) cut) (ap (map rows_of) cut) left cs
-      (both_on host params (λ m. left_with m s.join.now kept c) (λ m. left_with m s.join.now (rows_of s) c) cs cs
-      (λ most k. sym (left_kept most host params terms first s later c kept parted are left) ∙ k) b) old new r h
+      (meant_on host params (λ m. left_with m s.join.now kept c) (λ m. left_with m s.join.now (rows_of s) c) cs cs
+      (λ regard k. sym (left_kept regard host params terms first s later c kept parted are left) ∙ k) b) old new r h
 
 -- ---- a query's FROM
 
@@ -266,13 +266,13 @@ module _ (host : Host) (params : List Value) (q : Resolved) (tables : List (List
   pub sources_fault : (e : EvalFault) → Faults host params over_sources e → Faults host params (λ m. joined m (query q) tables) e
   sources_fault e h =
       joined_fault host params q tables ts js same all e
-      (faults_on host params over_sources (λ m. tail m (map there ts) js tables []) e (λ most k. sym (from_sources (meaning most host params)) ∙ k) h)
+      (faults_on host params over_sources (λ m. tail m (map there ts) js tables []) e (λ regard k. sym (from_sources (regarded regard host params)) ∙ k) h)
 
-  pub sources_both : (old new : List Row) → old ≡ [] → IsBoth host params (λ m. behind old (over_sources m)) new → IsBoth host params (λ m. joined m (query q) tables) new
+  pub sources_both : (old new : List Row) → old ≡ [] → IsMeant host params (λ m. behind old (over_sources m)) new → IsMeant host params (λ m. joined m (query q) tables) new
   sources_both old new none h =
       joined_both host params q tables ts js same all old new none
-      (both_on host params (λ m. behind old (over_sources m)) (λ m. behind old (tail m (map there ts) js tables [])) new new
-      (λ most k. ap (behind old) (sym (from_sources (meaning most host params))) ∙ k) h)
+      (meant_on host params (λ m. behind old (over_sources m)) (λ m. behind old (tail m (map there ts) js tables [])) new new
+      (λ regard k. ap (behind old) (sym (from_sources (regarded regard host params))) ∙ k) h)
 
 -- an index of the rows of a table, where its look-up is sound
 pub indexed : (host : Host) (terms : List Ordered) (sources : List Source) (s : Source) (later : List Source) → sources ≡ s ∷ later → AreSound host terms sources → IfSome s.look_up (λ l. IsIndexOf l.equality.place (rows_of s) l.index)

@@ -7,9 +7,9 @@ use Rattle.cr_scalar.specs.declared.fault.EvalFault.{EvalFault}
 use Rattle.cr_query.specs.Query.{Meaning}
 use Rattle.cr_bags.specs.Bags.{joins, gather, single}
 use Rattle.cr_meaning.specs.View.{Ordered}
-use Rattle.cr_meaning.specs.Meaning.{meaning}
-use Rattle.cr_exec.specs.Answers.{Stage, Faults, IsBoth, behind}
-use Rattle.cr_exec.proofs.Stages.{Gives, gives_all, gives_next, gives_faults, gives_both, faults_on, both_on, both_always}
+use Rattle.cr_meaning.specs.Meaning.{Regard, regarded}
+use Rattle.cr_exec.specs.Answers.{Stage, Faults, IsMeant, behind}
+use Rattle.cr_exec.proofs.Stages.{Gives, gives_all, gives_next, gives_faults, gives_meant, faults_on, meant_on, meant_always}
 
 pub rest_at : {A : Type 0} (xs : List A) (i : ℕ) (x : A) → i < length xs → x ≡ get_or xs i x → drop i xs ≡ x ∷ drop (i + 1) xs
 rest_at xs i x h e = rw (add-one, drop-cons xs i x h) (ap (λ (y : _). y ∷ drop (suc i) xs) (let s : get_or xs i x ≡ x = cc in s))
@@ -39,36 +39,36 @@ module _ {X Y : Type 0} (host : Host) (params : List Value) (f : Meaning Ordered
   cut : (old : List Y) (m : Meaning Ordered) (x : X) → i < length xs → x ≡ get_or xs i x → left_behind old m ≡ behind old (joins (f m x) (gather (f m) (drop (i + 1) xs)))
   cut old m x h e = ap (λ (ys : List X). behind old (gather (f m) ys)) (rest_at xs i x h e)
 
-  pub gather_next : (x : X) (old new : List Y) → i < length xs → x ≡ get_or xs i x → IsBoth host params (λ m. behind old (f m x)) new
+  pub gather_next : (x : X) (old new : List Y) → i < length xs → x ≡ get_or xs i x → IsMeant host params (λ m. behind old (f m x)) new
       → Gives host params (left_behind old) whole → Gives host params (left_after new) whole
   gather_next x old new h e b g =
       gives_next host params (λ m. behind old (f m x)) new (left_behind old) (left_after new) whole
-      (λ most k. step old new (f (meaning most host params) x) (gather (f (meaning most host params)) (drop (i + 1) xs)) k ∙ sym (cut old (meaning most host params) x h e)) b g
+      (λ regard k. step old new (f (regarded regard host params) x) (gather (f (regarded regard host params)) (drop (i + 1) xs)) k ∙ sym (cut old (regarded regard host params) x h e)) b g
 
   pub gather_fails : (x : X) (old : List Y) (e : EvalFault) → i < length xs → x ≡ get_or xs i x → Faults host params (λ m. f m x) e
       → Gives host params (left_behind old) whole → Faults host params whole e
   gather_fails x old e h is b g =
       gives_faults host params (left_behind old) whole e g
       (faults_on host params (λ m. f m x) (left_behind old) e
-      (λ most k. cut old (meaning most host params) x h is ∙ ap (λ (o : Option (List Y)). behind old (joins o (gather (f (meaning most host params)) (drop (i + 1) xs)))) k) b)
+      (λ regard k. cut old (regarded regard host params) x h is ∙ ap (λ (o : Option (List Y)). behind old (joins o (gather (f (regarded regard host params)) (drop (i + 1) xs)))) k) b)
 
-  pub gather_ends : (old : List Y) → length xs ≤ i → Gives host params (left_behind old) whole → IsBoth host params whole old
+  pub gather_ends : (old : List Y) → length xs ≤ i → Gives host params (left_behind old) whole → IsMeant host params whole old
   gather_ends old h g =
-      gives_both host params (left_behind old) whole old g
-      (both_always host params (left_behind old) old
-      (λ most. ap (λ (ys : List X). behind old (gather (f (meaning most host params)) ys)) (drop_all i xs h) ∙ ap (λ (l : List Y). Some l) (append-nil old)))
+      gives_meant host params (left_behind old) whole old g
+      (meant_always host params (left_behind old) old
+      (λ regard. ap (λ (ys : List X). behind old (gather (f (regarded regard host params)) ys)) (drop_all i xs h) ∙ ap (λ (l : List Y). Some l) (append-nil old)))
 
 -- ---- values of which one is made for each item
 
 -- one that is made stands behind
-pub one_behind : {Y : Type 0} (host : Host) (params : List Value) (f : Stage Y) (y : Y) (old new : List Y) → new ≡ old ++ y ∷ [] → IsBoth host params f y → IsBoth host params (λ m. behind old (option_map single (f m))) new
-one_behind host params f y old new is b = both_on host params f (λ m. behind old (option_map single (f m))) y new (λ most k. ap (λ o. behind old (option_map single o)) k ∙ ap (λ l. Some l) (sym is)) b
+pub one_behind : {Y : Type 0} (host : Host) (params : List Value) (f : Stage Y) (y : Y) (old new : List Y) → new ≡ old ++ y ∷ [] → IsMeant host params f y → IsMeant host params (λ m. behind old (option_map single (f m))) new
+one_behind host params f y old new is b = meant_on host params f (λ m. behind old (option_map single (f m))) y new (λ regard k. ap (λ o. behind old (option_map single o)) k ∙ ap (λ l. Some l) (sym is)) b
 
 pub none_single : {Y : Type 0} (host : Host) (params : List Value) (f : Stage Y) (e : EvalFault) → Faults host params f e → Faults host params (λ m. option_map single (f m)) e
-none_single host params f e h = faults_on host params f (λ m. option_map single (f m)) e (λ most k. ap (option_map single) k) h
+none_single host params f e h = faults_on host params f (λ m. option_map single (f m)) e (λ regard k. ap (option_map single) k) h
 
 -- before the first
-pub starts : {X Y : Type 0} (host : Host) (params : List Value) (f : Meaning Ordered → X → Option (List Y)) (whole : Stage (List Y)) (xs : List X) (old : List Y) → old ≡ [] → ((most : Option ℕ) → gather (f (meaning most host params)) xs ≡ whole (meaning most host params)) → Gives host params (left_behind host params f whole xs 0 old) whole
+pub starts : {X Y : Type 0} (host : Host) (params : List Value) (f : Meaning Ordered → X → Option (List Y)) (whole : Stage (List Y)) (xs : List X) (old : List Y) → old ≡ [] → ((regard : Regard) → gather (f (regarded regard host params)) xs ≡ whole (regarded regard host params)) → Gives host params (left_behind host params f whole xs 0 old) whole
 starts host params f whole xs old none k =
     gives_all host params (left_behind host params f whole xs 0 old) whole
-    (λ most. ap (λ l. behind l (gather (f (meaning most host params)) xs)) none ∙ behind_nil (gather (f (meaning most host params)) xs) ∙ k most)
+    (λ regard. ap (λ l. behind l (gather (f (regarded regard host params)) xs)) none ∙ behind_nil (gather (f (regarded regard host params)) xs) ∙ k regard)

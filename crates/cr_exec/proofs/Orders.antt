@@ -16,7 +16,7 @@ use Rattle.cr_bags.specs.Bags.{SameBag, sort, firsts}
 use Rattle.cr_query.specs.Queries.{Shown as Asked}
 use Rattle.cr_query.specs.Query.{Row, Meaning, head_or_null, rest_of, directed, by_terms, by_exprs, row_cmp, spelled_cmp, shown_row, shown_keys, distinct, limited, finished}
 use Rattle.cr_meaning.specs.View.{Ordered, query, order_term, result_term, group_term}
-use Rattle.cr_meaning.specs.Meaning.{meaning}
+use Rattle.cr_meaning.specs.Meaning.{Regard, regarded}
 use Rattle.cr_exec.specs.declared.show.Shown.{Shown}
 use Rattle.cr_exec.specs.Comparisons.{ValueOrder, by_orders, term_order, result_order, group_order}
 use Rattle.cr_exec.specs.Shows.{shown_of, row_of, shown_ties, keyed_cmp}
@@ -25,16 +25,16 @@ use Rattle.cr_exec.proofs.Runs.{firsts_sorted}
 
 -- ---- the orders that a query names
 
-module _ (most : Option ℕ) (host : Host) (params : List Value) where
-  pub terms_compare : (ts : List OrderTerm) → by_terms (meaning most host params) (map order_term ts) ≡ by_orders (map (term_order host.order) ts)
+module _ (regard : Regard) (host : Host) (params : List Value) where
+  pub terms_compare : (ts : List OrderTerm) → by_terms (regarded regard host params) (map order_term ts) ≡ by_orders (map (term_order host.order) ts)
   terms_compare [] = refl
   terms_compare (t ∷ ts) = ap (λ (R : Row → Row → Ordering). then_cmp (on head_or_null (directed t.is_descending (value_cmp_by (host.order t.collation)))) (on rest_of R)) (terms_compare ts)
 
-  pub results_compare : (cs : List ResultColumn) → by_exprs (meaning most host params) (map result_term cs) ≡ by_orders (map (result_order host.order) cs)
+  pub results_compare : (cs : List ResultColumn) → by_exprs (regarded regard host params) (map result_term cs) ≡ by_orders (map (result_order host.order) cs)
   results_compare [] = refl
   results_compare (c ∷ cs) = ap (λ (R : Row → Row → Ordering). then_cmp (on head_or_null (value_cmp_by (host.order c.collation))) (on rest_of R)) (results_compare cs)
 
-  pub groups_compare : (gs : List GroupTerm) → by_exprs (meaning most host params) (map group_term gs) ≡ by_orders (map (group_order host.order) gs)
+  pub groups_compare : (gs : List GroupTerm) → by_exprs (regarded regard host params) (map group_term gs) ≡ by_orders (map (group_order host.order) gs)
   groups_compare [] = refl
   groups_compare (g ∷ gs) = ap (λ (R : Row → Row → Ordering). then_cmp (on head_or_null (value_cmp_by (host.order g.collation))) (on rest_of R)) (groups_compare gs)
 
@@ -78,12 +78,12 @@ of_ok P Q (Ok x) h p = h x p
 of_ok P Q (Err e) h p = p
 
 -- from the firsts, sorted again, to the definition
-pub distinct_is : (most : Option ℕ) (host : Host) (params : List Value) (cs : List ResultColumn) (Rs : List ValueOrder) (shown sorted kept again : List Shown)
+pub distinct_is : (regard : Regard) (host : Host) (params : List Value) (cs : List ResultColumn) (Rs : List ValueOrder) (shown sorted kept again : List Shown)
     → Rs ≡ map (result_order host.order) cs → map shown_of sorted ≡ sort spelled_cmp (map shown_of shown) → SameBag kept (firsts (λ a b. shown_ties Rs (shown_of a) (shown_of b)) sorted)
-    → map shown_of again ≡ sort spelled_cmp (map shown_of kept) → map shown_of again ≡ distinct (meaning most host params) (map result_term cs) (map shown_of shown)
-distinct_is most host params cs Rs shown sorted kept again same spelled found is =
+    → map shown_of again ≡ sort spelled_cmp (map shown_of kept) → map shown_of again ≡ distinct (regarded regard host params) (map result_term cs) (map shown_of shown)
+distinct_is regard host params cs Rs shown sorted kept again same spelled found is =
     firsts_sorted spelled_cmp asked_total asked_exact (shown_ties Rs) shown_of shown sorted kept again spelled found is
-    ∙ ap (λ (R : Row → Row → Ordering). firsts (λ (a b : Asked). is_eq (R a.row b.row)) (sort spelled_cmp (map shown_of shown))) (ap by_orders same ∙ sym (results_compare most host params cs))
+    ∙ ap (λ (R : Row → Row → Ordering). firsts (λ (a b : Asked). is_eq (R a.row b.row)) (sort spelled_cmp (map shown_of shown))) (ap by_orders same ∙ sym (results_compare regard host params cs))
 
 -- ---- ORDER BY
 
@@ -94,9 +94,9 @@ rows_through (x ∷ xs) = ap (λ l. x.row ∷ l) (rows_through xs)
 pub rows_sorted : (Rs : List ValueOrder) (xs : List Shown) → map row_of (sort (on shown_of (keyed_cmp Rs)) xs) ≡ map shown_row (sort (keyed_cmp Rs) (map shown_of xs))
 rows_sorted Rs xs = rows_through (sort (on shown_of (keyed_cmp Rs)) xs) ∙ ap (map shown_row) (sort-map (keyed_cmp Rs) shown_of xs)
 
-module _ (most : Option ℕ) (host : Host) (params : List Value) (q : Resolved) where
+module _ (regard : Regard) (host : Host) (params : List Value) (q : Resolved) where
   abbrev m : Meaning Ordered
-  m = meaning most host params
+  m = regarded regard host params
 
   pub finished_is : (Rs : List ValueOrder) (shown apart sorted : List Shown) (rows : List Row) → Rs ≡ map (term_order host.order) q.order
       → map shown_of apart ≡ cond q.is_distinct (distinct m (map result_term q.results) (map shown_of shown)) (map shown_of shown)
@@ -106,4 +106,4 @@ module _ (most : Option ℕ) (host : Host) (params : List Value) (q : Resolved) 
       is ∙ ap (λ (l : List Row). limited q.limit (drop q.offset l)) (up
       ∙ (λ i. map shown_row (sort (then_cmp (on shown_keys (order_is i)) (on shown_row row_cmp)) (once i)))) where
         order_is : by_orders Rs ≡ by_terms m (map order_term q.order)
-        order_is = ap by_orders same ∙ sym (terms_compare most host params q.order)
+        order_is = ap by_orders same ∙ sym (terms_compare regard host params q.order)

@@ -40,8 +40,8 @@ use Rattle.cr_query.specs.Query.{Row, Meaning, is_true, all_true}
 use Rattle.cr_query.specs.Plans.{is_false}
 use Rattle.cr_query.proofs.PlanLaws.{rejected}
 use Rattle.cr_meaning.specs.View.{Ordered}
-use Rattle.cr_meaning.specs.Meaning.{at_row, is_so, meaning, value_of}
-use Rattle.cr_meaning.proofs.Limits.{safe}
+use Rattle.cr_meaning.specs.Meaning.{Regard, at_row, is_so, regarded, so_taken, taken, value_of}
+use Rattle.cr_meaning.proofs.Limits.{known_so, safe}
 use Rattle.cr_exec.specs.Equalities.{Sought, OrdersBytes, own_layer, own_place, known_layer, is_known, no_arm, right_takes, left_takes, side, equality_in, equality, taken_on, is_equal}
 use Rattle.cr_exec.specs.LookUps.{IsQuietFirst, Wants, asked, cell, is_wide, where_wide}
 use Rattle.cr_exec.specs.Scopes.{there}
@@ -266,15 +266,15 @@ module _ (host : Host) (bytes : OrdersBytes host) (params : List Value) (c r mor
         ]
     misses _ h = absurd cc
 
-    module _ (most : Option ℕ) where
+    module _ (regard : Regard) where
       abbrev m : Meaning Ordered
-      m = meaning most host params
+      m = regarded regard host params
 
       term_misses : (e : Ordered) → equality start e.expr ≡ Some q → (quiet e.expr ≡ true) × (is_true m e row ≡ Some false)
       term_misses e h =
           let k = misses (out-Expr e.expr) h in
-          let so : Meant → Option Bool = λ m. option_and_then (λ v. is_so (truth v)) (value_of m) in
-          (k.0, ap (λ b. so (eval_of (at_row (cond b None most) host params row) e.expr)) k.0 ∙ ap so (one_node here e.expr) ∙ k.1)
+          let so : Meant → Option Bool = λ m. option_and_then (λ v. so_taken regard.truth (truth v)) (taken regard.value m) in
+          (k.0, ap (λ b. so (eval_of (at_row (cond b None regard.most) host params row) e.expr)) k.0 ∙ ap so (one_node here e.expr) ∙ known_so regard _ false k.1)
 
       -- ---- all terms
 
@@ -319,7 +319,7 @@ module _ (host : Host) (bytes : OrdersBytes host) (params : List Value) (c r mor
             | inr l ↦ among (of_kind false) f.of l
           ] in
           ap (λ es. all_true m es row) f.are
-          ∙ rejected like (record { order_total = λ e. value_total; over_bag = λ e k cs ds s. refl }) (safe most host params) f.of row of_all
+          ∙ rejected like (record { order_total = λ e. value_total; over_bag = λ e k cs ds s. refl }) (safe regard host params) f.of row of_all
 
 -- the first term that asks for a value asks it of rows that have one there
 pub asked_wide : (start : ℕ) (rows : List Row) (terms : List Ordered) (q : Sought) → asked start rows terms ≡ Some q → is_wide q.place rows ≡ true

@@ -12,14 +12,14 @@ use Rattle.cr_term.specs.declared.query.Joined.{Joined}
 use Rattle.cr_term.specs.declared.query.Query.{Query as Resolved}
 use Rattle.cr_bags.specs.Bags.{gather, those, single}
 use Rattle.cr_query.specs.Query.{Row, Meaning, all_true, joined}
-use Rattle.cr_meaning.specs.Meaning.{meaning}
+use Rattle.cr_meaning.specs.Meaning.{Regard, regarded}
 use Rattle.cr_meaning.specs.View.{Ordered, query, terms as terms_of}
 use Rattle.cr_module.specs.Lawful.{first_row, is_at_end, rest_of}
 use Rattle.cr_module.specs.Reading.{tables_between}
 use Rattle.cr_exec.specs.declared.source.Source.{Source}
 use Rattle.cr_exec.specs.declared.streamed.SourceFault.{SourceFault}
 use Rattle.cr_exec.specs.declared.streamed.SourceFault.TheVariants.{Eval, Store}
-use Rattle.cr_exec.specs.Answers.{Stage, Faults, IsBoth, behind}
+use Rattle.cr_exec.specs.Answers.{Stage, Faults, IsMeant, behind}
 use Rattle.cr_exec.specs.Combinations.{tail}
 use Rattle.cr_exec.specs.LookUps.{join_of, joined_rows, rows_of}
 use Rattle.cr_exec.specs.Scopes.{there}
@@ -27,7 +27,7 @@ use Rattle.cr_exec.specs.Streamed.{AddsRead}
 use Rattle.cr_exec.specs.Tails.{with_quiet_first}
 use Rattle.cr_exec.proofs.LeftOut.{combined_zip}
 use Rattle.cr_exec.proofs.Loops.{behind_none, gather_next, gather_fails, gather_ends}
-use Rattle.cr_exec.proofs.Stages.{Gives, gives_all, faults_on, both_on}
+use Rattle.cr_exec.proofs.Stages.{Gives, gives_all, faults_on, meant_on}
 use Rattle.cr_exec.proofs.Tails.{tail_inner, joined_fault, joined_both}
 
 -- ---- one row after another
@@ -47,11 +47,11 @@ module _ {Y : Type 0} (host : Host) (params : List Value)
       → Gives host params (left_behind left first) whole
   read_starts left rows is k =
       gives_all host params (left_behind left first) whole
-      (λ most. (let m = meaning most host params in ap (λ (rs : List Row). left_behind rs first m) is ∙ ap (behind first) (k m)))
+      (λ regard. (let m = regarded regard host params in ap (λ (rs : List Row). left_behind rs first m) is ∙ ap (behind first) (k m)))
 
   -- behind one more
   pub read_next : (left after : List Row) (row : Row) (old new : List Y) → is_at_end left ≡ false
-      → row ≡ first_row left → after ≡ rest_of left → IsBoth host params (λ m. behind old (f m row)) new
+      → row ≡ first_row left → after ≡ rest_of left → IsMeant host params (λ m. behind old (f m row)) new
       → Gives host params (left_behind left old) whole → Gives host params (left_behind after new) whole
   read_next [] after row old new some is next b g = absurd (let z : ⊥ = cc in z)
   read_next (r ∷ rs) after row old new some is next b g =
@@ -64,12 +64,12 @@ module _ {Y : Type 0} (host : Host) (params : List Value)
       → Gives host params (left_behind left old) whole → Faults host params all e
   read_fails [] row old e some is b g = absurd (let z : ⊥ = cc in z)
   read_fails (r ∷ rs) row old e some is b g =
-      faults_on host params whole all e (λ most k. behind_none first _ k)
+      faults_on host params whole all e (λ regard k. behind_none first _ k)
       (gather_fails host params f whole (r ∷ rs) 0 row old e (omega arith) is b g)
 
   -- behind the last
   pub read_ends : (left : List Row) (old : List Y) → is_at_end left ≡ true
-      → Gives host params (left_behind left old) whole → IsBoth host params whole old
+      → Gives host params (left_behind left old) whole → IsMeant host params whole old
   read_ends [] old none g = gather_ends host params f whole [] 0 old (omega arith) g
   read_ends (r ∷ rs) old none g = absurd (let z : ⊥ = cc in z)
 
@@ -112,24 +112,24 @@ module _ (host : Host) (params : List Value)
   abbrev in_order : Stage (List Row)
   in_order m = tail m terms q.joined all_tables []
 
-  read_is : (most : Option ℕ) → read_rows (meaning most host params) ≡ in_order (meaning most host params)
+  read_is : (regard : Regard) → read_rows (regarded regard host params) ≡ in_order (regarded regard host params)
   read_is most =
-      let m = meaning most host params in
+      let m = regarded regard host params in
       (λ i. gather (λ c. one_is m c i) (stay i 0))
       ∙ ap (gather (tail m terms js tables)) (sym (map-id (rows 0)))
-      ∙ sym (tail_inner most host params terms j js (rows 0) tables [] inner)
+      ∙ sym (tail_inner regard host params terms j js (rows 0) tables [] inner)
       ∙ (λ i. tail m terms (sym parts i) (all_are i) [])
 
   pub read_fault : (old new : List Row) (f : SourceFault)
       → AddsRead host params read_rows old new (Err f) → AddsRead host params wanted old new (Err f)
   read_fault old new (Eval e) h =
       joined_fault host params q all_tables ts q.joined same refl e
-      (faults_on host params read_rows in_order e (λ most k. sym (read_is most) ∙ k) h)
+      (faults_on host params read_rows in_order e (λ regard k. sym (read_is regard) ∙ k) h)
   read_fault old new Store h = tt
 
   pub read_both : (old new : List Row) → old ≡ []
-      → IsBoth host params (λ m. behind old (read_rows m)) new → IsBoth host params wanted new
+      → IsMeant host params (λ m. behind old (read_rows m)) new → IsMeant host params wanted new
   read_both old new none h =
       joined_both host params q all_tables ts q.joined same refl old new none
-      (both_on host params (λ m. behind old (read_rows m)) (λ m. behind old (in_order m)) new new
-      (λ most k. ap (behind old) (sym (read_is most)) ∙ k) h)
+      (meant_on host params (λ m. behind old (read_rows m)) (λ m. behind old (in_order m)) new new
+      (λ regard k. ap (behind old) (sym (read_is regard)) ∙ k) h)

@@ -16,11 +16,11 @@ use Rattle.cr_query.proofs.JoinLaws.{combined-parts}
 use Rattle.cr_meaning.specs.View.{Ordered, plain, joining, query, terms as terms_of}
 use Rattle.cr_exec.specs.Scopes.{there}
 use Rattle.cr_exec.specs.Tails.{with_quiet_first}
-use Rattle.cr_meaning.specs.Meaning.{meaning}
+use Rattle.cr_meaning.specs.Meaning.{Regard, regarded}
 use Rattle.cr_exec.specs.Combinations.{tail, left_with}
-use Rattle.cr_exec.specs.Answers.{Stage, Faults, IsBoth, Adds, behind}
+use Rattle.cr_exec.specs.Answers.{Stage, Faults, IsMeant, Adds, behind}
 use Rattle.cr_exec.specs.Groups.{row_there}
-use Rattle.cr_exec.proofs.Stages.{Gives, gives_all, faults_on, both_on, faults_after, both_after}
+use Rattle.cr_exec.proofs.Stages.{Gives, gives_all, faults_on, meant_on, faults_after, meant_after}
 use Rattle.cr_exec.proofs.Loops.{behind_nil, behind_none, gather_fails}
 
 -- ---- one combination
@@ -57,9 +57,9 @@ null_pushed old now new n h k = k ∙ ap (λ (l : Row). l ++ Null ∷ []) h ∙ 
 
 -- ---- one table after another
 
-module _ (most : Option ℕ) (host : Host) (params : List Value) (terms : List Ordered) where
+module _ (regard : Regard) (host : Host) (params : List Value) (terms : List Ordered) where
   abbrev m : Meaning Ordered
-  m = meaning most host params
+  m = regarded regard host params
 
   -- tables that come later are joined to each combination by itself
   pub tail_of : (j : Joined) (joined : List Joined) (rows : List Row) (tables : List (List Row)) (c : Row) (cs : List Row) → joined_with m (joining j) rows c ≡ Some cs
@@ -95,14 +95,14 @@ module _ (most : Option ℕ) (host : Host) (params : List Value) (terms : List O
 -- ---- what is put behind
 
 module _ (host : Host) (params : List Value) where
-  adds_after : {X Y : Type 0} (p : Stage Y) (y : Y) (f g : Stage (List X)) → ((most : Option ℕ) → p (meaning most host params) ≡ Some y → f (meaning most host params) ≡ g (meaning most host params))
-      → IsBoth host params p y → (old new : List X) (r : Result (Unit {0}) EvalFault) → Adds host params f old new r → Adds host params g old new r
-  adds_after p y f g k b old new (Ok u) h = both_after host params p y (λ m. behind old (f m)) new (λ m. behind old (g m)) new (λ most hp hf. ap (behind old) (sym (k most hp)) ∙ hf) b h
-  adds_after p y f g k b old new (Err e) h = faults_after host params p y f g e (λ most hp hf. sym (k most hp) ∙ hf) b h
+  adds_after : {X Y : Type 0} (p : Stage Y) (y : Y) (f g : Stage (List X)) → ((regard : Regard) → p (regarded regard host params) ≡ Some y → f (regarded regard host params) ≡ g (regarded regard host params))
+      → IsMeant host params p y → (old new : List X) (r : Result (Unit {0}) EvalFault) → Adds host params f old new r → Adds host params g old new r
+  adds_after p y f g k b old new (Ok u) h = meant_after host params p y (λ m. behind old (f m)) new (λ m. behind old (g m)) new (λ regard hp hf. ap (behind old) (sym (k regard hp)) ∙ hf) b h
+  adds_after p y f g k b old new (Err e) h = faults_after host params p y f g e (λ regard hp hf. sym (k regard hp) ∙ hf) b h
 
-  pub adds_on : {X : Type 0} (f g : Stage (List X)) → ((most : Option ℕ) → f (meaning most host params) ≡ g (meaning most host params)) → (old new : List X) (r : Result (Unit {0}) EvalFault) → Adds host params f old new r → Adds host params g old new r
-  adds_on f g k old new (Ok u) h = both_on host params (λ m. behind old (f m)) (λ m. behind old (g m)) new new (λ most hf. ap (behind old) (sym (k most)) ∙ hf) h
-  adds_on f g k old new (Err e) h = faults_on host params f g e (λ most hf. sym (k most) ∙ hf) h
+  pub adds_on : {X : Type 0} (f g : Stage (List X)) → ((regard : Regard) → f (regarded regard host params) ≡ g (regarded regard host params)) → (old new : List X) (r : Result (Unit {0}) EvalFault) → Adds host params f old new r → Adds host params g old new r
+  adds_on f g k old new (Ok u) h = meant_on host params (λ m. behind old (f m)) (λ m. behind old (g m)) new new (λ regard hf. ap (behind old) (sym (k regard)) ∙ hf) h
+  adds_on f g k old new (Err e) h = faults_on host params f g e (λ regard hf. sym (k regard) ∙ hf) h
 
   -- ---- a LEFT JOIN
 
@@ -113,12 +113,12 @@ module _ (host : Host) (params : List Value) where
     pub left_fault : (e : EvalFault) → Faults host params (λ m. those (all_true m (map there ts)) (with_rows c rows)) e → Faults host params (λ m. left_with m j rows c) e
     left_fault e h =
         faults_on host params (λ m. those (all_true m (map there ts)) (with_rows c rows)) (λ m. left_with m j rows c) e
-        (λ most k. ap (λ (es : List Ordered). option_map pad (those (all_true (meaning most host params) es) (with_rows c rows))) (sym same) ∙ ap (option_map pad) k) h
+        (λ regard k. ap (λ (es : List Ordered). option_map pad (those (all_true (regarded regard host params) es) (with_rows c rows))) (sym same) ∙ ap (option_map pad) k) h
 
-    pub left_both : (cs ds : List Row) → ds ≡ or_padded (nulls (length j.relation.definition.columns)) c cs → IsBoth host params (λ m. those (all_true m (map there ts)) (with_rows c rows)) cs → IsBoth host params (λ m. left_with m j rows c) ds
+    pub left_both : (cs ds : List Row) → ds ≡ or_padded (nulls (length j.relation.definition.columns)) c cs → IsMeant host params (λ m. those (all_true m (map there ts)) (with_rows c rows)) cs → IsMeant host params (λ m. left_with m j rows c) ds
     left_both cs ds is h =
-        both_on host params (λ m. those (all_true m (map there ts)) (with_rows c rows)) (λ m. left_with m j rows c) cs ds
-        (λ most k. ap (λ (es : List Ordered). option_map pad (those (all_true (meaning most host params) es) (with_rows c rows))) (sym same) ∙ ap (option_map pad) k ∙ ap (λ (l : List Row). Some l) (sym is)) h
+        meant_on host params (λ m. those (all_true m (map there ts)) (with_rows c rows)) (λ m. left_with m j rows c) cs ds
+        (λ regard k. ap (λ (es : List Ordered). option_map pad (those (all_true (regarded regard host params) es) (with_rows c rows))) (sym same) ∙ ap (option_map pad) k ∙ ap (λ (l : List Row). Some l) (sym is)) h
 
   -- ---- what is left of FROM
 
@@ -129,17 +129,17 @@ module _ (host : Host) (params : List Value) where
     abbrev split : Stage (List Row)
     split m = tail m terms (j ∷ js') (rows ∷ tables') c
 
-    apart : (most : Option ℕ) → split (meaning most host params) ≡ whole (meaning most host params)
-    apart most i = tail (meaning most host params) terms (sym first i) (sym table i) c
+    apart : (regard : Regard) → split (regarded regard host params) ≡ whole (regarded regard host params)
+    apart regard i = tail (regarded regard host params) terms (sym first i) (sym table i) c
 
     pub rest_inner : j.is_left ≡ false → (old new : List Row) (r : Result (Unit {0}) EvalFault) → Adds host params (λ m. gather (tail m terms js' tables') (with_rows c rows)) old new r → Adds host params (λ m. tail m terms js tables c) old new r
-    rest_inner l old new r h = adds_on (λ m. gather (tail m terms js' tables') (with_rows c rows)) whole (λ most. sym (tail_inner most host params terms j js' rows tables' c l) ∙ apart most) old new r h
+    rest_inner l old new r h = adds_on (λ m. gather (tail m terms js' tables') (with_rows c rows)) whole (λ regard. sym (tail_inner regard host params terms j js' rows tables' c l) ∙ apart regard) old new r h
 
-    pub rest_left : j.is_left ≡ true → (cs : List Row) → IsBoth host params (λ m. left_with m j rows c) cs → (old new : List Row) (r : Result (Unit {0}) EvalFault) → Adds host params (λ m. gather (tail m terms js' tables') (with_rows [] cs)) old new r → Adds host params (λ m. tail m terms js tables c) old new r
-    rest_left l cs b old new r h = adds_after (λ m. left_with m j rows c) cs (λ m. gather (tail m terms js' tables') (with_rows [] cs)) whole (λ most k. sym (tail_left most host params terms j js' rows tables' c cs l k) ∙ apart most) b old new r h
+    pub rest_left : j.is_left ≡ true → (cs : List Row) → IsMeant host params (λ m. left_with m j rows c) cs → (old new : List Row) (r : Result (Unit {0}) EvalFault) → Adds host params (λ m. gather (tail m terms js' tables') (with_rows [] cs)) old new r → Adds host params (λ m. tail m terms js tables c) old new r
+    rest_left l cs b old new r h = adds_after (λ m. left_with m j rows c) cs (λ m. gather (tail m terms js' tables') (with_rows [] cs)) whole (λ regard k. sym (tail_left regard host params terms j js' rows tables' c cs l k) ∙ apart regard) b old new r h
 
     pub rest_fault : j.is_left ≡ true → (e : EvalFault) → Faults host params (λ m. left_with m j rows c) e → Faults host params (λ m. tail m terms js tables c) e
-    rest_fault l e h = faults_on host params (λ m. left_with m j rows c) whole e (λ most k. sym (apart most) ∙ tail_fault most host params terms j js' rows tables' c l k) h
+    rest_fault l e h = faults_on host params (λ m. left_with m j rows c) whole e (λ regard k. sym (apart regard) ∙ tail_fault regard host params terms j js' rows tables' c l k) h
 
   -- ---- one row after another
 
@@ -153,24 +153,24 @@ module _ (host : Host) (params : List Value) where
     pub each_starts : Gives host params (λ m. behind first (gather (each_row m) rows)) all_rows
     each_starts =
         gives_all host params (λ m. behind first (gather (each_row m) rows)) all_rows
-        (λ most. (let f = tail (meaning most host params) terms js tables in ap (behind first) (sym (gather-map (λ r. c ++ r) f (map row_there rows) ∙ gather-map row_there (λ r. f (c ++ r)) rows))))
+        (λ regard. (let f = tail (regarded regard host params) terms js tables in ap (behind first) (sym (gather-map (λ r. c ++ r) f (map row_there rows) ∙ gather-map row_there (λ r. f (c ++ r)) rows))))
 
     pub each_fails : (i : ℕ) (x : Bor Row) (old : List Row) (e : EvalFault) → i < length rows → x ≡ get_or rows i x → Faults host params (λ m. each_row m x) e
         → Gives host params (λ m. behind old (gather (each_row m) (drop i rows))) all_rows → Faults host params (λ m. gather (tail m terms js tables) (with_rows c (map row_there rows))) e
     each_fails i x old e h is f g =
-        faults_on host params all_rows (λ m. gather (tail m terms js tables) (with_rows c (map row_there rows))) e (λ most k. behind_none first _ k)
+        faults_on host params all_rows (λ m. gather (tail m terms js tables) (with_rows c (map row_there rows))) e (λ regard k. behind_none first _ k)
         (gather_fails host params each_row all_rows rows i x old e h is f g)
 
   -- ---- a query's FROM and WHERE
 
   module _ (q : Resolved) (tables : List (List Row)) (ts : List (Bor Expr)) (js : List Joined) (same : map there ts ≡ with_quiet_first (terms_of q)) (all : js ≡ q.joined) where
-    from_is : (most : Option ℕ) → tail (meaning most host params) (map there ts) js tables [] ≡ joined (meaning most host params) (query q) tables
-    from_is most i = tail (meaning most host params) (same i) (all i) tables []
+    from_is : (regard : Regard) → tail (regarded regard host params) (map there ts) js tables [] ≡ joined (regarded regard host params) (query q) tables
+    from_is regard i = tail (regarded regard host params) (same i) (all i) tables []
 
     pub joined_fault : (e : EvalFault) → Faults host params (λ m. tail m (map there ts) js tables []) e → Faults host params (λ m. joined m (query q) tables) e
-    joined_fault e h = faults_on host params (λ m. tail m (map there ts) js tables []) (λ m. joined m (query q) tables) e (λ most k. sym (from_is most) ∙ k) h
+    joined_fault e h = faults_on host params (λ m. tail m (map there ts) js tables []) (λ m. joined m (query q) tables) e (λ regard k. sym (from_is regard) ∙ k) h
 
-    pub joined_both : (old new : List Row) → old ≡ [] → IsBoth host params (λ m. behind old (tail m (map there ts) js tables [])) new → IsBoth host params (λ m. joined m (query q) tables) new
+    pub joined_both : (old new : List Row) → old ≡ [] → IsMeant host params (λ m. behind old (tail m (map there ts) js tables [])) new → IsMeant host params (λ m. joined m (query q) tables) new
     joined_both old new none h =
-        both_on host params (λ m. behind old (tail m (map there ts) js tables [])) (λ m. joined m (query q) tables) new new
-        (λ most k. sym (from_is most) ∙ sym (behind_nil (tail (meaning most host params) (map there ts) js tables [])) ∙ ap (λ l. behind l (tail (meaning most host params) (map there ts) js tables [])) (sym none) ∙ k) h
+        meant_on host params (λ m. behind old (tail m (map there ts) js tables [])) (λ m. joined m (query q) tables) new new
+        (λ regard k. sym (from_is regard) ∙ sym (behind_nil (tail (regarded regard host params) (map there ts) js tables [])) ∙ ap (λ l. behind l (tail (regarded regard host params) (map there ts) js tables [])) (sym none) ∙ k) h

@@ -13,11 +13,11 @@ use Rattle.cr_term.specs.declared.query.Joined.{Joined}
 use Rattle.cr_scalar.specs.declared.fault.EvalFault.{EvalFault}
 use Rattle.cr_query.specs.Query.{Row, Meaning, is_true, and_so, all_true}
 use Rattle.cr_meaning.specs.View.{Ordered, plain, inner_terms}
-use Rattle.cr_meaning.specs.Meaning.{meaning}
-use Rattle.cr_exec.specs.Answers.{Stage, Faults, IsBoth}
+use Rattle.cr_meaning.specs.Meaning.{Regard, regarded}
+use Rattle.cr_exec.specs.Answers.{Stage, Faults, IsMeant}
 use Rattle.cr_exec.specs.Scopes.{there}
 use Rattle.cr_exec.specs.Tails.{of_kind, with_quiet_first}
-use Rattle.cr_exec.proofs.Stages.{Gives, gives_next, gives_faults, gives_both, faults_on, both_on, both_always}
+use Rattle.cr_exec.proofs.Stages.{Gives, gives_next, gives_faults, gives_meant, faults_on, meant_on, meant_always}
 use Rattle.cr_exec.proofs.Loops.{rest_at}
 
 -- ---- pushed
@@ -77,25 +77,25 @@ module _ (host : Host) (params : List Value) (terms : List (Bor Expr)) (i : ℕ)
   decided : (m : Meaning Ordered) (x : Bor Expr) (o : Option Bool) → i < length terms → x ≡ get_or terms i x → is_true m (there x) c ≡ o → rest_true m ≡ and_so o (after_true m)
   decided m x o h is k = first m x h is ∙ ap (λ (b : Option Bool). and_so b (after_true m)) k
 
-  pub true_next : (x : Bor Expr) → i < length terms → x ≡ get_or terms i x → IsBoth host params (λ m. is_true m (there x) c) true
+  pub true_next : (x : Bor Expr) → i < length terms → x ≡ get_or terms i x → IsMeant host params (λ m. is_true m (there x) c) true
       → Gives host params rest_true whole_true → Gives host params after_true whole_true
   true_next x h is b g =
       gives_next host params (λ m. is_true m (there x) c) true rest_true after_true whole_true
-      (λ most k. sym (decided (meaning most host params) x (Some true) h is k)) b g
+      (λ regard k. sym (decided (regarded regard host params) x (Some true) h is k)) b g
 
-  pub true_stops : (x : Bor Expr) → i < length terms → x ≡ get_or terms i x → IsBoth host params (λ m. is_true m (there x) c) false
-      → Gives host params rest_true whole_true → IsBoth host params whole_true false
+  pub true_stops : (x : Bor Expr) → i < length terms → x ≡ get_or terms i x → IsMeant host params (λ m. is_true m (there x) c) false
+      → Gives host params rest_true whole_true → IsMeant host params whole_true false
   true_stops x h is b g =
-      gives_both host params rest_true whole_true false g
-      (both_on host params (λ m. is_true m (there x) c) rest_true false false (λ most k. decided (meaning most host params) x (Some false) h is k) b)
+      gives_meant host params rest_true whole_true false g
+      (meant_on host params (λ m. is_true m (there x) c) rest_true false false (λ regard k. decided (regarded regard host params) x (Some false) h is k) b)
 
   pub true_fails : (x : Bor Expr) (e : EvalFault) → i < length terms → x ≡ get_or terms i x → Faults host params (λ m. is_true m (there x) c) e
       → Gives host params rest_true whole_true → Faults host params whole_true e
   true_fails x e h is b g =
       gives_faults host params rest_true whole_true e g
-      (faults_on host params (λ m. is_true m (there x) c) rest_true e (λ most k. decided (meaning most host params) x None h is k) b)
+      (faults_on host params (λ m. is_true m (there x) c) rest_true e (λ regard k. decided (regarded regard host params) x None h is k) b)
 
-  pub true_ends : length terms ≤ i → Gives host params rest_true whole_true → IsBoth host params whole_true true
+  pub true_ends : length terms ≤ i → Gives host params rest_true whole_true → IsMeant host params whole_true true
   true_ends h g =
-      gives_both host params rest_true whole_true true g
-      (both_always host params rest_true true (λ most. ap (λ (l : List (Bor Expr)). all_true (meaning most host params) (map there l) c) (drop_all i terms h)))
+      gives_meant host params rest_true whole_true true g
+      (meant_always host params rest_true true (λ regard. ap (λ (l : List (Bor Expr)). all_true (regarded regard host params) (map there l) c) (drop_all i terms h)))

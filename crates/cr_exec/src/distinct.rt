@@ -1,11 +1,11 @@
 //! Of each class of rows the least.
 
-ghost use Rattle.std.specs.Prelude.{◌≡◌, map, ℕ, Option, List, IfOk};
+ghost use Rattle.std.specs.Prelude.{◌≡◌, map, List, IfOk};
 ghost use Rattle.cr_bags.specs.Bags.{SameBag, sort, firsts};
 ghost use Rattle.cr_value.specs.declared.value.Value.{Value as Content};
 ghost use Rattle.cr_query.specs.Query.{spelled_cmp, distinct};
 ghost use Rattle.cr_meaning.specs.View.{result_term};
-ghost use Rattle.cr_meaning.specs.Meaning.{meaning};
+ghost use Rattle.cr_meaning.specs.Meaning.{Regard, regarded};
 ghost use Rattle.cr_exec.specs.Comparisons.{held_order};
 ghost use Rattle.cr_exec.specs.Shows.{shown_of, shown_ties};
 
@@ -56,7 +56,7 @@ pub fn distinct<F: Functions>(
     functions: &F,
 ) -> Result<Vec<Shown>, AllocError>
     requires { F.is_faithful functions.now }
-    ensures { IfOk result (λ v. (most : Option ℕ) (params : List Content) → map shown_of v.items ≡ distinct (meaning most (⟦<F as Hosted>⟧.means functions.now) params) (map result_term results.now) (map shown_of shown.items)) }
+    ensures { IfOk result (λ v. (regard : Regard) (params : List Content) → map shown_of v.items ≡ distinct (regarded regard (⟦<F as Hosted>⟧.means functions.now) params) (map result_term results.now) (map shown_of shown.items)) }
 {
     let senses = senses_of_results(alloc, functions, results)?;
     let shown = spelled(shown)?;

@@ -1,11 +1,11 @@
 //! Which of what a query shows stands in the answer.
 
-ghost use Rattle.std.specs.Prelude.{◌≡◌, map, drop, cond, ℕ, Option, List, IfOk};
+ghost use Rattle.std.specs.Prelude.{◌≡◌, map, drop, cond, List, IfOk};
 ghost use Rattle.cr_bags.specs.Bags.{sort};
 ghost use Rattle.cr_value.specs.declared.value.Value.{Value as Content};
 ghost use Rattle.cr_query.specs.Query.{limited, shown_row, distinct, finished};
 ghost use Rattle.cr_meaning.specs.View as view;
-ghost use Rattle.cr_meaning.specs.Meaning.{meaning};
+ghost use Rattle.cr_meaning.specs.Meaning.{Regard, regarded};
 ghost use Rattle.cr_exec.specs.Comparisons.{held_order};
 ghost use Rattle.cr_exec.specs.Shows.{row_of, shown_of, keyed_cmp};
 
@@ -97,7 +97,7 @@ fn distinct_if_asked<F: Functions>(
     functions: &F,
 ) -> Result<Vec<Shown>, AllocError>
     requires { F.is_faithful functions.now }
-    ensures { IfOk result (λ v. (most : Option ℕ) (params : List Content) → map shown_of v.items ≡ cond query.now.is_distinct (distinct (meaning most (⟦<F as Hosted>⟧.means functions.now) params) (map view.result_term query.now.results) (map shown_of shown.items)) (map shown_of shown.items)) }
+    ensures { IfOk result (λ v. (regard : Regard) (params : List Content) → map shown_of v.items ≡ cond query.now.is_distinct (distinct (regarded regard (⟦<F as Hosted>⟧.means functions.now) params) (map view.result_term query.now.results) (map shown_of shown.items)) (map shown_of shown.items)) }
 {
     if query.is_distinct {
         distinct(alloc, query.results.as_slice(), shown, functions)
@@ -115,7 +115,7 @@ pub fn finished<F: Functions>(
     functions: &F,
 ) -> Result<Vec<Row>, AllocError>
     requires { F.is_faithful functions.now }
-    ensures { IfOk result (λ v. (most : Option ℕ) (params : List Content) → v.items ≡ finished (meaning most (⟦<F as Hosted>⟧.means functions.now) params) (view.query query.now) (map shown_of shown.items)) }
+    ensures { IfOk result (λ v. (regard : Regard) (params : List Content) → v.items ≡ finished (regarded regard (⟦<F as Hosted>⟧.means functions.now) params) (view.query query.now) (map shown_of shown.items)) }
 {
     let senses = senses_of_order(alloc, functions, query.order.as_slice())?;
     let shown = distinct_if_asked(alloc, query, shown, functions)?;

@@ -4,11 +4,10 @@ ghost use Rattle.std.specs.Prelude.{◌≡◌, IfOk, MatchOption, None, true, fa
 ghost use Rattle.cr_bags.specs.Bags.{each};
 ghost use Rattle.cr_term.specs.Terms.{plain, quiet};
 ghost use Rattle.cr_scalar.specs.Host.{Host};
-ghost use Rattle.cr_scalar.specs.Meaning.{byte_limit};
 ghost use Rattle.cr_expr.specs.Setting.{setting};
 ghost use Rattle.cr_meaning.specs.View as view;
 ghost use Rattle.cr_exec.specs.Answers.{Answers};
-ghost use Rattle.cr_exec.specs.Values.{null_wanted, null_test, Limited, HasValue};
+ghost use Rattle.cr_exec.specs.Values.{null_wanted, null_test, HasValue};
 ghost use Rattle.cr_exec.specs.Scopes.{in_scope, is_so_in, there};
 
 use crate::push::push;
@@ -104,19 +103,6 @@ fn quiet_value<'a, F: Functions>(
     }
 }
 
-// The value of an expression under the limit of 1,000,000 bytes.
-fn limited_value<'a, F: Functions>(
-    alloc: Global,
-    expr: &'a Expr,
-    given: &Given<'a>,
-    functions: &F,
-) -> Result<Operand<'a>, EvalFault>
-    requires { F.is_faithful functions.now }
-    ensures { Limited (setting byte_limit (⟦<F as Hosted>⟧.means functions.now) given.now) expr.now result }
-{
-    eval(alloc, expr, given, functions)
-}
-
 // The value of an expression over a combination; no limit stands for a quiet one.
 fn row_value<'a, F: Functions>(
     alloc: Global,
@@ -137,7 +123,7 @@ fn row_value<'a, F: Functions>(
     let quiet = quiet_value(alloc, expr, &given, functions)?;
     match quiet {
         Some(value) => Ok(Operand::made(value)),
-        None => limited_value(alloc, expr, &given, functions),
+        None => eval(alloc, expr, &given, functions),
     }
 }
 
@@ -162,7 +148,7 @@ pub fn value_in<'a, F: Functions>(
                 group: members,
                 shown,
             };
-            limited_value(alloc, expr, &given, functions)
+            eval(alloc, expr, &given, functions)
         }
     }
 }

@@ -5,17 +5,18 @@ use Rattle.std.specs.Option.{option_map_or}
 use Rattle.cr_value.specs.declared.value.Value.{Value}
 use Rattle.cr_lattice.specs.declared.table.ColumnDef.{ColumnDef}
 use Rattle.cr_lattice.specs.declared.table.TableDef.{TableDef}
-use Rattle.cr_exec.specs.Answers.{Faults, IsBoth, Stage}
+use Rattle.cr_exec.specs.Answers.{Faults, IsMeant, Stage}
 use Rattle.cr_query.specs.Query.{Row}
 use Rattle.cr_query.specs.Queries as queries
 use Rattle.cr_query.specs.Writes.{inserted_rows}
 use Rattle.cr_query.proofs.Refining.{Gains}
 use Rattle.cr_meaning.specs.View.{Ordered, insert}
-use Rattle.cr_meaning.specs.Meaning.{exact, sized}
+use Rattle.cr_scalar.specs.Meaning.{byte_limit}
+use Rattle.cr_meaning.specs.Meaning.{exact, sized, strict}
 use Rattle.cr_meaning.proofs.Limits.{refines}
 use Rattle.cr_scalar.specs.Host.{Host as Means}
 use Rattle.cr_scalar.specs.declared.fault.EvalFault.{EvalFault}
-use Rattle.cr_taken.proofs.Refined.{rows_refine}
+use Rattle.cr_query.proofs.RefiningWrites.{rows_refine}
 use Rattle.cr_term.specs.declared.query.Held.{Held}
 use Rattle.cr_term.specs.declared.query.Alter.{Alter}
 use Rattle.cr_term.specs.declared.query.Delete.{Delete}
@@ -109,7 +110,7 @@ module _ (means : Means) (params : List Value) (host : Host) (st : State) (name 
     cause_is = ap (λ (c : Cause). causes_at c (brought false (exact means params)) (brought false (sized means params))) closed
 
     gains : Gains (brought false (sized means params)) (brought false (exact means params))
-    gains = rows_refine (sized means params) (exact means params) (refines means params) columns (record { places = w.places; tuples = w.tuples; is_ignored = false })
+    gains = rows_refine (sized means params) (exact means params) (refines means params (strict None) (inl refl)) columns (record { places = w.places; tuples = w.tuples; is_ignored = false })
 
     told_so : (f : Refusal) → IsWant f ⊎ Tells (evaluation_cause None (brought false (exact means params)) (brought false (sized means params))) f → IsWant f ⊎ Tells (against means params host st (bringing false)) f
     told_so f (inl want) = inl want
@@ -119,11 +120,11 @@ module _ (means : Means) (params : List Value) (host : Host) (st : State) (name 
     faulty f e told faults =
         (told_so f (subst (λ (y : Refusal). IsWant y ⊎ Tells (evaluation_cause None (brought false (exact means params)) (brought false (sized means params))) y) (sym told) (fault_told None means params (brought false) gains e faults)), refl)
 
-    module _ (rows : List Row) (both : IsBoth means params (brought false) rows) where
+    module _ (rows : List Row) (both : IsMeant means params (brought false) rows) where
       rows_cause : against means params host st (bringing false) ≡ answered rows (module_in st.modules name)
       rows_cause =
           cause_is
-          ∙ ap (λ (p : Option (List Row)). or_else (evaluation_cause None (brought false (exact means params)) p) (or_else (answered (unwrap_or p []) (module_in st.modules name)) Free)) both.sized
+          ∙ ap (λ (p : Option (List Row)). or_else (evaluation_cause None (brought false (exact means params)) p) (or_else (answered (unwrap_or p []) (module_in st.modules name)) Free)) (both.under (strict byte_limit) (inr refl))
           ∙ or_free (answered rows (module_in st.modules name))
 
       by_module : (o : Option ModuleState) (f : Refusal) → module_in st.modules name ≡ o → IsRefusedBy o rows f → Tells (answered rows (module_in st.modules name)) f
@@ -136,7 +137,7 @@ module _ (means : Means) (params : List Value) (host : Host) (st : State) (name 
       updates (Ok u) ms reply up e =
           subst (λ (x : Result Reply Refusal). Does false x (placed ms st)) (sym e) (
             rows_cause ∙ took name rows st.modules ms up,
-            (refl, (subst (λ (p : Option (List Row)). ModulesLeave (Some name) (unwrap_or p []) st.modules ms) (sym both.sized) up, refl)),
+            (refl, (subst (λ (p : Option (List Row)). ModulesLeave (Some name) (unwrap_or p []) st.modules ms) (sym (both.under (strict byte_limit) (inr refl))) up, refl)),
           )
       updates (Err f) ms reply up e =
           subst (λ (x : Result Reply Refusal). Does false x (placed ms st)) (sym e)
@@ -170,10 +171,10 @@ module _ (means : Means) (params : List Value) (host : Host) (st : State) (i : I
   fault_is_told f fault ig outside told faults =
       as_insert false (Err f) st ig (faulty means params host st name columns (insert i) outside f fault told (subst (λ (b : Bool). Faults means params (bringing_of b columns) fault) ig faults))
 
-  pub update_is_told : (rows : List Row) (result : Result (Unit {0}) Refusal) (ms : List ModuleState) (reply : Result Reply Refusal) → i.is_ignored ≡ false → in_transaction st ≡ false → IsBoth means params (bringing_of i.is_ignored columns) rows
+  pub update_is_told : (rows : List Row) (result : Result (Unit {0}) Refusal) (ms : List ModuleState) (reply : Result Reply Refusal) → i.is_ignored ≡ false → in_transaction st ≡ false → IsMeant means params (bringing_of i.is_ignored columns) rows
       → Updates name rows st.modules result ms → reply ≡ (elim result as (λ _. Result Reply Refusal) [ Ok u ↦ Ok Done | Err f ↦ Err f ]) → PerformsWith means params host st (view (r.Insert i)) reply (placed ms st)
   update_is_told rows result ms reply ig outside both up is =
-      as_insert false reply (placed ms st) ig (updates means params host st name columns (insert i) outside rows (subst (λ (b : Bool). IsBoth means params (bringing_of b columns) rows) ig both) result ms reply up is)
+      as_insert false reply (placed ms st) ig (updates means params host st name columns (insert i) outside rows (subst (λ (b : Bool). IsMeant means params (bringing_of b columns) rows) ig both) result ms reply up is)
 
 -- ---- what else would change it
 
@@ -249,7 +250,7 @@ insert_faults {H} {means} {params} {host} {is_honest} {is_clean} {stands} old i 
 }
 
 pub insert_updates : {H : Type 0} {means : Means} {params : List Value} {host : Host} {is_honest is_clean : H → Type 0} {stands : H → State} (old new : H) (i : Insert) (rows : List Row) (result : Result (Unit {0}) Refusal) (ms : List ModuleState) (reply : Result Reply Refusal)
-    → is_module_target (target i.relation) ≡ true → i.is_ignored ≡ false → in_transaction (stands old) ≡ false → IsBoth means params (λ m. inserted_rows m i.relation.definition.columns (insert i)) rows
+    → is_module_target (target i.relation) ≡ true → i.is_ignored ≡ false → in_transaction (stands old) ≡ false → IsMeant means params (λ m. inserted_rows m i.relation.definition.columns (insert i)) rows
     → Updates i.relation.definition.name rows (stands old).modules result ms → reply ≡ (elim result as (λ _. Result Reply Refusal) [ Ok u ↦ Ok Done | Err f ↦ Err f ])
     → (is_honest new → is_honest old) → (is_clean new → is_clean old) → (is_honest new → is_clean old → is_clean new) → stands new ≡ placed ms (stands old) → PerformedWith means params host is_honest is_clean stands old (r.Insert i) reply new
 insert_updates {H} {means} {params} {host} {is_honest} {is_clean} {stands} old new i rows result ms reply e ig outside both up is honest_was was stays same = record {

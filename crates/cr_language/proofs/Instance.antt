@@ -1,5 +1,5 @@
 -- This project's SQL is a language of sessions.
-use Rattle.std.proofs.Common.{◌≡◌, inr, ◌∙◌, ℕ, suc, Bool, true, false, List, [], ◌∷◌, ◌++◌, map, length, find, Option, Some, None, Ok, Err, refl, ap, sym, subst, slice_get}
+use Rattle.std.proofs.Common.{◌≡◌, inl, inr, ◌∙◌, ℕ, suc, Bool, true, false, List, [], ◌∷◌, ◌++◌, map, length, find, Option, Some, None, Ok, Err, refl, ap, sym, subst, slice_get}
 use Rattle.std.specs.Prelude.{Result, if◌then◌else◌, get_or}
 use Rattle.std.specs.Option.{option_map, option_or, is_none}
 use Rattle.std.specs.List.{AllByRecursion, AllZip}
@@ -28,7 +28,7 @@ use Rattle.cr_query.specs.Queries.{Query}
 use Rattle.cr_query.specs.Query.{Row, answer}
 use Rattle.cr_query.specs.Plans.{masked, seen}
 use Rattle.cr_meaning.specs.View.{Ordered, query, joining, inner_terms, plain}
-use Rattle.cr_meaning.specs.Meaning.{value_of, exact, at_row, at_group, limit_of}
+use Rattle.cr_meaning.specs.Meaning.{value_of, exact, at_row, at_group, limit_of, strict}
 use Rattle.cr_meaning.proofs.Limits.{refines, safe}
 use Rattle.cr_meaning.proofs.BagLaw.{lawful}
 use Rattle.cr_scalar.specs.Meaning.{byte_limit}
@@ -248,8 +248,8 @@ module _ (e : Engine) where
   is_language = record {
     lawful = λ params. lawful e.host e.order_total None params;
     lawful_sized = λ params. lawful e.host e.order_total byte_limit params;
-    refines = λ params. refines e.host params;
-    quiet_safe = λ params. safe None e.host params;
+    refines = λ params. refines e.host params (strict None) (inl refl);
+    quiet_safe = λ params. safe (strict None) e.host params;
     local = local_;
     reads = reads_;
     selects = selects_;

@@ -165,11 +165,11 @@ module _ (host : Host) (bytes : OrdersBytes host) (params : List Value) (cs : Co
 
     -- of terms one of whose constraints the row does not meet some one is quiet and not true on what is made of it
     pub some_miss : (terms : List Expr) (i : ℕ) (o : Offer) → slice_get (offers cs params terms) i ≡ Some o → is_met o r ≡ false
-        → any_missed host bytes params row most terms ≡ true
+        → any_missed host bytes params row (queries.strict most) terms ≡ true
     some_miss [] i o there unmet = absurd cc
     some_miss (e ∷ es) i o there unmet = by (λ k h. some_miss es k o h unmet) (offer cs params e) refl i there where
-      by : ((k : ℕ) → slice_get (offers cs params es) k ≡ Some o → any_missed host bytes params row most es ≡ true) → (p : Option Offer) → offer cs params e ≡ p
-          → (k : ℕ) → slice_get (cons_option p (offers cs params es)) k ≡ Some o → any_missed host bytes params row most (e ∷ es) ≡ true
+      by : ((k : ℕ) → slice_get (offers cs params es) k ≡ Some o → any_missed host bytes params row (queries.strict most) es ≡ true) → (p : Option Offer) → offer cs params e ≡ p
+          → (k : ℕ) → slice_get (cons_option p (offers cs params es)) k ≡ Some o → any_missed host bytes params row (queries.strict most) (e ∷ es) ≡ true
       by later None is k h = or_right _ _ (later k h)
       by later (Some p) is zero h = (let t = term_misses e o (is ∙ h) unmet in or_left _ _ (λ i. t.0 i && is_false (t.1 i)))
       by later (Some p) is (suc k) h = or_right _ _ (later k h)

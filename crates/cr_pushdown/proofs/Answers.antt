@@ -13,15 +13,17 @@ use Rattle.cr_lattice.specs.Check.{same_bytes}
 use Rattle.cr_scalar.specs.Host.{Host}
 use Rattle.cr_scalar.specs.declared.fault.EvalFault.{EvalFault}
 use Rattle.cr_scalar.specs.declared.fault.EvalFault.TheVariants as fault
+use Rattle.cr_scalar.specs.Meaning.{byte_limit}
 use Rattle.cr_bags.specs.Bags.{single}
 use Rattle.cr_query.specs.Query.{Row, all_true, and_so, finished, holds, is_true, quiet_first, shown}
 use Rattle.cr_query.specs.Plans.{is_false}
 use Rattle.cr_query.proofs.PlanLaws.{step, joined_one}
+use Rattle.cr_query.proofs.Refining.{holds_refines}
 use Rattle.cr_meaning.specs.View.{Ordered}
 use Rattle.cr_meaning.specs.View as view
-use Rattle.cr_meaning.specs.Meaning.{IsLimit, exact, meaning, sized}
+use Rattle.cr_meaning.specs.Meaning.{IsLimit, Regard, regarded, sized, strict}
 use Rattle.cr_meaning.proofs.Limits.{refines}
-use Rattle.cr_exec.specs.Answers.{Faults, IsBoth}
+use Rattle.cr_exec.specs.Answers.{Faults, IsMeant}
 use Rattle.cr_sought.proofs.LeftOut.{each_member, gather_left}
 use Rattle.cr_pushdown.specs.Passing.{is_memory, passes, passing}
 use Rattle.cr_pushdown.specs.Laws.{AnswersByPassing, PassingLeavesOut}
@@ -34,44 +36,21 @@ known_false (Some false) e = refl
 none_is : {A B : Type 0} (a : A) → None ≡ Some a → B
 none_is a e = absurd (let q : ⊥ = cc in q)
 
-and_keeps : (a b c d : Option Bool) → ((x : Bool) → a ≡ Some x → b ≡ Some x) → ((x : Bool) → c ≡ Some x → d ≡ Some x) → (x : Bool) → and_so a c ≡ Some x → and_so b d ≡ Some x
-and_keeps None b c d first later x e = none_is x e
-and_keeps (Some true) b c d first later x e = ap (λ o. and_so o d) (first true refl) ∙ later x e
-and_keeps (Some false) b c d first later x e = ap (λ o. and_so o d) (first false refl) ∙ e
-
-then_keeps : (f : Value → Option Bool) (o p : Option Value) → ((v : Value) → o ≡ Some v → p ≡ Some v) → (x : Bool) → option_and_then f o ≡ Some x → option_and_then f p ≡ Some x
-then_keeps f None p keeps x e = none_is x e
-then_keeps f (Some v) p keeps x e = ap (option_and_then f) (keeps v refl) ∙ e
-
 module _ (host : Host) (params : List Value) where
   -- what is known with a limit on values is known without
-  all_keep : (es : List Ordered) (r : Row) (x : Bool) → all_true (sized host params) es r ≡ Some x → all_true (exact host params) es r ≡ Some x
-  all_keep [] r x e = e
-  all_keep (t ∷ ts) r x e =
-      and_keeps (is_true (sized host params) t r) (is_true (exact host params) t r) (all_true (sized host params) ts r) (all_true (exact host params) ts r)
-      (then_keeps (sized host params).truth ((sized host params).value t r) ((exact host params).value t r) ((refines host params).value t r)) (all_keep ts r) x e
-
-  pub holds_for : (most : Option ℕ) → IsLimit most → (es : List Ordered) (r : Row) (x : Bool) → holds (sized host params) es r ≡ Some x → holds (meaning most host params) es r ≡ Some x
-  holds_for most (inl none) es r x e = subst (λ (n : Option ℕ). holds (meaning n host params) es r ≡ Some x) (sym none) (all_keep (quiet_first (sized host params) es) r x e)
-  holds_for most (inr is) es r x e = subst (λ (n : Option ℕ). holds (meaning n host params) es r ≡ Some x) (sym is) e
-
-  -- without a limit on values a fault is one with it, too
-  pub none_sized : (es : List Ordered) (r : Row) → all_true (exact host params) es r ≡ None → all_true (sized host params) es r ≡ None
-  none_sized es r none = by (all_true (sized host params) es r) refl where
-    by : (o : Option Bool) → all_true (sized host params) es r ≡ o → o ≡ None
-    by None is = refl
-    by (Some x) is = none_is x (sym none ∙ all_keep es r x is)
+  pub holds_for : (g : Regard) → IsLimit g.most → (es : List Ordered) (r : Row) (x : Bool) → holds (sized host params) es r ≡ Some x → holds (regarded g host params) es r ≡ Some x
+  holds_for g limit es r x e = holds_refines (sized host params) (regarded g host params) (refines host params g limit) es r x e
 
   none_passes : (o : Option Bool) → o ≡ None → true ≡ not (is_false o)
   none_passes o none = ap (λ p. not (is_false p)) (sym none)
 
   -- a row on which a term has a fault passes
   pub fault_passes : (e : EvalFault) → is_memory e ≡ false → (es : List Ordered) (r : Row) → Faults host params (λ m. all_true m es r) e → true ≡ not (is_false (all_true (sized host params) es r))
-  fault_passes fault.Overflow other es r h = none_passes _ (none_sized es r h)
-  fault_passes fault.NotANumber other es r h = none_passes _ (none_sized es r h)
-  fault_passes fault.NotUtf8 other es r h = none_passes _ (none_sized es r h)
-  fault_passes (fault.Host text) other es r h = none_passes _ (none_sized es r h)
-  fault_passes fault.TooBig other es r h = none_passes _ h
+  fault_passes fault.Overflow other es r h = none_passes _ (h.under (strict byte_limit) (inr refl, (refl, refl)))
+  fault_passes fault.NotANumber other es r h = none_passes _ (h.under (strict byte_limit) (inr refl, (refl, refl)))
+  fault_passes fault.NotUtf8 other es r h = none_passes _ (h.under (strict byte_limit) (inr refl, (refl, refl)))
+  fault_passes (fault.Host text) other es r h = none_passes _ (h.under (strict byte_limit) (inr refl, (refl, refl)))
+  fault_passes fault.TooBig other es r h = none_passes _ (h.under (strict byte_limit) (refl, (refl, refl)))
   fault_passes fault.Memory other es r h = absurd cc
 
   known_passes : (o : Option Bool) (b : Bool) → o ≡ Some b → b ≡ not (is_false o)
@@ -79,12 +58,12 @@ module _ (host : Host) (params : List Value) where
   known_passes o false is = ap (λ p. not (is_false p)) (sym is)
 
   -- and one on which they are known
-  pub sized_passes : (es : List Ordered) (r : Row) (b : Bool) → IsBoth host params (λ m. all_true m es r) b → b ≡ not (is_false (all_true (sized host params) es r))
-  sized_passes es r b both = known_passes (all_true (sized host params) es r) b both.sized
+  pub sized_passes : (es : List Ordered) (r : Row) (b : Bool) → IsMeant host params (λ m. all_true m es r) b → b ≡ not (is_false (all_true (sized host params) es r))
+  sized_passes es r b both = known_passes (all_true (sized host params) es r) b (both.under (strict byte_limit) (inr refl))
 
 pub answers_by_passing : AnswersByPassing
-answers_by_passing host params most limit rows q j one inner no_on =
-    let m = meaning most host params in
+answers_by_passing host params g limit rows q j one inner no_on =
+    let m = regarded g host params in
     let v = view.query q in
     let over = λ (table : List Row). joined_one m v (view.joining j) (ap (map view.joining) one) inner table in
     let terms_are : view.terms q ≡ map view.plain q.filter =
@@ -93,7 +72,7 @@ answers_by_passing host params most limit rows q j one inner no_on =
     let none = each_member (λ r. passes host params q.filter r ≡ false → step m v r ≡ Some []) rows
     (λ r among out.
     ap (option_map (λ b. cond b (single r) []))
-    (ap (λ ts. holds m ts r) terms_are ∙ holds_for host params most limit (map view.plain q.filter) r false (known_false _ out))) in
+    (ap (λ ts. holds m ts r) terms_are ∙ holds_for host params g limit (map view.plain q.filter) r false (known_false _ out))) in
     ap (λ o. option_map (finished m v) (option_and_then (shown m v) o))
     (over rows ∙ gather_left (step m v) (passes host params q.filter) rows none ∙ sym (over (filter (passes host params q.filter) rows)))
 
@@ -102,13 +81,13 @@ neither true never = absurd (never refl)
 neither false never = refl
 
 pub passing_leaves_out : PassingLeavesOut
-passing_leaves_out host params def kept terms = λ most limit.
+passing_leaves_out host params def kept terms = λ g limit.
     let p = passes host params terms in
     let k = key_of def in
     let keys = map k (passing host params terms def kept) in
-    each_member (λ r. is_key_of keys (k r) ≡ false → holds (meaning most host params) (map view.plain terms) r ≡ Some false) (rows kept def)
+    each_member (λ r. is_key_of keys (k r) ≡ false → holds (regarded g host params) (map view.plain terms) r ≡ Some false) (rows kept def)
     (λ r among other.
     let out : p r ≡ false = neither (p r) (λ so.
     let there = any_member (same_bytes (k r)) keys (k r) (map_member k (filter p (rows kept def)) r (filter_member p (rows kept def) r among so)) (is_same (k r) (k r) refl) in
     let both : true ≡ false = sym there ∙ other in cc) in
-    holds_for host params most limit (map view.plain terms) r false (known_false _ out))
+    holds_for host params g limit (map view.plain terms) r false (known_false _ out))

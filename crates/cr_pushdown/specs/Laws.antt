@@ -11,7 +11,7 @@ use Rattle.cr_scalar.specs.Host.{Host}
 use Rattle.cr_bags.specs.Bags.{single}
 use Rattle.cr_query.specs.Query.{Row, answer}
 use Rattle.cr_meaning.specs.View as view
-use Rattle.cr_meaning.specs.Meaning.{IsLimit, meaning}
+use Rattle.cr_meaning.specs.Meaning.{IsLimit, Regard, regarded}
 use Rattle.cr_sought.specs.Laws.{LeaveOutOthers}
 use Rattle.cr_pushdown.specs.Passing.{passes, passing}
 
@@ -19,10 +19,10 @@ use Rattle.cr_pushdown.specs.Passing.{passes, passing}
 -- and with it.
 abbrev pub AnswersByPassing : Type 0
 AnswersByPassing =
-    (host : Host) (params : List Value) (most : Option ℕ) → IsLimit most → (rows : List Row) (q : Query) (j : Joined)
+    (host : Host) (params : List Value) (regard : Regard) → IsLimit regard.most → (rows : List Row) (q : Query) (j : Joined)
     → q.joined ≡ single j → j.is_left ≡ false → j.on ≡ []
-    → answer (meaning most host params) (view.query q) (single rows)
-    ≡ answer (meaning most host params) (view.query q) (single (filter (passes host params q.filter) rows))
+    → answer (regarded regard host params) (view.query q) (single rows)
+    ≡ answer (regarded regard host params) (view.query q) (single (filter (passes host params q.filter) rows))
 
 -- Terms leave out the rows of other keys than those of the rows that pass.
 abbrev pub PassingLeavesOut : Type 0

@@ -4,3 +4,4 @@ pub mod JoinLaws
 pub mod HiddenColumns
 pub mod Examples
 pub mod Refining
+pub mod RefiningWrites

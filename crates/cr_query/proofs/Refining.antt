@@ -10,17 +10,17 @@ use Rattle.cr_query.specs.Query.{Row, Group, Meaning, Refines, and_so, all_true,
 abbrev pub Gains : {A : Type 0} → Option A → Option A → Type 0
 Gains {A} o p = (a : A) → o ≡ Some a → p ≡ Some a
 
-none_is : {A : Type 0} {B : Type 0} (a : A) → None ≡ Some a → B
+pub none_is : {A : Type 0} {B : Type 0} (a : A) → None ≡ Some a → B
 none_is a e = absurd (let q : ⊥ = cc in q)
 
-same : {A : Type 0} (o : Option A) → Gains o o
+pub same : {A : Type 0} (o : Option A) → Gains o o
 same o a e = e
 
-by_map : {A B : Type 0} (f : A → B) (o p : Option A) → Gains o p → Gains (option_map f o) (option_map f p)
+pub by_map : {A B : Type 0} (f : A → B) (o p : Option A) → Gains o p → Gains (option_map f o) (option_map f p)
 by_map f None p h b e = none_is b e
 by_map f (Some a) p h b e = ap (option_map f) (h a refl) ∙ e
 
-by_then : {A B : Type 0} (f g : A → Option B) → ((a : A) → Gains (f a) (g a)) → (o p : Option A) → Gains o p → Gains (option_and_then f o) (option_and_then g p)
+pub by_then : {A B : Type 0} (f g : A → Option B) → ((a : A) → Gains (f a) (g a)) → (o p : Option A) → Gains o p → Gains (option_and_then f o) (option_and_then g p)
 by_then f g k None p h b e = none_is b e
 by_then f g k (Some a) p h b e = ap (option_and_then g) (h a refl) ∙ k a b e
 
@@ -33,13 +33,13 @@ pub by_gather : {X Y : Type 0} (f g : X → Option (List Y)) → ((x : X) → Ga
 by_gather f g h [] = same (Some [])
 by_gather f g h (x ∷ xs) = by_joins (f x) (g x) (gather f xs) (gather g xs) (h x) (by_gather f g h xs)
 
-by_each : {X Y : Type 0} (f g : X → Option Y) → ((x : X) → Gains (f x) (g x)) → (xs : List X) → Gains (each f xs) (each g xs)
+pub by_each : {X Y : Type 0} (f g : X → Option Y) → ((x : X) → Gains (f x) (g x)) → (xs : List X) → Gains (each f xs) (each g xs)
 by_each f g h xs = by_gather _ _ (λ x. by_map single (f x) (g x) (h x)) xs
 
 by_those : {X : Type 0} (f g : X → Option Bool) → ((x : X) → Gains (f x) (g x)) → (xs : List X) → Gains (those f xs) (those g xs)
 by_those f g h xs = by_gather _ _ (λ x. by_map (λ b. cond b (single x) []) (f x) (g x) (h x)) xs
 
-by_and : (a b c d : Option Bool) → Gains a b → Gains c d → Gains (and_so a c) (and_so b d)
+pub by_and : (a b c d : Option Bool) → Gains a b → Gains c d → Gains (and_so a c) (and_so b d)
 by_and None b c d h k x e = none_is x e
 by_and (Some true) b c d h k x e = ap (λ (o : Option Bool). and_so o d) (h true refl) ∙ k x e
 by_and (Some false) b c d h k x e = ap (λ (o : Option Bool). and_so o d) (h false refl) ∙ e
@@ -49,21 +49,22 @@ by_pair None b c d h k x e = none_is x e
 by_pair (Some r) b None d h k x e = none_is x e
 by_pair (Some r) b (Some s) d h k x e = (λ i. pair (h r refl i) (k s refl i)) ∙ e
 
-by_cond : {A : Type 0} (b : Bool) (o p q r : Option A) → Gains o p → Gains q r → Gains (cond b o q) (cond b p r)
+pub by_cond : {A : Type 0} (b : Bool) (o p q r : Option A) → Gains o p → Gains q r → Gains (cond b o q) (cond b p r)
 by_cond true o p q r h k = h
 by_cond false o p q r h k = k
 
-module _ {E : Type 0} (truth : Value → Option Bool) (quiet : E → Bool) (order : E → Value → Value → Ordering)
-    (v w : E → Row → Option Value) (o p : E → Group → Option Value) (more : (e : E) (c : Row) → Gains (v e c) (w e c)) (more_over : (e : E) (g : Group) → Gains (o e g) (p e g)) where
+module _ {E : Type 0} (truth so : Value → Option Bool) (quiet : E → Bool) (order : E → Value → Value → Ordering)
+    (v w : E → Row → Option Value) (o p : E → Group → Option Value) (more_so : (x : Value) → Gains (truth x) (so x))
+    (more : (e : E) (c : Row) → Gains (v e c) (w e c)) (more_over : (e : E) (g : Group) → Gains (o e g) (p e g)) where
   abbrev m : Meaning E
   m = record { value = v; over = o; truth = truth; quiet = quiet; order = order }
 
   abbrev n : Meaning E
-  n = record { value = w; over = p; truth = truth; quiet = quiet; order = order }
+  n = record { value = w; over = p; truth = so; quiet = quiet; order = order }
 
   all_gains : (es : List E) (c : Row) → Gains (all_true m es c) (all_true n es c)
   all_gains [] c = same (Some true)
-  all_gains (e ∷ es) c = by_and _ _ _ _ (by_then truth truth (λ x. same (truth x)) (v e c) (w e c) (more e c)) (all_gains es c)
+  all_gains (e ∷ es) c = by_and _ _ _ _ (by_then truth so more_so (v e c) (w e c) (more e c)) (all_gains es c)
 
   holds_gains : (es : List E) (c : Row) → Gains (holds m es c) (holds n es c)
   holds_gains es c = all_gains (quiet_first m es) c
@@ -90,7 +91,7 @@ module _ {E : Type 0} (truth : Value → Option Bool) (quiet : E → Bool) (orde
 
   has_gains : (x : Option E) (f g : E → Option Value) → ((e : E) → Gains (f e) (g e)) → Gains (has m x f) (has n x g)
   has_gains None f g h = same (Some true)
-  has_gains (Some e) f g h = by_then truth truth (λ x. same (truth x)) (f e) (g e) (h e)
+  has_gains (Some e) f g h = by_then truth so more_so (f e) (g e) (h e)
 
   judged_gains : (q : Query E) (f g : E → Option Value) → ((e : E) → Gains (f e) (g e)) → Gains (judged m q f) (judged n q g)
   judged_gains q f g h =
@@ -116,8 +117,21 @@ module _ {E : Type 0} (truth : Value → Option Bool) (quiet : E → Bool) (orde
       by_map (finished m q) (option_and_then (shown m q) (joined m q tables)) (option_and_then (shown n q) (joined n q tables))
       (by_then (shown m q) (shown n q) (shown_gains q) (joined m q tables) (joined n q tables) (joined_gains q tables))
 
--- what is answered with a limit is answered without, whenever the one meaning refines the other
-pub answer_refines : {E : Type 0} (sized exact : Meaning E) → Refines sized exact → (q : Query E) (tables : List (List Row)) → Gains (answer sized q tables) (answer exact q tables)
-answer_refines {E} sized exact r q tables =
-    subst (λ (x : Meaning E). Gains (answer sized q tables) (answer x q tables)) (λ i. record { value = exact.value; over = exact.over; truth = r.truth i; quiet = r.quiet i; order = r.order i })
-    (answer_gains sized.truth sized.quiet sized.order sized.value exact.value sized.over exact.over r.value r.over q tables)
+module _ {E : Type 0} (sized exact : Meaning E) (r : Refines sized exact) where
+  -- the second, with the first's quiet terms and orders
+  abbrev mixed : Meaning E
+  mixed = record sized { value = exact.value; over = exact.over; truth = exact.truth }
+
+  as_exact : mixed ≡ exact
+  as_exact = λ i. record exact { quiet = r.quiet i; order = r.order i }
+
+  -- what is answered with a limit is answered without, whenever the one meaning refines the other
+  pub answer_refines : (q : Query E) (tables : List (List Row)) → Gains (answer sized q tables) (answer exact q tables)
+  answer_refines q tables =
+      subst (λ (x : Meaning E). Gains (answer sized q tables) (answer x q tables)) as_exact
+      (answer_gains sized.truth exact.truth sized.quiet sized.order sized.value exact.value sized.over exact.over r.truth r.value r.over q tables)
+
+  pub holds_refines : (es : List E) (c : Row) → Gains (holds sized es c) (holds exact es c)
+  holds_refines es c =
+      subst (λ (x : Meaning E). Gains (holds sized es c) (holds x es c)) as_exact
+      (holds_gains sized.truth exact.truth sized.quiet sized.order sized.value exact.value sized.over exact.over r.truth r.value r.over es c)

@@ -1,5 +1,4 @@
 pub mod Queries
 pub mod Query
 pub mod Plans
-pub mod Meets
 pub mod Writes

@@ -195,10 +195,10 @@ SameTables (t ∷ ts) (u ∷ us) = SameBag t u × SameTables ts us
 
 -- ---- two meanings
 
--- what has a value with a limit has it without
+-- what has a value under the first has it under the second, as what has one with a limit has it without
 pub record Refines {E : Type 0} (sized exact : Meaning E) : Type 0 where
   pub value : (e : E) (c : Row) (v : Value) → sized.value e c ≡ Some v → exact.value e c ≡ Some v
   pub over : (e : E) (g : Group) (v : Value) → sized.over e g ≡ Some v → exact.over e g ≡ Some v
-  pub truth : sized.truth ≡ exact.truth
+  pub truth : (v : Value) (b : Bool) → sized.truth v ≡ Some b → exact.truth v ≡ Some b
   pub quiet : sized.quiet ≡ exact.quiet
   pub order : sized.order ≡ exact.order

@@ -1,5 +1,4 @@
 //! What a query answers and which rows a write wants, whatever its expressions are: definitions and their laws.
 #![tactic(auto)]
 
-pub mod fault;
 pub mod laws;

@@ -14,7 +14,7 @@ use Rattle.cr_scalar.specs.declared.fault.EvalFault.{EvalFault}
 use Rattle.cr_query.specs.Query.{Row}
 use Rattle.cr_query.specs.Writes.{inserted_rows}
 use Rattle.cr_meaning.specs.View as view
-use Rattle.cr_exec.specs.Answers.{Stage, Faults, IsBoth}
+use Rattle.cr_exec.specs.Answers.{Stage, Faults, IsMeant}
 use Rattle.cr_world.specs.declared.refusal.Refusal.{Refusal}
 use Rattle.cr_world.specs.declared.refusal.Refusal.TheVariants as refusal
 use Rattle.cr_world.specs.Refusals.{of_fault}
@@ -60,14 +60,14 @@ module _ (host : Host) (params : List Value) (tables : List Table) (insert : Ins
   -- these are the changes of the rows that it brings, each well formed for one of the tables
   pub record AreReceived (changes : List Change) : Type 0 where
     pub rows : List Row
-    pub brought : IsBoth host params (brought insert) rows
+    pub brought : IsMeant host params (brought insert) rows
     pub well_formed : first_bad_in tables rows ≡ None
     pub changes_of_rows : changes ≡ filter_map change_of_row rows
 
   -- some row that it brings is no well-formed change: so is told why the first is none
   pub record IsBad (r : Refusal) : Type 0 where
     pub rows : List Row
-    pub brought : IsBoth host params (brought insert) rows
+    pub brought : IsMeant host params (brought insert) rows
     pub first : IsToldOf (first_bad_in tables rows) r
 
   -- an expression has this fault

@@ -1,4 +1,3 @@
 pub mod Definitions
 pub mod Shown
-pub mod Pulling
 pub mod Above

@@ -1,32 +1,23 @@
--- What a taking and a pull leave. The set of all changes that a replica ever held is no data: a replica stands for each
+-- What a taking leaves. The set of all changes that a replica ever held is no data: a replica stands for each
 -- set whose kept changes are its own. Source: this project's own; a taking is a join.
-use Rattle.std.specs.Prelude.{◌≡◌, ◌≢◌, Bool, pos, true, false, List, Option, Some, None, Result, Ok, Err}
+use Rattle.std.specs.Prelude.{◌≡◌, Bool, true, false, List, Option, Some, None, Result, Ok, Err}
 use Rattle.cr_lattice.specs.declared.change.Change.{Change}
 use Rattle.cr_lattice.specs.Keep.{keep}
 use Rattle.cr_cells.specs.declared.store.StoreFault.TheVariants as store
 use Rattle.cr_cells.specs.declared.store.CellsError.{CellsError}
 use Rattle.cr_cells.specs.declared.store.CellsError.TheVariants as cells
 use Rattle.cr_cells.specs.Tables.{first_fault, AreWellFormed}
-use Rattle.cr_cells.specs.Holding.{Holding, changes_of, kept_of, since}
+use Rattle.cr_cells.specs.Holding.{Holding, kept_of}
 use Rattle.cr_cells.specs.Commit.{committed, newly_kept}
 use Rattle.cr_cells.specs.Calls.{is_past_limit, IsRefusal}
 use Rattle.cr_cells.specs.Marks.{Mark}
-use Rattle.cr_replica.specs.declared.replica.Offer.{Offer}
 use Rattle.cr_replica.specs.declared.replica.Taking.{Taking}
 use Rattle.cr_replica.specs.declared.replica.TakeError.{TakeError}
-use Rattle.cr_replica.specs.declared.replica.TakeError.TheVariants.{Memory, Store, Bad, VersionLimit, SameSite}
+use Rattle.cr_replica.specs.declared.replica.TakeError.TheVariants.{Memory, Store, Bad, VersionLimit}
 
 -- what is kept of all that was ever held
 abbrev pub Stands : List Change → Holding → Type 0
 Stands held h = kept_of h ≡ keep held
-
--- all changes of a peer, by their stamps
-abbrev pub changes_of_peer : Holding → List Change
-changes_of_peer peer = changes_of (since peer.cells (pos 0))
-
--- what a replica that holds this offers to who pulls from it
-abbrev pub IsOffer : Holding → Offer → Type 0
-IsOffer h offer = (offer.site ≡ h.site) × (offer.changes ≡ changes_of_peer h)
 
 -- why changes are not taken: the first that is not well formed, or else the greatest version would be passed
 abbrev pub IsNotTaken : Holding → List Change → TakeError → Type 0
@@ -34,7 +25,6 @@ IsNotTaken h more Memory = Unit {0}
 IsNotTaken h more (Store f) = f ≡ store.Refused
 IsNotTaken h more (Bad b) = first_fault h.tables more ≡ Some b
 IsNotTaken h more VersionLimit = (first_fault h.tables more ≡ None) × (is_past_limit h more ≡ true)
-IsNotTaken h more SameSite = ⊥
 
 -- nothing stands against the taking of these changes, and its commit would bring in the newly kept ones
 pub record IsReady (h : Holding) (more news : List Change) : Type 0 where
@@ -53,36 +43,12 @@ abbrev pub CommitsAll : Holding → Holding → List Change → Option Mark → 
 CommitsAll old new more mark (Ok u) = new ≡ committed old more mark
 CommitsAll old new more mark (Err e) = (new ≡ old) × IsRefusal e
 
--- all changes are taken in one commit, or none
-abbrev pub Takes : Holding → Holding → List Change → Result (Unit {0}) TakeError → Type 0
-Takes old new more (Ok u) = (first_fault old.tables more ≡ None) × (is_past_limit old more ≡ false) × (new ≡ committed old more None)
-Takes old new more (Err e) = (new ≡ old) × IsNotTaken old more e
-
--- why nothing is pulled from a peer
-abbrev pub IsNotPulled : Holding → Holding → TakeError → Type 0
-IsNotPulled peer h Memory = Unit {0}
-IsNotPulled peer h (Store f) = f ≡ store.Refused
-IsNotPulled peer h (Bad b) = (peer.site ≢ h.site) × IsNotTaken h (changes_of_peer peer) (Bad b)
-IsNotPulled peer h VersionLimit = (peer.site ≢ h.site) × IsNotTaken h (changes_of_peer peer) VersionLimit
-IsNotPulled peer h SameSite = peer.site ≡ h.site
-
--- the first step of a pull, of what the peer offers
-abbrev pub PreparesPull : Holding → Holding → Holding → Result Taking TakeError → Type 0
-PreparesPull peer old new (Ok taking) = (peer.site ≢ old.site) × Prepares old new (changes_of_peer peer) (Ok taking)
-PreparesPull peer old new (Err e) = (new ≡ old) × IsNotPulled peer old e
-
--- a pull takes all changes that the peer keeps, unless its site is the taker's own
-abbrev pub Pulls : Holding → Holding → Holding → Result (Unit {0}) TakeError → Type 0
-Pulls peer old new (Ok u) = (peer.site ≢ old.site) × Takes old new (changes_of_peer peer) (Ok u)
-Pulls peer old new (Err e) = (new ≡ old) × IsNotPulled peer old e
-
 -- memory or the store does not suffice
 abbrev pub is_want : TakeError → Bool
 is_want Memory = true
 is_want (Store f) = true
 is_want (Bad b) = false
 is_want VersionLimit = false
-is_want SameSite = false
 
 -- how a store's refusal is passed on
 abbrev pub of_store : CellsError → TakeError

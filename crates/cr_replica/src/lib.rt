@@ -1,4 +1,4 @@
-//! A replica without SQL: its tables, what it takes and pulls, and the rows that it shows, over any store of cells.
+//! A replica without SQL: its tables, what it takes, and the rows that it shows, over any store of cells.
 #![tactic(auto)]
 
 pub mod change_row;

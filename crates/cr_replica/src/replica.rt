@@ -21,7 +21,6 @@ use cr_lattice::rows::rows;
 use cr_lattice::stamped::Stamped;
 use cr_lattice::table::{ColumnDef, Items, Row, TableDef};
 use cr_recent::recent::Recent;
-use cr_value::order::same_bytes;
 use cr_value::text::{Bytes, Text};
 use std::alloc::{AllocError, Global};
 use std::marker::Model;
@@ -42,9 +41,6 @@ pub enum TakeError {
     /// A kept change would change at the greatest version.
     #[error("the greatest version is reached")]
     VersionLimit,
-    /// The peer's site is the taker's own.
-    #[error("both replicas have one site")]
-    SameSite,
 }
 
 /// Why rows are not shown.
@@ -160,15 +156,6 @@ fn changes_of_tables<C: Cells>(
     Ok(changes)
 }
 
-/// What a replica hands to one that pulls from it.
-#[derive(Debug, Drop)]
-pub struct Offer {
-    /// The site of the replica that offers.
-    pub site: Site,
-    /// All changes that it keeps, by their stamps.
-    pub changes: Items<Change>,
-}
-
 /// Changes that may be taken, and what their commit would bring in.
 #[derive(Debug, Drop)]
 pub struct Taking<'a> {
@@ -191,19 +178,18 @@ impl<C: Cells> Model for Replica<C> {
 }
 
 impl<C: Cells> Replica<C> {
-    ghost use Rattle.std.specs.Prelude.{◌≡◌, ◌≤ℤ◌, ◌++◌, pos, List, find, false, true, Err, OnOk, IfOk};
+    ghost use Rattle.std.specs.Prelude.{◌≡◌, ◌≤ℤ◌, ◌++◌, pos, List, find, false, true, OnOk, IfOk};
     ghost use Rattle.std.specs.Option.{ForSome, is_some};
     ghost use Rattle.cr_lattice.specs.declared.change.Change.{Change};
     ghost use Rattle.cr_cells.specs.Tables.{IsNewTable, IsNewColumn, has_folded_names, is_markable, is_named, with_replicated, with_table, with_added};
-    ghost use Rattle.cr_cells.specs.Holding.{Holding, IsSound, since, changes_of};
+    ghost use Rattle.cr_cells.specs.Holding.{IsSound, since, changes_of};
     ghost use Rattle.cr_cells.specs.Marks.{seen_of};
     ghost use Rattle.cr_cells.specs.Calls.{Defines, Reads, is_want, StaysClean};
     ghost use Rattle.cr_replica.specs.Definition.{DefinesTable};
     ghost use Rattle.cr_replica.specs.Definition as definitions;
     ghost use Rattle.cr_replica.specs.Taking as takings;
     ghost use Rattle.cr_replica.specs.Showing as showings;
-    ghost use Rattle.cr_replica.specs.declared.replica.TakeError.TheVariants.{SameSite};
-    ghost use Rattle.cr_replica.specs.Taking.{Stands, IsReady, Prepares, PreparesPull, CommitsAll, IsOffer};
+    ghost use Rattle.cr_replica.specs.Taking.{Stands, IsReady, Prepares, CommitsAll};
     ghost use Rattle.cr_replica.specs.Showing.{Shows};
     ghost use Rattle.cr_lattice.specs.Keep.{keep};
     ghost use Rattle.std.specs.Option.{option_copied};
@@ -332,29 +318,6 @@ impl<C: Cells> Replica<C> {
         }
     }
 
-    /// The first step of taking what a peer offers, as `prepare`.
-    ///
-    /// # Errors
-    /// `SameSite` where the peer's site is this replica's own; else those of `prepare`.
-    pub fn prepare_offer<'a>(
-        &mut self,
-        alloc: Global,
-        offer: &'a Offer,
-    ) -> Result<Taking<'a>, TakeError>
-        ensures device { StaysClean C.is_honest C.is_clean takings.is_want self.old self.new result }
-        ensures prepares { C.is_clean self.new → (peer : Holding) → IsOffer peer offer.now
-            → PreparesPull peer (C.holding self.old) (C.holding self.new) result }
-        ensures own { C.is_clean self.new → offer.now.site ≡ (C.holding self.old).site → result ≡ Err SameSite }
-        ensures same { C.is_clean self.new → C.holding self.new ≡ C.holding self.old }
-        ensures changes { IfOk result (λ taking. taking.changes.now ≡ offer.now.changes) }
-        ensures ready { C.is_clean self.new → IfOk result (λ taking. IsReady (C.holding self.new) taking.changes.now taking.newly_kept) }
-    {
-        if same_bytes(&offer.site, &self.site_id()) {
-            return Err(TakeError::SameSite);
-        }
-        self.prepare(alloc, offer.changes.as_slice())
-    }
-
     /// The second step of a taking: its changes are committed, all in one commit, and with them the mark of a peer, its
     /// site and its version, at least 0, up to which they were taken. Those that lose change nothing.
     ///
@@ -378,25 +341,6 @@ impl<C: Cells> Replica<C> {
             Ok(_) => Ok(()),
             Err(error) => Err(error),
         }
-    }
-
-    /// What this replica hands to one that pulls from it: its site, and all changes that it keeps, by their stamps.
-    ///
-    /// # Errors
-    /// `Memory`, or `Store(Refused)`.
-    pub fn offer(&mut self, alloc: Global) -> Result<Offer, CellsError>
-        ensures device { StaysClean C.is_honest C.is_clean is_want self.old self.new result }
-        ensures sound { C.is_clean self.new → IsSound (C.holding self.new) }
-        ensures reads { C.is_clean self.new → Reads (C.holding self.old) (C.holding self.new) result (IsOffer (C.holding self.old)) }
-    {
-        let changes = match self.changes_above(alloc, 0) {
-            Ok(changes) => changes,
-            Err(error) => return Err(error),
-        };
-        Ok(Offer {
-            site: self.site_id(),
-            changes: Items::new(changes),
-        })
     }
 
     /// The rows of the table of that name, in ascending order: none where it isn't replicated.

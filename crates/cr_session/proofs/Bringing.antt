@@ -15,8 +15,8 @@ use Rattle.cr_query.specs.Writes.{has_long_key, has_null, lacks_value}
 use Rattle.cr_scalar.specs.Host.{Host as Means}
 use Rattle.cr_term.specs.declared.query.Insert.{Insert}
 use Rattle.cr_scalar.specs.declared.fault.EvalFault.{EvalFault}
-use Rattle.cr_scalar.specs.declared.fault.EvalFault.TheVariants as fault
-use Rattle.cr_exec.specs.Answers.{Faults, IsBoth}
+use Rattle.cr_exec.proofs.Stages.{faults_on}
+use Rattle.cr_exec.specs.Answers.{Faults, IsMeant}
 use Rattle.cr_taken.specs.Taken.{AreKept, Replicates, replicated}
 use Rattle.cr_taken.proofs.Members.{found_member}
 use Rattle.cr_taken.proofs.Tables.{in_profile, kept_well_formed}
@@ -70,19 +70,11 @@ module _ (means : Means) (params : List Value) (i : Insert) (kept : List Change)
 
   -- where what it brings has a fault, what it wants has it
   pub faults_behind : (e : EvalFault) → Faults means params (insert_brings i) e → Faults means params (insert_wants kept i) e
-  faults_behind fault.Overflow f = ap behind_shown f
-  faults_behind fault.NotANumber f = ap behind_shown f
-  faults_behind fault.NotUtf8 f = ap behind_shown f
-  faults_behind (fault.Host text) f = ap behind_shown f
-  faults_behind fault.TooBig f = ap behind_shown f
-  faults_behind fault.Memory f = tt
+  faults_behind e f = faults_on means params (insert_brings i) (insert_wants kept i) e (λ g none. ap behind_shown none) f
 
-module _ (means : Means) (params : List Value) (i : Insert) (more : List Row) (both : IsBoth means params (insert_brings i) more) (kept : List Change) where
-  wants : IsBoth means params (insert_wants kept i) (rows kept i.relation.definition ++ more)
-  wants = record {
-    exact = ap (behind_shown means params i kept) both.exact;
-    sized = ap (behind_shown means params i kept) both.sized;
-  }
+module _ (means : Means) (params : List Value) (i : Insert) (more : List Row) (both : IsMeant means params (insert_brings i) more) (kept : List Change) where
+  wants : IsMeant means params (insert_wants kept i) (rows kept i.relation.definition ++ more)
+  wants = record { under = λ g limit. ap (behind_shown means params i kept) (both.under g limit) }
 
   pub made_leads : (site : List ℕ) (changes : List Change) → AreMade i.relation.definition site kept (rows kept i.relation.definition ++ more) changes
       → Leads means params i.relation.definition site kept (insert_wants kept i) changes

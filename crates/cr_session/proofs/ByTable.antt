@@ -26,7 +26,7 @@ use Rattle.cr_query.specs.Query.{Row, answer}
 use Rattle.cr_query.specs.Writes.{by_key, wanted_by_delete, wanted_by_update}
 use Rattle.cr_meaning.specs.View as view
 use Rattle.cr_meaning.specs.Meaning.{meaning}
-use Rattle.cr_exec.specs.Answers.{Faults, IsBoth, Stage}
+use Rattle.cr_exec.specs.Answers.{Faults, IsMeant, Stage}
 use Rattle.cr_replica.specs.declared.snapshot.Listing.{Listing}
 use Rattle.cr_replica.specs.declared.snapshot.Snapshot.{Snapshot}
 use Rattle.cr_snapshot.specs.Seen.{name_of, rows_listed, rows_seen}
@@ -147,14 +147,14 @@ module _ (h : Holding) (pending : Option (List Change)) (tables : List (List ℕ
       refused : (f : Refusal) → IsRefused means params def snap.site snap.kept over f → IsRefused means params def st.holding.site (now st) whole f
       refused f (inl want) = inl want
       refused f (inr (inl (e, is, faults))) = inr (inl (e, is, subst (λ (s : Stage (List Row)). Faults means params s e) same faults))
-      refused f (inr (inr (rs, both, s))) = inr (inr (rs, subst (λ (s : Stage (List Row)). IsBoth means params s rs) same both, stands rs f s))
+      refused f (inr (inr (rs, both, s))) = inr (inr (rs, subst (λ (s : Stage (List Row)). IsMeant means params s rs) same both, stands rs f s))
 
       write_of_tables : ShowsWrite means params def over whole st snap
       write_of_tables = record {
         named = at.named;
         leads = λ changes l. record {
           rows = l.rows;
-          both = subst (λ (s : Stage (List Row)). IsBoth means params s l.rows) same l.both;
+          both = subst (λ (s : Stage (List Row)). IsMeant means params s l.rows) same l.both;
           short = l.short;
           whole = l.whole;
           once = l.once;

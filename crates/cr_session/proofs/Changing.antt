@@ -18,8 +18,9 @@ use Rattle.cr_query.specs.Queries as queries
 use Rattle.cr_query.specs.Writes.{wanted_by_insert, wanted_by_update, wanted_by_delete, has_long_key, lacks_value, has_twice, by_key}
 use Rattle.cr_query.proofs.Refining.{Gains}
 use Rattle.cr_meaning.specs.View.{Ordered}
-use Rattle.cr_meaning.specs.Meaning.{exact, sized}
-use Rattle.cr_exec.specs.Answers.{IsBoth, Stage}
+use Rattle.cr_scalar.specs.Meaning.{byte_limit}
+use Rattle.cr_meaning.specs.Meaning.{exact, sized, strict}
+use Rattle.cr_exec.specs.Answers.{IsMeant, Stage}
 use Rattle.cr_world.specs.declared.command.Reply.{Reply}
 use Rattle.cr_world.specs.declared.command.Reply.TheVariants.{Done}
 use Rattle.cr_world.specs.declared.refusal.Refusal.{Refusal}
@@ -158,7 +159,7 @@ module _ (means : Means) (params : List Value) (host : Host) (st : State) (def :
         ∙ ap (λ (c : Cause). or_else c rest) yet
 
     -- the rows are wanted under both meanings
-    module _ (out : List Row) (both : IsBoth means params stage out) where
+    module _ (out : List Row) (both : IsMeant means params stage out) where
       abbrev of_key : Cause
       of_key = cond (has_long_key def out) (Evaluation false) Free
 
@@ -167,7 +168,7 @@ module _ (means : Means) (params : List Value) (host : Host) (st : State) (def :
 
       rows_cause : against means params host st x ≡ or_else of_key (of_rows host st def out more)
       rows_cause =
-          cause_is ∙ ap (λ (p : Option (List Row)). or_else (evaluation_cause (Some def) (stage (exact means params)) p) (of_rows host st def (unwrap_or p []) (changes_now st def (unwrap_or p [])))) both.sized
+          cause_is ∙ ap (λ (p : Option (List Row)). or_else (evaluation_cause (Some def) (stage (exact means params)) p) (of_rows host st def (unwrap_or p []) (changes_now st def (unwrap_or p [])))) (both.under (strict byte_limit) (inr refl))
 
       long_is : (b : Bool) → has_long_key def out ≡ b → of_key ≡ cond b (Evaluation false) Free
       long_is b e = ap (λ (b : Bool). cond b (Evaluation false) Free) e
@@ -203,7 +204,7 @@ module _ (means : Means) (params : List Value) (host : Host) (st : State) (def :
         same = sym (commit_left short whole once within)
 
         leaves : adding more st ≡ left_by st x (unwrap_or (with_limit means params host st x) []) []
-        leaves = sym (is.leaves out) ∙ ap (λ (p : Option (List Row)). left_by st x (unwrap_or p []) []) (sym (evaluated_is (sized means params) ∙ both.sized))
+        leaves = sym (is.leaves out) ∙ ap (λ (p : Option (List Row)). left_by st x (unwrap_or p []) []) (sym (evaluated_is (sized means params) ∙ both.under (strict byte_limit) (inr refl)))
 
         done : (result : Result Reply Refusal) → AreAdded host st more result new → Performs means params host st x result new
         done (Ok reply) a = (sym same ∙ a.0, (a.1.0 ∙ sym (is.replies (unwrap_or (with_limit means params host st x) [])), a.1.1 ∙ leaves))

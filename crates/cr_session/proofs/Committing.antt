@@ -1,5 +1,5 @@
 -- Writes of a session, from what a snapshot shows to where the session then stands.
-use Rattle.std.proofs.Common.{◌≡◌, Bool, true, false, ◌&&◌, cond, List, [], ◌∷◌, Option, Some, None, Result, Err, refl, sym, ap, subst, ◌∙◌, find}
+use Rattle.std.proofs.Common.{◌≡◌, inl, Bool, true, false, ◌&&◌, cond, List, [], ◌∷◌, Option, Some, None, Result, Err, refl, sym, ap, subst, ◌∙◌, find}
 use Rattle.std.specs.Prelude.{if◌then◌else◌}
 use Rattle.std.specs.Option.{is_none}
 use Rattle.std.specs.List.{list_all}
@@ -29,9 +29,9 @@ use Rattle.cr_query.specs.Queries as queries
 use Rattle.cr_query.specs.Writes.{wanted_by_insert, wanted_by_update, wanted_by_delete}
 use Rattle.cr_query.proofs.Refining.{Gains}
 use Rattle.cr_meaning.specs.View.{Ordered, insert, update, delete}
-use Rattle.cr_meaning.specs.Meaning.{exact, sized}
+use Rattle.cr_meaning.specs.Meaning.{exact, sized, strict}
 use Rattle.cr_meaning.proofs.Limits.{refines}
-use Rattle.cr_taken.proofs.Refined.{insert_refines, update_refines, delete_refines}
+use Rattle.cr_query.proofs.RefiningWrites.{insert_refines, update_refines, delete_refines}
 use Rattle.cr_replica.specs.declared.snapshot.Snapshot.{Snapshot}
 use Rattle.cr_replica.specs.Snapshots.{IsWhole, is_in_profile}
 use Rattle.cr_snapshot.specs.Seen.{IsNamed, catalog_of}
@@ -104,13 +104,13 @@ replicated_seen st snap d is e = subst (λ (ts : List Table). find (is_named d.n
 -- a limit on values takes rows away and changes none
 module _ (means : Means) (params : List Value) (shown : List Row) where
   insert_gains : (cols : List ColumnDef) (w : queries.Insert Ordered) → Gains (wanted_by_insert (sized means params) cols w shown) (wanted_by_insert (exact means params) cols w shown)
-  insert_gains cols w = insert_refines (sized means params) (exact means params) (refines means params) cols w shown
+  insert_gains cols w = insert_refines (sized means params) (exact means params) (refines means params (strict None) (inl refl)) cols w shown
 
   update_gains : (cols : List ColumnDef) (w : queries.Update Ordered) → Gains (wanted_by_update (sized means params) cols w shown) (wanted_by_update (exact means params) cols w shown)
-  update_gains cols w = update_refines (sized means params) (exact means params) (refines means params) cols w shown
+  update_gains cols w = update_refines (sized means params) (exact means params) (refines means params (strict None) (inl refl)) cols w shown
 
   delete_gains : (w : queries.Delete Ordered) → Gains (wanted_by_delete (sized means params) w shown) (wanted_by_delete (exact means params) w shown)
-  delete_gains w = delete_refines (sized means params) (exact means params) (refines means params) w shown
+  delete_gains w = delete_refines (sized means params) (exact means params) (refines means params (strict None) (inl refl)) w shown
 
 -- ---- statements by their tables
 

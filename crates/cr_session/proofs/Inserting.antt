@@ -13,7 +13,7 @@ use Rattle.cr_term.specs.declared.query.Resolved.TheVariants as r
 use Rattle.cr_scalar.specs.Host.{Host as Means}
 use Rattle.cr_scalar.specs.declared.fault.EvalFault.{EvalFault}
 use Rattle.cr_query.specs.Query.{Row}
-use Rattle.cr_exec.specs.Answers.{Faults, IsBoth}
+use Rattle.cr_exec.specs.Answers.{Faults, IsMeant}
 use Rattle.cr_replica.specs.declared.snapshot.Snapshot.{Snapshot}
 use Rattle.cr_snapshot.specs.Seen.{IsNamed, catalog_of}
 use Rattle.cr_taken.specs.Taken.{AreKept}
@@ -41,7 +41,7 @@ Told def site kept rows f = (f ≡ refusal.Memory) ⊎ Stands def site kept rows
 
 module _ {C : Type 0} (means : Means) (params : List Value) (host : Host) (is_honest is_clean : C → Type 0) (holding : C → Holding) (old middle : SessionOf C) (names : Snapshot) (named : is_clean old.0 → IsNamed (standing holding old) names)
     (i : Insert) (has : HasRelation (catalog_of names) i.relation) (e : is_table i.relation.held ≡ true) (yet : not_replicated i.relation ≡ Free) (used : i.is_ignored ≡ false)
-    (more : List Row) (both : IsBoth means params (insert_brings i) more) (honest_was : is_honest middle.0 → is_honest old.0) (was : is_clean middle.0 → is_clean old.0) (stays : is_honest middle.0 → is_clean old.0 → is_clean middle.0) (same : is_clean middle.0 → standing holding middle ≡ standing holding old) where
+    (more : List Row) (both : IsMeant means params (insert_brings i) more) (honest_was : is_honest middle.0 → is_honest old.0) (was : is_clean middle.0 → is_clean old.0) (stays : is_honest middle.0 → is_clean old.0 → is_clean middle.0) (same : is_clean middle.0 → standing holding middle ≡ standing holding old) where
   abbrev stands : State
   stands = standing holding old
 

@@ -22,7 +22,7 @@ use Rattle.cr_scalar.specs.Host.{Host as Means}
 use Rattle.cr_query.specs.Query.{Row, answer}
 use Rattle.cr_meaning.specs.View.{Ordered}
 use Rattle.cr_meaning.specs.View as view
-use Rattle.cr_meaning.specs.Meaning.{IsLimit, meaning}
+use Rattle.cr_meaning.specs.Meaning.{IsLimit, meaning, strict}
 use Rattle.cr_snapshot.specs.Seen.{name_of}
 use Rattle.cr_taken.specs.Taken.{AreKept, Replicates}
 use Rattle.cr_taken.proofs.Tables.{in_profile, kept_well_formed}
@@ -225,10 +225,10 @@ module _ (means : Means) (params : List Value) (q : Query) (h : Holding) (sound 
         (all_rows ∙ ap (λ (b : Bool). if b then rows (now st) def else []) r)
         ∙ elim told.told [
           | inl b ↦
-              joins_by_keys means params most def q before j after ts (now st) (map shown after) b.0 told.given is.bytes keyed kept_of_it whole is.safe so_far.wide b.1
+              joins_by_keys means params (strict most) def q before j after ts (now st) (map shown after) b.0 told.given is.bytes keyed kept_of_it whole is.safe so_far.wide b.1
               ((λ k. keys_told b.0 (sym so_far.base_is k) (sym so_far.partners_are k)) ∙ b.2)
           | inr l ↦
-              joins_by_list means params most def q before j after ts (now st) (map shown after) told.given limit is.bytes keyed kept_of_it whole l.1 so_far.wide l.0
+              joins_by_list means params (strict most) def q before j after ts (now st) (map shown after) told.given limit is.bytes keyed kept_of_it whole l.1 so_far.wide l.0
               (ap (λ (n : ℕ). listed_keys n def params q.filter) (sym so_far.base_is) ∙ l.2)
         ]
         ∙ ap (λ (rs : List Row). over most (ts ++ (rs ∷ map shown after)))

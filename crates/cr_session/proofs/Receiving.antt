@@ -21,11 +21,12 @@ use Rattle.cr_query.specs.Queries as queries
 use Rattle.cr_query.specs.Writes.{inserted_rows}
 use Rattle.cr_query.proofs.Refining.{Gains}
 use Rattle.cr_meaning.specs.View.{Ordered, insert}
-use Rattle.cr_meaning.specs.Meaning.{exact, sized}
+use Rattle.cr_scalar.specs.Meaning.{byte_limit}
+use Rattle.cr_meaning.specs.Meaning.{exact, sized, strict}
 use Rattle.cr_meaning.proofs.Limits.{refines}
 use Rattle.cr_scalar.specs.declared.fault.EvalFault.{EvalFault}
-use Rattle.cr_exec.specs.Answers.{Faults, IsBoth, Stage}
-use Rattle.cr_taken.proofs.Refined.{rows_refine}
+use Rattle.cr_exec.specs.Answers.{Faults, IsMeant, Stage}
+use Rattle.cr_query.proofs.RefiningWrites.{rows_refine}
 use Rattle.cr_replica.specs.declared.snapshot.Listing.{Listing}
 use Rattle.cr_replica.specs.declared.snapshot.Snapshot.{Snapshot}
 use Rattle.cr_snapshot.specs.Seen.{IsNamed, catalog_of, definition_of}
@@ -103,11 +104,11 @@ module _ (means : Means) (params : List Value) (host : Host) (h : Holding) (pend
   cause_is = λ i. causes_at (brought (exact means params)) (brought (sized means params)) (never (in_transaction here) i) (judged_is host here (filter_map change_of_row (unwrap_or (brought (sized means params)) [])) (in_transaction here) i)
 
   brought_gains : Gains (brought (sized means params)) (brought (exact means params))
-  brought_gains = rows_refine (sized means params) (exact means params) (refines means params) changes_columns (record { places = w.places; tuples = w.tuples; is_ignored = false })
+  brought_gains = rows_refine (sized means params) (exact means params) (refines means params (strict None) (inl refl)) changes_columns (record { places = w.places; tuples = w.tuples; is_ignored = false })
 
-  module _ (rows : List Row) (both : IsBoth means params brought rows) where
+  module _ (rows : List Row) (both : IsMeant means params brought rows) where
     rows_cause : against means params host here (receiving false) ≡ or_else (bad_cause rows) (adding_cause host here (filter_map change_of_row rows))
-    rows_cause = cause_is ∙ ap (λ (p : Option (List Row)). causes (brought (exact means params)) p) both.sized
+    rows_cause = cause_is ∙ ap (λ (p : Option (List Row)). causes (brought (exact means params)) p) (both.under (strict byte_limit) (inr refl))
 
     bad_told : (b : BadChange) (f : Refusal) → first_bad here rows ≡ Some b → f ≡ refusal.BadChange b → Tells (against means params host here (receiving false)) f
     bad_told b f bad told =
@@ -117,7 +118,7 @@ module _ (means : Means) (params : List Value) (host : Host) (h : Holding) (pend
     good_cause good = rows_cause ∙ ap (λ (o : Option BadChange). or_else (of_option (option_map refusal.BadChange o)) (adding_cause host here (filter_map change_of_row rows))) good
 
     leaves : left_by here (receiving false) (unwrap_or (with_limit means params host here (receiving false)) []) [] ≡ adding (filter_map change_of_row rows) here
-    leaves = ap (λ (p : Option (List Row)). left_by here (receiving false) (unwrap_or p []) []) both.sized ∙ added_to h (filter_map change_of_row rows) pending
+    leaves = ap (λ (p : Option (List Row)). left_by here (receiving false) (unwrap_or p []) []) (both.under (strict byte_limit) (inr refl)) ∙ added_to h (filter_map change_of_row rows) pending
 
     performs_received : (changes : List Change) (result : Result Reply Refusal) (new : State) → changes ≡ filter_map change_of_row rows → first_bad here rows ≡ None
         → AreAdded host here changes result new → Performs means params host here (receiving false) result new
@@ -167,7 +168,7 @@ module _ {C : Type 0} (means : Means) (params : List Value) (host : Host) (is_ho
   refused_so clean f ig (inr (inr bad)) = by_first bad.first where
     by_first : IsToldOf (first_bad_in snap.tables bad.rows) f → Does false (Err f) at
     by_first (b, is, told) =
-        (inr (bad_told means params host (holding old.0) old.1 (insert i) bad.rows (subst (λ (b : Bool). IsBoth means params (brought_by b) bad.rows) ig bad.brought) b f (bad_is clean bad.rows ∙ is) told), refl)
+        (inr (bad_told means params host (holding old.0) old.1 (insert i) bad.rows (subst (λ (b : Bool). IsMeant means params (brought_by b) bad.rows) ig bad.brought) b f (bad_is clean bad.rows ∙ is) told), refl)
 
   pub receive_refused : (f : Refusal) → i.is_ignored ≡ false → (f ≡ refusal.Memory) ⊎ (IsFaulty means params snap.tables i f ⊎ IsBad means params snap.tables i f) → Performed means params host (honest is_honest) (clean is_clean) (standing holding) old (r.Insert i) (Err f) old
   receive_refused f ig l = untouched means params host (honest is_honest) (clean is_clean) (standing holding) old (r.Insert i) (Err f) (λ clean. as_insert false (Err f) at ig (refused_so clean f ig l))
@@ -177,6 +178,6 @@ module _ {C : Type 0} (means : Means) (params : List Value) (host : Host) (is_ho
   receives new changes result ig l c = record {
     device = c.device;
     performs = λ clean. as_insert false result (standing holding new) ig
-        (performs_received means params host (holding old.0) old.1 (insert i) l.rows (subst (λ (b : Bool). IsBoth means params (brought_by b) l.rows) ig l.brought) changes result (standing holding new)
+        (performs_received means params host (holding old.0) old.1 (insert i) l.rows (subst (λ (b : Bool). IsMeant means params (brought_by b) l.rows) ig l.brought) changes result (standing holding new)
         l.changes_of_rows (bad_is (c.device.was_clean clean) l.rows ∙ l.well_formed) (c.adds clean));
   }

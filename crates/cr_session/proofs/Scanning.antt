@@ -15,8 +15,7 @@ use Rattle.cr_term.specs.declared.query.Resolved.TheVariants as r
 use Rattle.cr_scalar.specs.Host.{Host as Means}
 use Rattle.cr_query.specs.Query.{Row, answer}
 use Rattle.cr_meaning.specs.View.{query}
-use Rattle.cr_meaning.specs.Meaning.{meaning}
-use Rattle.cr_scalar.specs.Meaning.{byte_limit}
+use Rattle.cr_meaning.specs.Meaning.{Regard, meaning, regarded, strict}
 use Rattle.cr_snapshot.specs.Seen.{name_of}
 use Rattle.cr_pushdown.specs.Passing.{passes}
 use Rattle.cr_pushdown.proofs.Answers.{answers_by_passing}
@@ -37,10 +36,10 @@ named_rows st name t is =
     ∙ ap (λ (b : Bool). if b then rows (now st) t.definition else []) is.is
 
 -- what a query of a table alone evaluates
-evaluated_one : (means : Means) (params : List Value) (most : Option ℕ) (st : State) (name : List ℕ) (t : Table) → IsReplicated st.holding.tables name t → (q : Query) (j : Joined) → q.joined ≡ j ∷ [] → name ≡ name_of j
-    → evaluated (meaning most means params) st (view (r.Select q)) ≡ answer (meaning most means params) (query q) (rows (now st) t.definition ∷ [])
-evaluated_one means params most st name t is q j one named =
-    let m = meaning most means params in
+evaluated_one : (means : Means) (params : List Value) (g : Regard) (st : State) (name : List ℕ) (t : Table) → IsReplicated st.holding.tables name t → (q : Query) (j : Joined) → q.joined ≡ j ∷ [] → name ≡ name_of j
+    → evaluated (regarded g means params) st (view (r.Select q)) ≡ answer (regarded g means params) (query q) (rows (now st) t.definition ∷ [])
+evaluated_one means params g st name t is q j one named =
+    let m = regarded g means params in
     (λ i. answer m (query q) (tables_named st (map name_of (one i))))
     ∙ (λ i. answer m (query q) (rows_named st (sym named i) ∷ []))
     ∙ (λ i. answer m (query q) (named_rows st name t is i ∷ []))
@@ -51,8 +50,8 @@ query_by_rows : (means : Means) (params : List Value) (st : State) (name : List 
 query_by_rows means params st name terms found is q j one inner no_on named same = λ most limit.
     let m = meaning most means params in
     let all : List Row = rows (now st) is.table.definition in
-    evaluated_one means params most st name is.table is.replicated q j one named
-    ∙ answers_by_passing means params most limit all q j one inner no_on
+    evaluated_one means params (strict most) st name is.table is.replicated q j one named
+    ∙ answers_by_passing means params (strict most) limit all q j one inner no_on
     ∙ (λ i. answer m (query q) (filter (passes means params (sym same i)) all ∷ []))
     ∙ (λ i. answer m (query q) (sym is.are i ∷ []))
 
@@ -67,10 +66,7 @@ query_served means params h sound pending (seen.Rows found) q j name one inner n
 query_served means params h sound pending (seen.Answer found) q j name one inner no_on named is =
     let st : State = state_of h pending in
     let both = is.answers (record { table = j; only = one; inner = inner; no_on = no_on }) in
-    record {
-      exact = evaluated_one means params None st name is.table is.replicated q j one named ∙ both.exact;
-      sized = evaluated_one means params byte_limit st name is.table is.replicated q j one named ∙ both.sized;
-    }
+    record { under = λ g limit. evaluated_one means params g st name is.table is.replicated q j one named ∙ both.under g limit }
 
 -- a scan is what a query looks at
 pub scan_looked : (means : Means) (params : List Value) (st : State) (name : List ℕ) (q : Query) (x : Seen) → IsScan means params st name q x → IsQueryLook means params st name q x

@@ -13,7 +13,7 @@ use Rattle.cr_scalar.specs.declared.fault.EvalFault.TheVariants as fault
 use Rattle.cr_query.specs.Query.{Row}
 use Rattle.cr_query.proofs.Refining.{Gains, answer_refines}
 use Rattle.cr_meaning.specs.View.{query}
-use Rattle.cr_meaning.specs.Meaning.{exact, sized}
+use Rattle.cr_meaning.specs.Meaning.{exact, sized, strict}
 use Rattle.cr_meaning.proofs.Limits.{refines}
 use Rattle.cr_exec.specs.Answers.{Faults, Stage}
 use Rattle.cr_replica.specs.declared.snapshot.Snapshot.{Snapshot}
@@ -65,11 +65,11 @@ module _ (def : Option TableDef) (means : Means) (params : List Value) (f : Stag
   evaluating e is none = inr (faulty def (f (exact means params)) (f (sized means params)) e none (none_limited (f (exact means params)) (f (sized means params)) more none) is)
 
   pub fault_told : (e : EvalFault) → Faults means params f e → IsWant (of_fault e) ⊎ Tells fault_cause (of_fault e)
-  fault_told fault.Overflow h = evaluating (of_fault fault.Overflow) (inl (told.Overflow, refl)) h
-  fault_told fault.NotANumber h = evaluating (of_fault fault.NotANumber) (inl (told.NotANumber, refl)) h
-  fault_told fault.NotUtf8 h = evaluating (of_fault fault.NotUtf8) (inl (told.NotUtf8, refl)) h
-  fault_told (fault.Host text) h = evaluating (of_fault (fault.Host text)) (inl (told.Host text, refl)) h
-  fault_told fault.TooBig h = inr (too_big def (f (exact means params)) (f (sized means params)) h)
+  fault_told fault.Overflow h = evaluating (of_fault fault.Overflow) (inl (told.Overflow, refl)) (h.under (strict None) (inl refl, (refl, refl)))
+  fault_told fault.NotANumber h = evaluating (of_fault fault.NotANumber) (inl (told.NotANumber, refl)) (h.under (strict None) (inl refl, (refl, refl)))
+  fault_told fault.NotUtf8 h = evaluating (of_fault fault.NotUtf8) (inl (told.NotUtf8, refl)) (h.under (strict None) (inl refl, (refl, refl)))
+  fault_told (fault.Host text) h = evaluating (of_fault (fault.Host text)) (inl (told.Host text, refl)) (h.under (strict None) (inl refl, (refl, refl)))
+  fault_told fault.TooBig h = inr (too_big def (f (exact means params)) (f (sized means params)) (h.under (strict byte_limit) (refl, (refl, refl))))
   fault_told fault.Memory h = inl (inl refl)
 
 -- ---- a SELECT
@@ -90,15 +90,15 @@ module _ (means : Means) (params : List Value) (host : Host) (st : State) (table
   sized_seen = shows byte_limit (inr refl)
 
   seen_gains : Gains (answer_over tables x (sized means params)) (answer_over tables x (exact means params))
-  seen_gains = answer_refines (sized means params) (exact means params) (refines means params) (query x) tables
+  seen_gains = answer_refines (sized means params) (exact means params) (refines means params (strict None) (inl refl)) (query x) tables
 
   select_cause : against means params host st (view (r.Select x)) ≡ evaluation_cause None (answer_over tables x (exact means params)) (answer_over tables x (sized means params))
   select_cause = or_free (evaluation_cause None (without_limit means params host st (view (r.Select x))) (with_limit means params host st (view (r.Select x)))) ∙ (λ i. evaluation_cause None (exact_seen i) (sized_seen i))
 
   performs_given : (result : Result (List Row) Refusal) → Gives means params (answer_over tables x) result → Performs means params host st (view (r.Select x)) (shown result) st
   performs_given (Ok rows) v = (
-    select_cause ∙ ap (λ (o : Option (List Row)). evaluation_cause None (answer_over tables x (exact means params)) o) v.sized,
-    (ap (λ (o : Option (List Row)). Rows (unwrap_or o [])) (sym (sized_seen ∙ v.sized)), refl),
+    select_cause ∙ ap (λ (o : Option (List Row)). evaluation_cause None (answer_over tables x (exact means params)) o) (v.under (strict byte_limit) (inr refl)),
+    (ap (λ (o : Option (List Row)). Rows (unwrap_or o [])) (sym (sized_seen ∙ v.under (strict byte_limit) (inr refl))), refl),
   )
   performs_given (Err t) v = (
     subst (λ (y : Refusal). IsWant y ⊎ Tells (against means params host st (view (r.Select x))) y) (sym v.1.0)

@@ -34,7 +34,6 @@ want_of_taking take.Memory = refl
 want_of_taking (take.Store f) = refl
 want_of_taking (take.Bad b) = refl
 want_of_taking take.VersionLimit = refl
-want_of_taking take.SameSite = refl
 
 pub want_of_store : (e : CellsError) → is_want (of_store e) ≡ calls.is_want e
 want_of_store cells.Memory = refl
@@ -63,7 +62,6 @@ module _ (host : Host) (h : Holding) (pending : Option (List Change)) (more : Li
   not_prepared (take.Store f) p = inl (inr (ap refusal.Store p))
   not_prepared (take.Bad b) p = tells _ _ (cause_is (Some b) (is_past_limit h more) (host.vetoes (newly_kept (kept_of h) more)) p refl refl) refl
   not_prepared take.VersionLimit p = tells _ _ (cause_is None true (host.vetoes (newly_kept (kept_of h) more)) p.0 p.1 refl) refl
-  not_prepared take.SameSite p = absurd p
 
   veto_is : (news : List Change) (b : Bool) → IsReady h more news → host.vetoes news ≡ b → taking_cause host (state_of h pending) more ≡ cause_by None false b
   veto_is news b r v = cause_is None false b r.none_bad r.within (sym (ap host.vetoes r.comes_in) ∙ v)

@@ -12,7 +12,7 @@ use Rattle.cr_term.specs.declared.query.Resolved.TheVariants as r
 use Rattle.cr_scalar.specs.Host.{Host as Means}
 use Rattle.cr_query.specs.Query.{Row, answer}
 use Rattle.cr_meaning.specs.View.{query}
-use Rattle.cr_exec.specs.Answers.{IsBoth}
+use Rattle.cr_exec.specs.Answers.{IsMeant}
 use Rattle.cr_exec.specs.Combinations.{IsOfOneTable}
 use Rattle.cr_pushdown.specs.Passing.{passing}
 use Rattle.cr_world.specs.State.{State, now}
@@ -38,7 +38,7 @@ pub record ArePassing (means : Means) (params : List Value) (st : State) (name :
 pub record IsAnswer (means : Means) (params : List Value) (st : State) (name : List ℕ) (q : Query) (found : List Row) : Type 0 where
   pub table : Table
   pub replicated : IsReplicated st.holding.tables name table
-  pub answers : IsOfOneTable q → IsBoth means params (λ m. answer m (query q) (single (rows (now st) table.definition))) found
+  pub answers : IsOfOneTable q → IsMeant means params (λ m. answer m (query q) (single (rows (now st) table.definition))) found
 
 -- what shows there of the table of the name, or the rows of it that pass, or the answer
 abbrev pub IsScan : Means → List Value → State → List ℕ → Query → Seen → Type 0
@@ -56,4 +56,4 @@ IsQueryLook means params st name q (seen.Answer found) = IsAnswer means params s
 abbrev pub Serves : Means → List Value → Query → State → Seen → Type 0
 Serves means params q st (seen.Kept s) = ShowsQuery means params q st s
 Serves means params q st (seen.Rows found) = IsOfOneTable q × Suffice means params q st (found ∷ [])
-Serves means params q st (seen.Answer found) = IsBoth means params (λ m. evaluated m st (view (r.Select q))) found
+Serves means params q st (seen.Answer found) = IsMeant means params (λ m. evaluated m st (view (r.Select q))) found

@@ -67,7 +67,7 @@ impl<C: Cells> Session<C> {
     ghost use Rattle.cr_bags.specs.Bags.{single};
     ghost use Rattle.cr_cells.specs.Calls.{is_want, StaysClean};
     ghost use Rattle.cr_cells.specs.Holding.{IsSound};
-    ghost use Rattle.cr_exec.specs.Answers.{IsBoth};
+    ghost use Rattle.cr_exec.specs.Answers.{IsMeant};
     ghost use Rattle.cr_exec.specs.Combinations.{IsOfOneTable};
     ghost use Rattle.cr_lattice.specs.Rows.{rows};
     ghost use Rattle.cr_meaning.specs.View as view;
@@ -190,7 +190,7 @@ impl<C: Cells> Session<C> {
         requires sound { C.is_clean self.old.0 → IsSound (C.holding self.old.0) }
         ensures device { StaysClean C.is_honest C.is_clean is_want self.old.0 self.new.0 result }
         ensures finds { C.is_clean self.new.0
-            → Finds (λ o. ForSome o (λ found. IsOfOneTable query.now → IsBoth (⟦<F as Hosted>⟧.means functions.now) params.now (λ m. answer m (view.query query.now) (single (rows (now (standing C.holding self.old)) def.now))) found)) (standing C.holding self.old) (standing C.holding self.new) result }
+            → Finds (λ o. ForSome o (λ found. IsOfOneTable query.now → IsMeant (⟦<F as Hosted>⟧.means functions.now) params.now (λ m. answer m (view.query query.now) (single (rows (now (standing C.holding self.old)) def.now))) found)) (standing C.holding self.old) (standing C.holding self.new) result }
     {
         let changes = changes_of(&self.pending);
         answer_by_tallies(

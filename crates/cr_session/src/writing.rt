@@ -39,7 +39,7 @@ impl<C: Cells> Session<C> {
     ghost use Rattle.cr_value.specs.declared.value.Value.{Value};
     ghost use Rattle.cr_cells.specs.Holding.{IsSound};
     ghost use Rattle.cr_scalar.specs.Host.{Host as Means};
-    ghost use Rattle.cr_exec.specs.Answers.{IsBoth};
+    ghost use Rattle.cr_exec.specs.Answers.{IsMeant};
     ghost use Rattle.cr_wanted.specs.Judged.{AreWide};
     ghost use Rattle.cr_changed.specs.Changed.{insert_brings};
     ghost use Rattle.cr_fit.specs.Suited.{HasRelation};
@@ -156,7 +156,7 @@ impl<C: Cells> Session<C> {
         requires replicated { not_replicated insert.now.relation ≡ Free }
         requires used { insert.now.is_ignored ≡ false }
         requires width { AreWide insert.now.relation.definition.columns rows.items }
-        ensures performs { (means : Means) (params : List Value) → IsBoth means params (insert_brings insert.now) rows.items
+        ensures performs { (means : Means) (params : List Value) → IsMeant means params (insert_brings insert.now) rows.items
             → Performed means params (⟦<G as Watching>⟧.host guard.old) (honest C.is_honest) (clean C.is_clean) (standing C.holding) self.old (r.Insert insert.now) result self.new }
         ensures guard { ⟦<G as Watching>⟧.stays guard.old guard.new }
         ensures heard { C.is_clean self.new.0 → Hears (⟦<G as Watching>⟧.hears guard.old guard.new) (heard_between (standing C.holding self.old) (standing C.holding self.new)) result }

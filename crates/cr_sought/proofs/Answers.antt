@@ -15,7 +15,7 @@ use Rattle.cr_query.specs.Query.{Row, holds, shown, finished}
 use Rattle.cr_query.proofs.PlanLaws.{step, joined_one}
 use Rattle.cr_meaning.specs.View.{Ordered}
 use Rattle.cr_meaning.specs.View as view
-use Rattle.cr_meaning.specs.Meaning.{meaning}
+use Rattle.cr_meaning.specs.Meaning.{Regard, regarded}
 use Rattle.cr_touched.specs.Parts.{is_key_of}
 use Rattle.cr_touched.specs.Touched.{passes}
 use Rattle.cr_sought.specs.Bounds.{AnswersAbove, is_above, is_up_to}
@@ -26,13 +26,13 @@ use Rattle.cr_sought.proofs.Lists.{sought_rejects}
 use Rattle.cr_sought.proofs.Pins.{rejects_below}
 
 pub telling_leaves_out : TellingLeavesOut
-telling_leaves_out host params def kept terms keys bytes keyed are sought = λ most limit.
-    each_member (λ r. is_key_of keys (key_of def r) ≡ false → holds (meaning most host params) (map view.plain terms) r ≡ Some false) (rows kept def)
-    (λ r among out. sought_rejects host params most limit bytes def keyed kept are terms keys sought r among out)
+telling_leaves_out host params def kept terms keys bytes keyed are sought = λ regard limit.
+    each_member (λ r. is_key_of keys (key_of def r) ≡ false → holds (regarded regard host params) (map view.plain terms) r ≡ Some false) (rows kept def)
+    (λ r among out. sought_rejects host params regard limit bytes def keyed kept are terms keys sought r among out)
 
 pub answers_by_keys : AnswersByKeys
-answers_by_keys host params most def kept q j keys limit keyed are one inner no_on others =
-    let m = meaning most host params in
+answers_by_keys host params regard def kept q j keys limit keyed are one inner no_on others =
+    let m = regarded regard host params in
     let v = view.query q in
     let over = λ (table : List Row). joined_one m v (view.joining j) (ap (map view.joining) one) inner table in
     let terms_are : view.terms q ≡ map view.plain q.filter =
@@ -43,7 +43,7 @@ answers_by_keys host params most def kept q j keys limit keyed are one inner no_
     (λ r among out.
     ap (option_map (λ b. cond b (single r) []))
     (ap (λ ts. holds m ts r) terms_are
-    ∙ member_has (λ x. is_key_of keys (key_of def x) ≡ false → holds m (map view.plain q.filter) x ≡ Some false) (rows kept def) r (others most limit) among out)) in
+    ∙ member_has (λ x. is_key_of keys (key_of def x) ≡ false → holds m (map view.plain q.filter) x ≡ Some false) (rows kept def) r (others regard limit) among out)) in
     ap (λ o. option_map (finished m v) (option_and_then (shown m v) o))
     (over (rows kept def)
     ∙ gather_left (step m v) p (rows kept def) none
@@ -81,14 +81,14 @@ up_to at n r e = by (get_or r at Null) refl e where
   by (Blob t) is h = absurd cc
 
 pub answers_above : AnswersAbove
-answers_above host params most q j table at n bytes one inner told =
-    let m = meaning most host params in
+answers_above host params regard q j table at n bytes one inner told =
+    let m = regarded regard host params in
     let v = view.query q in
     let sources = ap (map view.joining) one in
     let over = λ (rows : List Row). joined_one m v (view.joining j) sources inner rows in
     let front = flat_map view.inner_terms q.joined in
     let none = λ (r : Row) (e : is_above at n r ≡ false).
     (let u = up_to at n r e in
-    ap (option_map (λ b. cond b (single r) [])) (rejects_below host bytes params r most front q.filter at n u.value told u.is u.low)) in
+    ap (option_map (λ b. cond b (single r) [])) (rejects_below host bytes params r regard front q.filter at n u.value told u.is u.low)) in
     ap (λ o. option_map (finished m v) (option_and_then (shown m v) o))
     (over table ∙ gather_filter (step m v) (is_above at n) none table ∙ sym (over (filter (is_above at n) table)))

@@ -25,7 +25,7 @@ use Rattle.cr_bags.specs.Bags.{joins, gather, single}
 use Rattle.cr_query.specs.Query.{answer, Row, nulls}
 use Rattle.cr_meaning.specs.View.{Ordered}
 use Rattle.cr_meaning.specs.View as view
-use Rattle.cr_meaning.specs.Meaning.{meaning}
+use Rattle.cr_meaning.specs.Meaning.{Regard, regarded}
 use Rattle.cr_exec.specs.Equalities.{OrdersBytes}
 use Rattle.cr_touched.specs.Parts.{is_key_of, part}
 use Rattle.cr_touched.specs.Shown.{AreKeptOf}
@@ -221,7 +221,7 @@ told_rows def keyed kept are p =
     (λ k m. ap p (is_its_key def keyed kept are k (is_present def keyed kept are k m))))
     ∙ sym (rows_part def p kept)
 
-module _ (host : Host) (params : List Value) (most : Option ℕ) (def : TableDef) (q : Query) (before : List Joined) (j : Joined)
+module _ (host : Host) (params : List Value) (regard : Regard) (def : TableDef) (q : Query) (before : List Joined) (j : Joined)
     (after : List Joined) (front : List (List Row)) (kept : List Change) (back : List (List Row)) (terms : List Expr) (keys : List (List ℕ))
     (bytes : OrdersBytes host) (keyed : has_key def ≡ true) (are : AreKeptOf def kept) (is : q.joined ≡ before ++ (j ∷ after))
     (all_safe : list_all is_safe q.joined ≡ true) (wide : AreWide before front) (may : MayLeaveOut q j terms)
@@ -235,20 +235,20 @@ module _ (host : Host) (params : List Value) (most : Option ℕ) (def : TableDef
 
   -- on a combination with a row of another key some of the terms is not true
   misses : (f : Row) → Made before front [] f → (r : Row) → Among there r → is_told r ≡ false → (more : Row)
-      → any_missed host bytes params ((f ++ r) ++ more) most terms ≡ true
+      → any_missed host bytes params ((f ++ r) ++ more) regard terms ≡ true
   misses f made r among out more =
       let k = of_row def kept r among in
       let long = made_long before front f wide made in
       let w : length r ≡ length def.columns = ap length k.2 ∙ row_width def kept k.0 in
       elim (told_or_differs (widths before) def params terms f long r more w (partners before front) (no_row_in f, partners_in before front 0 [] f wide refl made) keys told) [
         | inl so ↦ absurd (let e : true ≡ false = sym so ∙ out in cc)
-        | inr d ↦ differing host bytes params ((f ++ r) ++ more) most d.0 d.1 terms d.2
+        | inr d ↦ differing host bytes params ((f ++ r) ++ more) regard d.0 d.1 terms d.2
       ]
 
   abbrev missed : Row → Ordered → Bool
-  missed c = is_missed host bytes params c most
+  missed c = is_missed host bytes params c regard
 
-  of_all : j.is_left ≡ false → (terms ≡ j.on) ⊎ (terms ≡ q.filter) → (c : Row) → any_missed host bytes params c most terms ≡ true
+  of_all : j.is_left ≡ false → (terms ≡ j.on) ⊎ (terms ≡ q.filter) → (c : Row) → any_missed host bytes params c regard terms ≡ true
       → list_any (missed c) (view.terms q) ≡ true
   of_all inner (inl on) c h =
       of_query (missed c) q.joined before j after (map view.plain q.filter) is inner
@@ -259,17 +259,17 @@ module _ (host : Host) (params : List Value) (most : Option ℕ) (def : TableDef
       (ap (λ (es : List Expr). list_any (missed c) (map view.plain es)) (sym where_) ∙ h)
 
   abbrev Alike : Type 0
-  Alike = LeavesOut host bytes params most q before j after front there is_told back is wide
+  Alike = LeavesOut host bytes params regard q before j after front there is_told back is wide
 
   inner_alike : j.is_left ≡ false → (terms ≡ j.on) ⊎ (terms ≡ q.filter) → Alike
   inner_alike inner which =
-      inner_leaves_out host bytes params most q before j after front there is_told back is wide inner
+      inner_leaves_out host bytes params regard q before j after front there is_told back is wide inner
       (all_behind is_safe before j after (ap (list_all is_safe) (sym is) ∙ all_safe))
       (λ f made r among out more. of_all inner which ((f ++ r) ++ more) (misses f made r among out more))
 
   left_alike : j.is_left ≡ true → terms ≡ j.on → Alike
   left_alike brought on =
-      left_leaves_out host bytes params most q before j after front there is_told back is wide brought
+      left_leaves_out host bytes params regard q before j after front there is_told back is wide brought
       (λ f made r among out more.
       ap (λ (es : List Expr). list_any (missed ((f ++ r) ++ more)) (map view.plain es)) (sym on) ∙ misses f made r among out more)
 
@@ -283,7 +283,7 @@ module _ (host : Host) (params : List Value) (most : Option ℕ) (def : TableDef
   ]
 
 pub joins_by_keys : JoinsByKeys
-joins_by_keys host params most def q before j after front kept back terms keys bytes keyed are is all_safe wide may told =
-    alike host params most def q before j after front kept back terms keys bytes keyed are is all_safe wide may told
-    ∙ ap (λ (rs : List Row). answer (meaning most host params) (view.query q) (front ++ (rs ∷ back)))
+joins_by_keys host params regard def q before j after front kept back terms keys bytes keyed are is all_safe wide may told =
+    alike host params regard def q before j after front kept back terms keys bytes keyed are is all_safe wide may told
+    ∙ ap (λ (rs : List Row). answer (regarded regard host params) (view.query q) (front ++ (rs ∷ back)))
     (told_rows def keyed kept are (is_key_of keys))

@@ -44,7 +44,7 @@ use Rattle.cr_query.specs.Plans.{QuietIsSafe}
 use Rattle.cr_meaning.specs.View.{Ordered}
 use Rattle.cr_meaning.specs.View as view
 use Rattle.cr_meaning.specs.Meaning as queries
-use Rattle.cr_meaning.proofs.Limits.{safe}
+use Rattle.cr_meaning.proofs.Limits.{known_so, safe}
 use Rattle.cr_exec.specs.Equalities.{OrdersBytes}
 use Rattle.cr_touched.specs.Parts.{is_key_of}
 use Rattle.cr_touched.specs.Shown.{AreKeptOf}
@@ -305,10 +305,10 @@ key_small def keyed kept are k among at of = by (slice_get def.columns at) refl 
 pub its_width : (def : TableDef) (kept : List Change) (r : Row) → Among (rows kept def) r → length r ≡ length def.columns
 its_width def kept r among = let k = of_row def kept r among in ap length k.2 ∙ row_width def kept k.0
 
-module _ (host : Host) (params : List Value) (most : Option ℕ) (limit : queries.IsLimit most) (bytes : OrdersBytes host) (def : TableDef)
+module _ (host : Host) (params : List Value) (regard : queries.Regard) (limit : queries.IsLimit regard.most) (bytes : OrdersBytes host) (def : TableDef)
     (keyed : has_key def ≡ true) (kept : List Change) (are : AreKeptOf def kept) (terms : List Expr) (keys : List (List ℕ)) where
   abbrev m : Meant_by Ordered
-  m = queries.meaning most host params
+  m = queries.regarded regard host params
 
   -- terms before these that are quiet
   module _ (front : List Ordered) (all_quiet : filter (λ t. not (quiet t.expr)) front ≡ []) (base : ℕ) where
@@ -333,10 +333,10 @@ module _ (host : Host) (params : List Value) (most : Option ℕ) (limit : querie
         let whole : filter (λ t. not (quiet t.expr)) (front ++ map view.plain terms) ≡ view.plain e ∷ f.0 =
         filter-append (λ t. not (quiet t.expr)) front (map view.plain terms) ∙ (λ i. all_quiet i ++ f.1 i) in
         elim (others base def params terms at r c wide stands ws keys g.1 out) [
-          | inl d ↦ rejects host bytes params c most front terms d
+          | inl d ↦ rejects host bytes params c regard front terms d
           | inr apart ↦
-              first_rejects m (safe most host params) (front ++ map view.plain terms) (view.plain e) f.0 c whole
-              (list_misses host bytes params c most limit e at ws list small apart)
+              first_rejects m (safe regard host params) (front ++ map view.plain terms) (view.plain e) f.0 c whole
+              (known_so regard (eval_of (queries.at_row (queries.limit_of regard.most e) host params c) e) false (list_misses host bytes params c regard.most limit e at ws list small apart))
         ] where
           in_table : is_key_at base def at ≡ true → (base ≤ at) × (is_of_key def (at - base) ≡ true)
           in_table h = by (nat_lt at base) refl h where
@@ -364,7 +364,7 @@ module _ (host : Host) (params : List Value) (most : Option ℕ) (limit : querie
   by_values told_keys r among out =
       elim (told_or_differs (pinned alone params terms) 0 def r r (its_width def kept r among) (stands_alone r) keys told_keys) [
         | inl own ↦ absurd (let e : true ≡ false = sym own ∙ out in cc)
-        | inr d ↦ rejects host bytes params r most [] terms d
+        | inr d ↦ rejects host bytes params r regard [] terms d
       ]
 
   -- on a row of none of the keys that are sought the terms are not all true, and do not fault
@@ -399,12 +399,12 @@ all_safe (j ∷ js) h =
     (λ i. (not j.is_left || b.0 i) && all_safe js b.1 i) ∙ ap (λ t. t && true) (or_right (not j.is_left) true refl)
 
 pub joins_by_list : JoinsByList
-joins_by_list host params most def q before j after front kept back keys limit bytes keyed are is quiet_on wide inner sought =
+joins_by_list host params regard def q before j after front kept back keys limit bytes keyed are is quiet_on wide inner sought =
     let p = passes def (is_key_of keys) in
     let safe_after = all_behind is_safe before j after (ap (list_all is_safe) (sym is) ∙ all_safe q.joined quiet_on) in
-    rejects_out host bytes params most q before j after front (rows kept def) p back is wide inner safe_after
+    rejects_out host bytes params regard q before j after front (rows kept def) p back is wide inner safe_after
     (λ f made r among out more.
-    listed_rejects host params most limit bytes def keyed kept are q.filter keys (flat_map view.inner_terms q.joined) (quiet_ons q.joined quiet_on)
+    listed_rejects host params regard limit bytes def keyed kept are q.filter keys (flat_map view.inner_terms q.joined) (quiet_ons q.joined quiet_on)
     (widths before) sought r ((f ++ r) ++ more) among
     (stands_from (widths before) def f (made_long before front f wide made) r more (its_width def kept r among)) out)
-    ∙ ap (λ (rs : List Row). answer (queries.meaning most host params) (view.query q) (front ++ (rs ∷ back))) (told_rows def keyed kept are (is_key_of keys))
+    ∙ ap (λ (rs : List Row). answer (queries.regarded regard host params) (view.query q) (front ++ (rs ∷ back))) (told_rows def keyed kept are (is_key_of keys))

@@ -43,7 +43,7 @@ use Rattle.cr_query.proofs.PlanLaws.{rejected}
 use Rattle.cr_meaning.specs.View.{Ordered}
 use Rattle.cr_meaning.specs.View as view
 use Rattle.cr_meaning.specs.Meaning as queries
-use Rattle.cr_meaning.proofs.Limits.{safe}
+use Rattle.cr_meaning.proofs.Limits.{known_so, safe}
 use Rattle.cr_exec.specs.Equalities.{OrdersBytes}
 use Rattle.cr_sought.specs.Sought.{Beside, no_arm, alone, column_layer, column_under, constant_layer, constant, held, is_column, known, on_left, on_right, pin_in, pin, pinned}
 use Rattle.cr_sought.specs.Bounds.{bound_in, bound, integer, lower_bound}
@@ -297,16 +297,16 @@ module _ (host : Host) (bytes : OrdersBytes host) (params : List Value) (row : R
       (λ so. never_below host m v n k.0 k.2 low (ap (compared host.order c.Less m k.0) (sym is) ∙ so))
   misses_above _ at n v h is low = absurd cc
 
-  module _ (most : Option ℕ) where
+  module _ (regard : queries.Regard) where
     abbrev m : Meant_by Ordered
-    m = queries.meaning most host params
+    m = queries.regarded regard host params
 
     term_misses : (b : Beside) → StandsIn row b → (e : Expr) (at : ℕ) (w : Value) → pin b params at e ≡ Some w → (get_or row at Null ≡ w → w ≡ Null)
         → (quiet e ≡ true) × (is_true m (view.plain e) row ≡ Some false)
     term_misses b stands e at w h differs =
         let k = misses b stands (out-Expr e) at w h differs in
-        let so : Meant → Option Bool = λ m. option_and_then (λ v. queries.is_so (truth v)) (queries.value_of m) in
-        (k.0, ap (λ b. so (eval_of (queries.at_row (cond b None most) host params row) e)) k.0 ∙ ap so (one_node here e) ∙ k.1)
+        let so : Meant → Option Bool = λ m. option_and_then (λ v. queries.so_taken regard.truth (truth v)) (queries.taken regard.value m) in
+        (k.0, ap (λ b. so (eval_of (queries.at_row (cond b None regard.most) host params row) e)) k.0 ∙ ap so (one_node here e) ∙ known_so regard _ false k.1)
 
     -- ---- all terms
 
@@ -333,8 +333,8 @@ module _ (host : Host) (bytes : OrdersBytes host) (params : List Value) (row : R
         → (quiet e ≡ true) × (is_true m (view.plain e) row ≡ Some false)
     term_misses_above e at n v h is low =
         let k = misses_above (out-Expr e) at n v h is low in
-        let so : Meant → Option Bool = λ m. option_and_then (λ v. queries.is_so (truth v)) (queries.value_of m) in
-        (k.0, ap (λ b. so (eval_of (queries.at_row (cond b None most) host params row) e)) k.0 ∙ ap so (one_node here e) ∙ k.1)
+        let so : Meant → Option Bool = λ m. option_and_then (λ v. queries.so_taken regard.truth (truth v)) (queries.taken regard.value m) in
+        (k.0, ap (λ b. so (eval_of (queries.at_row (cond b None regard.most) host params row) e)) k.0 ∙ ap so (one_node here e) ∙ known_so regard _ false k.1)
 
     some_miss_above : (terms : List Expr) (at : ℕ) (n v : ℤ) → lower_bound params terms at ≡ Some n → get_or row at Null ≡ Int v → v ≤ℤ n
         → any_missed terms ≡ true
@@ -355,7 +355,7 @@ module _ (host : Host) (bytes : OrdersBytes host) (params : List Value) (row : R
     -- terms of which some is not true are not all true, and do not fault
     pub missed_rejects : (terms : List Ordered) → list_any is_missed terms ≡ true → holds m terms row ≡ Some false
     missed_rejects terms h =
-        rejected like (record { order_total = λ e. value_total; over_bag = λ e k cs ds s. refl }) (safe most host params) terms row h
+        rejected like (record { order_total = λ e. value_total; over_bag = λ e k cs ds s. refl }) (safe regard host params) terms row h
 
     -- terms that pin a column to another value than the row has there are not all true on it, and do not fault
     pub rejects : (front : List Ordered) (terms : List Expr) → Differs (pinned alone params terms) row

@@ -28,17 +28,18 @@ use Rattle.cr_term.specs.declared.query.Delete.{Delete}
 use Rattle.cr_term.specs.declared.query.Update.{Update}
 use Rattle.cr_scalar.specs.Host.{Host}
 use Rattle.cr_scalar.specs.declared.fault.EvalFault.{EvalFault}
-use Rattle.cr_scalar.specs.declared.fault.EvalFault.TheVariants as fault
 use Rattle.cr_scalar.specs.Meaning.{byte_limit}
 use Rattle.cr_bags.specs.Bags.{gather, each, single}
-use Rattle.cr_query.specs.Query.{Row, Meaning, and_so, all_true, is_true, quiet_first, holds}
+use Rattle.cr_query.specs.Query.{Row, Meaning, holds}
 use Rattle.cr_query.specs.Writes.{has_null_key, has_null, has_long_key, lacks_value, repeats, has_twice, by_key, put_all, assigned, updated, wanted_by_update}
-use Rattle.cr_query.proofs.Refining.{Gains, by_gather}
+use Rattle.cr_query.proofs.Refining.{Gains, by_gather, by_map}
+use Rattle.cr_query.proofs.RefiningWrites.{left_refines, updated_refines}
 use Rattle.cr_meaning.specs.View.{Ordered}
 use Rattle.cr_meaning.specs.View as view
-use Rattle.cr_meaning.specs.Meaning.{IsLimit, exact, meaning, sized}
+use Rattle.cr_meaning.specs.Meaning.{IsLimit, Regard, exact, meaning, regarded, sized, strict}
 use Rattle.cr_meaning.proofs.Limits.{refines}
-use Rattle.cr_exec.specs.Answers.{Stage, IsBoth, Faults}
+use Rattle.cr_exec.specs.Answers.{Stage, IsMeant, Faults}
+use Rattle.cr_exec.proofs.Stages.{faults_on}
 use Rattle.cr_world.specs.declared.refusal.Refusal.{Refusal}
 use Rattle.cr_world.specs.declared.refusal.Refusal.TheVariants as refusal
 use Rattle.cr_touched.specs.Inserts.{Verdict, verdict}
@@ -70,9 +71,9 @@ Against v r =
 -- its key.
 record ByRow (host : Host) (params : List Value) (def : TableDef) (kept : List Change) (keys : List (List ℕ))
     (f : Meaning Ordered → Row → Option (List Row)) : Type 0 where
-  keeps : (most : Option ℕ) → IsLimit most → (r : Row) → Among (rows kept def) r → is_key_of keys (key_of def r) ≡ false
-      → f (meaning most host params) r ≡ Some (single r)
-  gains : (r : Row) → Gains (f (sized host params) r) (f (exact host params) r)
+  keeps : (g : Regard) → IsLimit g.most → (r : Row) → Among (rows kept def) r → is_key_of keys (key_of def r) ≡ false
+      → f (regarded g host params) r ≡ Some (single r)
+  gains : (g : Regard) → IsLimit g.most → (r : Row) → Gains (f (sized host params) r) (f (regarded g host params) r)
   few : (r : Row) (us : List Row) → f (exact host params) r ≡ Some us → IsAtMostOne (key_of def) (key_of def r) us
 
 module _ (host : Host) (params : List Value) (def : TableDef) (keyed : has_key def ≡ true) (defaults : has_defaults def ≡ true)
@@ -104,7 +105,7 @@ module _ (host : Host) (params : List Value) (def : TableDef) (keyed : has_key d
   whole = made k p g all
 
   makes : AllByRecursion (Makes k p g) all
-  makes = each_member (Makes k p g) all (λ r among. record { few = few_of r (f (exact host params) r) refl; stays = λ out. ap (λ o. unwrap_or o []) (by_row.keeps None (inl refl) r among out) }) where
+  makes = each_member (Makes k p g) all (λ r among. record { few = few_of r (f (exact host params) r) refl; stays = λ out. ap (λ o. unwrap_or o []) (by_row.keeps (strict None) (inl refl) r among out) }) where
     few_of : (r : Row) (o : Option (List Row)) → f (exact host params) r ≡ o → IsAtMostOne k (k r) (unwrap_or o [])
     few_of r None is = inl refl
     few_of r (Some us) is = by_row.few r us is
@@ -120,28 +121,25 @@ module _ (host : Host) (params : List Value) (def : TableDef) (keyed : has_key d
       let here : gather h mine ≡ Some us = ap (gather h) mine_are ∙ e in
       let own_given = all_given h g same mine us here in
       let others = each_member (λ r. passes def p r ≡ false → Gives h g r) all
-      (λ r among out. by_row.keeps most limit r among out ∙ ap (λ l. Some l) (sym (ap (λ o. unwrap_or o []) (by_row.keeps None (inl refl) r among out)))) in
+      (λ r among out. by_row.keeps (strict most) limit r among out ∙ ap (λ l. Some l) (sym (ap (λ o. unwrap_or o []) (by_row.keeps (strict None) (inl refl) r among out)))) in
       (some_is us (flat_map g mine) (sym here ∙ gather_given h g mine own_given), gather_given h g all (all_both h g (passes def p) all own_given others))
 
-  is_made : (us : List Row) → IsBoth host params (λ m. gather (f m) (rows some def)) us → us ≡ flat_map g mine
-  is_made us b = (all_of None (inl refl) same_exact us b.exact).0
+  is_made : (us : List Row) → IsMeant host params (λ m. gather (f m) (rows some def)) us → us ≡ flat_map g mine
+  is_made us b = (all_of None (inl refl) same_exact us (b.under (strict None) (inl refl))).0
 
-  both : (us : List Row) → IsBoth host params (λ m. gather (f m) (rows some def)) us → IsBoth host params (λ m. gather (f m) all) whole
+  whole_sized : (us : List Row) → IsMeant host params (λ m. gather (f m) (rows some def)) us → gather (f (sized host params)) all ≡ Some whole
+  whole_sized us b = (all_of byte_limit (inr refl) (λ r us e. same_exact r us (by_row.gains (strict None) (inl refl) r us e)) us (b.under (strict byte_limit) (inr refl))).1
+
+  both : (us : List Row) → IsMeant host params (λ m. gather (f m) (rows some def)) us → IsMeant host params (λ m. gather (f m) all) whole
   both us b = record {
-    exact = (all_of None (inl refl) same_exact us b.exact).1;
-    sized = (all_of byte_limit (inr refl) (λ r us e. same_exact r us (by_row.gains r us e)) us b.sized).1;
+    under = λ regard limit. by_gather (f (sized host params)) (f (regarded regard host params)) (by_row.gains regard limit) all whole (whole_sized us b);
   }
 
-  fault_of : (most : Option ℕ) → gather (f (meaning most host params)) (rows some def) ≡ None → gather (f (meaning most host params)) all ≡ None
-  fault_of most e = none_both (f (meaning most host params)) g (passes def p) all (ap (gather (f (meaning most host params))) mine_are ∙ e)
+  fault_of : (regard : Regard) → gather (f (regarded regard host params)) (rows some def) ≡ None → gather (f (regarded regard host params)) all ≡ None
+  fault_of regard e = none_both (f (regarded regard host params)) g (passes def p) all (ap (gather (f (regarded regard host params))) mine_are ∙ e)
 
   faults : (e : EvalFault) → Faults host params (λ m. gather (f m) (rows some def)) e → Faults host params (λ m. gather (f m) all) e
-  faults fault.Overflow h = fault_of None h
-  faults fault.NotANumber h = fault_of None h
-  faults fault.NotUtf8 h = fault_of None h
-  faults (fault.Host text) h = fault_of None h
-  faults fault.TooBig h = fault_of byte_limit h
-  faults fault.Memory h = tt
+  faults e h = faults_on host params (λ m. gather (f m) (rows some def)) (λ m. gather (f m) all) e fault_of h
 
   -- ---- what is said of the rows that are made
 
@@ -211,7 +209,7 @@ module _ (host : Host) (params : List Value) (def : TableDef) (keyed : has_key d
       ∙ ap (λ cs. delta def site (part def.name p cs) (filter (passes def p) wanted)) are.unbeaten
       ∙ ap (delta def site some) passing_set)
 
-  alike : (us : List Row) → IsBoth host params (λ m. gather (f m) (rows some def)) us → verdict def site some us ≡ verdict def site kept whole
+  alike : (us : List Row) → IsMeant host params (λ m. gather (f m) (rows some def)) us → verdict def site some us ≡ verdict def site kept whole
   alike us b = ap (verdict def site some) (is_made us b) ∙ (λ i. record { long = long i; lacking = lacking i; twice = twice i; changes = changes i })
 
   -- ---- what the write makes
@@ -238,41 +236,6 @@ module _ (host : Host) (params : List Value) (def : TableDef) (keyed : has_key d
   all_makes (Err r) changes_in (inr (inl e)) = inr (inl (e.0, e.1, faults e.0 e.2))
   all_makes (Err r) changes_in (inr (inr s)) = inr (inr (whole, both s.0 s.1, subst (λ v. Against v r) (alike s.0 s.1) s.2))
 
--- ---- what has a value with a limit has it without
-
-gains_map : {A B : Type 0} (h : A → B) (o q : Option A) → Gains o q → Gains (option_map h o) (option_map h q)
-gains_map h None q gains b e = absurd cc
-gains_map h (Some a) q gains b e = ap (option_map h) (gains a refl) ∙ e
-
-gains_then : {A B : Type 0} (h h' : A → Option B) → ((a : A) → Gains (h a) (h' a)) → (o q : Option A) → Gains o q
-    → Gains (option_and_then h o) (option_and_then h' q)
-gains_then h h' each_gains None q gains b e = absurd cc
-gains_then h h' each_gains (Some a) q gains b e = ap (option_and_then h') (gains a refl) ∙ each_gains a b e
-
-gains_and : (a b c d : Option Bool) → Gains a b → Gains c d → Gains (and_so a c) (and_so b d)
-gains_and None b c d h h' x e = absurd cc
-gains_and (Some true) b c d h h' x e = ap (λ o. and_so o d) (h true refl) ∙ h' x e
-gains_and (Some false) b c d h h' x e = ap (λ o. and_so o d) (h false refl) ∙ e
-
-module _ (host : Host) (params : List Value) where
-  abbrev s : Meaning Ordered
-  s = sized host params
-
-  abbrev e : Meaning Ordered
-  e = exact host params
-
-  value_gains : (x : Ordered) (r : Row) → Gains (s.value x r) (e.value x r)
-  value_gains x r v h = (refines host params).value x r v h
-
-  all_gains : (es : List Ordered) (r : Row) → Gains (all_true s es r) (all_true e es r)
-  all_gains [] r = λ b h. h
-  all_gains (x ∷ xs) r =
-      gains_and (is_true s x r) (is_true e x r) (all_true s xs r) (all_true e xs r)
-      (gains_then s.truth e.truth (λ v b h. h) (s.value x r) (e.value x r) (value_gains x r)) (all_gains xs r)
-
-  holds_gains : (es : List Ordered) (r : Row) → Gains (holds s es r) (holds e es r)
-  holds_gains es r = all_gains (quiet_first s es) r
-
 -- ---- DELETE and UPDATE
 
 abbrev left_by : Delete → Meaning Ordered → Row → Option (List Row)
@@ -282,19 +245,17 @@ abbrev made_by : TableDef → Update → Meaning Ordered → Row → Option (Lis
 made_by def w m r = option_map single (updated m def.columns (view.update w) r)
 
 module _ (host : Host) (params : List Value) (def : TableDef) (kept : List Change) (keys : List (List ℕ)) where
-  left_out : (terms : List Expr) → LeaveOutOthers host params def kept terms keys → (most : Option ℕ) → IsLimit most → (r : Row) → Among (rows kept def) r
-      → is_key_of keys (key_of def r) ≡ false → holds (meaning most host params) (map view.plain terms) r ≡ Some false
-  left_out terms others most limit r among out =
-      member_has (λ x. is_key_of keys (key_of def x) ≡ false → holds (meaning most host params) (map view.plain terms) x ≡ Some false) (rows kept def) r (others most limit) among out
+  left_out : (terms : List Expr) → LeaveOutOthers host params def kept terms keys → (g : Regard) → IsLimit g.most → (r : Row) → Among (rows kept def) r
+      → is_key_of keys (key_of def r) ≡ false → holds (regarded g host params) (map view.plain terms) r ≡ Some false
+  left_out terms others g limit r among out =
+      member_has (λ x. is_key_of keys (key_of def x) ≡ false → holds (regarded g host params) (map view.plain terms) x ≡ Some false) (rows kept def) r (others g limit) among out
 
   deletes : (w : Delete) → LeaveOutOthers host params def kept w.filter keys → ByRow host params def kept keys (left_by w)
   deletes w others = record {
-    keeps = λ most limit r among out.
+    keeps = λ g limit r among out.
         ap (λ b. option_map (λ b. cond b (single r) []) (option_map not b))
-        (left_out w.filter others most limit r among out);
-    gains = λ r.
-        gains_map (λ b. cond b (single r) []) (option_map not (holds (sized host params) terms r)) (option_map not (holds (exact host params) terms r))
-        (gains_map not (holds (sized host params) terms r) (holds (exact host params) terms r) (holds_gains host params terms r));
+        (left_out w.filter others g limit r among out);
+    gains = λ g limit r. left_refines (sized host params) (regarded g host params) (refines host params g limit) terms r;
     few = λ r us e. few (holds (exact host params) terms r) r us e;
   } where
     terms : List Ordered
@@ -320,13 +281,12 @@ module _ (host : Host) (params : List Value) (def : TableDef) (kept : List Chang
   updates : (w : Update) → list_any (is_to_key def) w.assignments ≡ false → LeaveOutOthers host params def kept w.filter keys
       → ByRow host params def kept keys (made_by def w)
   updates w spared others = record {
-    keeps = λ most limit r among out.
-        ap (λ o. option_map single (new_row w (meaning most host params) r o))
-        (left_out w.filter others most limit r among out);
-    gains = λ r.
-        gains_map single (new_row w (sized host params) r (holds (sized host params) terms r)) (new_row w (exact host params) r (holds (exact host params) terms r))
-        (gains_then (wanted (sized host params) r) (wanted (exact host params) r) (wanted_gains r) (holds (sized host params) terms r) (holds (exact host params) terms r)
-        (holds_gains host params terms r));
+    keeps = λ g limit r among out.
+        ap (λ o. option_map single (new_row w (regarded g host params) r o))
+        (left_out w.filter others g limit r among out);
+    gains = λ g limit r.
+        by_map single (updated (sized host params) def.columns (view.update w) r) (updated (regarded g host params) def.columns (view.update w) r)
+        (updated_refines (sized host params) (regarded g host params) (refines host params g limit) def.columns (view.update w) r);
     few = λ r us e. few r us (holds (exact host params) terms r) e;
   } where
     terms : List Ordered
@@ -334,19 +294,6 @@ module _ (host : Host) (params : List Value) (def : TableDef) (kept : List Chang
 
     values : Meaning Ordered → Row → Option (List Value)
     values m r = each (λ a. m.value a.expr r) (view.update w).assignments
-
-    wanted : Meaning Ordered → Row → Bool → Option Row
-    wanted m r b = cond b (assigned m def.columns (view.update w).assignments r) (Some r)
-
-    values_gain : (r : Row) → Gains (values (sized host params) r) (values (exact host params) r)
-    values_gain r =
-        by_gather (λ a. option_map single ((sized host params).value a.expr r)) (λ a. option_map single ((exact host params).value a.expr r))
-        (λ a. gains_map single ((sized host params).value a.expr r) ((exact host params).value a.expr r) (value_gains host params a.expr r)) (view.update w).assignments
-
-    wanted_gains : (r : Row) (b : Bool) → Gains (wanted (sized host params) r b) (wanted (exact host params) r b)
-    wanted_gains r true =
-        gains_map (λ vs. put_all def.columns (places w) vs r) (values (sized host params) r) (values (exact host params) r) (values_gain r)
-    wanted_gains r false = λ u h. h
 
     own : (r u : Row) (us : List Row) → key_of def u ≡ key_of def r → single u ≡ us → IsAtMostOne (key_of def) (key_of def r) us
     own r u us key is = inr (u, sym is, key)

@@ -14,7 +14,7 @@ use Rattle.cr_scalar.specs.Host.{Host}
 use Rattle.cr_bags.specs.Bags.{single}
 use Rattle.cr_query.specs.Query.{Row, answer}
 use Rattle.cr_meaning.specs.View as view
-use Rattle.cr_meaning.specs.Meaning.{meaning}
+use Rattle.cr_meaning.specs.Meaning.{Regard, regarded}
 use Rattle.cr_exec.specs.Equalities.{OrdersBytes}
 use Rattle.cr_sought.specs.Sought.{constant, is_column, on_left, on_right}
 
@@ -50,7 +50,7 @@ is_above at n r = not (is_up_to n (get_or r at Null))
 -- included.
 abbrev pub AnswersAbove : Type 0
 AnswersAbove =
-    (host : Host) (params : List Value) (most : Option ℕ) (q : Query) (j : Joined) (rows : List Row) (at : ℕ) (n : ℤ)
+    (host : Host) (params : List Value) (regard : Regard) (q : Query) (j : Joined) (rows : List Row) (at : ℕ) (n : ℤ)
     → OrdersBytes host → q.joined ≡ single j → j.is_left ≡ false → lower_bound params q.filter at ≡ Some n
-    → answer (meaning most host params) (view.query q) (single rows)
-    ≡ answer (meaning most host params) (view.query q) (single (filter (is_above at n) rows))
+    → answer (regarded regard host params) (view.query q) (single rows)
+    ≡ answer (regarded regard host params) (view.query q) (single (filter (is_above at n) rows))

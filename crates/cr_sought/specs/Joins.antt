@@ -15,7 +15,7 @@ use Rattle.cr_scalar.specs.Host.{Host}
 use Rattle.cr_bags.specs.Bags.{single}
 use Rattle.cr_query.specs.Query.{Row, answer, nulls}
 use Rattle.cr_meaning.specs.View as view
-use Rattle.cr_meaning.specs.Meaning.{IsLimit, meaning}
+use Rattle.cr_meaning.specs.Meaning.{IsLimit, Regard, regarded}
 use Rattle.cr_exec.specs.Equalities.{OrdersBytes}
 use Rattle.cr_touched.specs.Parts.{is_key_of, part}
 use Rattle.cr_touched.specs.Shown.{AreKeptOf}
@@ -83,22 +83,22 @@ MayLeaveOut q j terms = (terms ≡ j.on) ⊎ ((j.is_left ≡ false) × (terms �
 -- the tables further left as over all that is kept of a table, faults included.
 abbrev pub JoinsByKeys : Type 0
 JoinsByKeys =
-    (host : Host) (params : List Value) (most : Option ℕ) (def : TableDef) (q : Query) (before : List Joined) (j : Joined)
+    (host : Host) (params : List Value) (regard : Regard) (def : TableDef) (q : Query) (before : List Joined) (j : Joined)
     (after : List Joined) (front : List (List Row)) (kept : List Change) (back : List (List Row)) (terms : List Expr)
     (keys : List (List ℕ))
     → OrdersBytes host → has_key def ≡ true → AreKeptOf def kept
     → q.joined ≡ before ++ (j ∷ after) → list_all is_safe q.joined ≡ true → AreWide before front → MayLeaveOut q j terms
     → joined_keys (widths before) def params terms (partners before front) ≡ Some keys
-    → answer (meaning most host params) (view.query q) (front ++ (rows kept def ∷ back))
-    ≡ answer (meaning most host params) (view.query q) (front ++ (rows (part def.name (is_key_of keys) kept) def ∷ back))
+    → answer (regarded regard host params) (view.query q) (front ++ (rows kept def ∷ back))
+    ≡ answer (regarded regard host params) (view.query q) (front ++ (rows (part def.name (is_key_of keys) kept) def ∷ back))
 
 -- So it is over what is kept of the keys that a list in WHERE tells, of a table that no LEFT JOIN brings, where no ON can fault.
 abbrev pub JoinsByList : Type 0
 JoinsByList =
-    (host : Host) (params : List Value) (most : Option ℕ) (def : TableDef) (q : Query) (before : List Joined) (j : Joined)
+    (host : Host) (params : List Value) (regard : Regard) (def : TableDef) (q : Query) (before : List Joined) (j : Joined)
     (after : List Joined) (front : List (List Row)) (kept : List Change) (back : List (List Row)) (keys : List (List ℕ))
-    → IsLimit most → OrdersBytes host → has_key def ≡ true → AreKeptOf def kept
+    → IsLimit regard.most → OrdersBytes host → has_key def ≡ true → AreKeptOf def kept
     → q.joined ≡ before ++ (j ∷ after) → list_all has_quiet_on q.joined ≡ true → AreWide before front → j.is_left ≡ false
     → listed_keys (widths before) def params q.filter ≡ Some keys
-    → answer (meaning most host params) (view.query q) (front ++ (rows kept def ∷ back))
-    ≡ answer (meaning most host params) (view.query q) (front ++ (rows (part def.name (is_key_of keys) kept) def ∷ back))
+    → answer (regarded regard host params) (view.query q) (front ++ (rows kept def ∷ back))
+    ≡ answer (regarded regard host params) (view.query q) (front ++ (rows (part def.name (is_key_of keys) kept) def ∷ back))

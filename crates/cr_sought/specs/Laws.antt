@@ -15,7 +15,7 @@ use Rattle.cr_scalar.specs.Host.{Host}
 use Rattle.cr_bags.specs.Bags.{single}
 use Rattle.cr_query.specs.Query.{answer, holds}
 use Rattle.cr_meaning.specs.View as view
-use Rattle.cr_meaning.specs.Meaning.{IsLimit, meaning}
+use Rattle.cr_meaning.specs.Meaning.{IsLimit, Regard, regarded}
 use Rattle.cr_touched.specs.Parts.{is_key_of, part}
 use Rattle.cr_touched.specs.Shown.{AreKeptOf}
 use Rattle.cr_exec.specs.Equalities.{OrdersBytes}
@@ -28,8 +28,8 @@ of_keys def keys kept = part def.name (is_key_of keys) kept
 -- on each row of another key the terms are known not to be all true, without a limit on values and with it
 abbrev pub LeaveOutOthers : Host → List Value → TableDef → List Change → List Expr → List (List ℕ) → Type 0
 LeaveOutOthers host params def kept terms keys =
-    (most : Option ℕ) → IsLimit most
-    → AllByRecursion (λ r. is_key_of keys (key_of def r) ≡ false → holds (meaning most host params) (map view.plain terms) r ≡ Some false) (rows kept def)
+    (regard : Regard) → IsLimit regard.most
+    → AllByRecursion (λ r. is_key_of keys (key_of def r) ≡ false → holds (regarded regard host params) (map view.plain terms) r ≡ Some false) (rows kept def)
 
 -- So do terms that tell keys, where texts are compared byte by byte.
 abbrev pub TellingLeavesOut : Type 0
@@ -41,12 +41,12 @@ TellingLeavesOut =
 -- A SELECT of one table answers the same over what is kept of some keys as over all, faults included, if its terms leave out the others.
 abbrev pub AnswersByKeys : Type 0
 AnswersByKeys =
-    (host : Host) (params : List Value) (most : Option ℕ) (def : TableDef) (kept : List Change) (q : Query) (j : Joined)
+    (host : Host) (params : List Value) (regard : Regard) (def : TableDef) (kept : List Change) (q : Query) (j : Joined)
     (keys : List (List ℕ))
-    → IsLimit most → has_key def ≡ true → AreKeptOf def kept
+    → IsLimit regard.most → has_key def ≡ true → AreKeptOf def kept
     → q.joined ≡ single j → j.is_left ≡ false → j.on ≡ [] → LeaveOutOthers host params def kept q.filter keys
-    → answer (meaning most host params) (view.query q) (single (rows kept def))
-    ≡ answer (meaning most host params) (view.query q) (single (rows (of_keys def keys kept) def))
+    → answer (regarded regard host params) (view.query q) (single (rows kept def))
+    ≡ answer (regarded regard host params) (view.query q) (single (rows (of_keys def keys kept) def))
 
 -- What is kept of some keys is kept like the whole.
 abbrev pub KeysAreKept : Type 0

@@ -3,7 +3,6 @@ pub mod Tables
 pub mod Changes
 pub mod Shown
 pub mod Puts
-pub mod Refined
 pub mod Sized
 pub mod Keys
 pub mod Short

@@ -18,8 +18,8 @@ use Rattle.cr_query.specs.Queries.{Shown}
 use Rattle.cr_query.specs.Query.{Row, Group, Meaning as Meant_by, has, judged, pair}
 use Rattle.cr_meaning.specs.View.{Ordered}
 use Rattle.cr_meaning.specs.View as view
-use Rattle.cr_meaning.specs.Meaning.{at_group, exact, is_so, meaning, sized, value_of}
-use Rattle.cr_exec.specs.Answers.{IsBoth, behind}
+use Rattle.cr_meaning.specs.Meaning.{at_group, is_so, meaning, regarded, value_of}
+use Rattle.cr_exec.specs.Answers.{IsMeant, behind}
 use Rattle.cr_exec.specs.Groups.{judged_by}
 use Rattle.cr_exec.specs.Scopes.{there}
 use Rattle.cr_tally.specs.declared.over.OverGroup.{OverGroup}
@@ -114,8 +114,8 @@ shown_alike m o g results keys rs ks =
     ap (λ es. shows_all es (map there keys)) rs ∙ ap (shows_all (map view.plain o.results.items)) ks
 
 pub shown_then : (host : Means) (params : List Value) (o : OverGroup) (g : Group) (results keys : List (Bor Expr)) (old new : List Shown) → old ≡ [] → map there results ≡ map view.plain o.results.items → map there keys ≡ map view.plain o.keys.items
-    → IsBoth host params (λ m. behind old (judged_by m (λ e. m.over e g) o.having results keys)) new → IsBoth host params (λ m. group_shows m o g) new
-shown_then host params o g results keys old new none rs ks both = record { exact = under (exact host params) both.exact; sized = under (sized host params) both.sized } where
+    → IsMeant host params (λ m. behind old (judged_by m (λ e. m.over e g) o.having results keys)) new → IsMeant host params (λ m. group_shows m o g) new
+shown_then host params o g results keys old new none rs ks both = record { under = λ g limit. under (regarded g host params) (both.under g limit) } where
   under : (m : Meant_by Ordered) → behind old (judged_by m (λ e. m.over e g) o.having results keys) ≡ Some new → group_shows m o g ≡ Some new
   under m is =
       sym (shown_alike m o g results keys rs ks) ∙ sym (none_behind (judged_by m (λ e. m.over e g) o.having results keys))

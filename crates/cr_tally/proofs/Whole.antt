@@ -15,12 +15,14 @@ use Rattle.cr_scalar.specs.Host.{Host as Means}
 use Rattle.cr_query.specs.Queries.{Shown}
 use Rattle.cr_query.specs.Query.{Row, Meaning as Meant_by, answer, finished, groups, holds, joined, judged, shown, shown_groups, shows}
 use Rattle.cr_query.proofs.PlanLaws.{joined_one, step}
+use Rattle.cr_query.proofs.Refining.{answer_refines}
 use Rattle.cr_meaning.specs.View.{Ordered}
 use Rattle.cr_meaning.specs.View as view
-use Rattle.cr_meaning.specs.Meaning.{IsLimit, at_group, meaning}
+use Rattle.cr_meaning.specs.Meaning.{IsLimit, at_group, meaning, regarded, sized, strict}
+use Rattle.cr_meaning.proofs.Limits.{refines}
 use Rattle.cr_scalar.specs.Meaning.{byte_limit}
 use Rattle.cr_expr.specs.Setting.{Setting}
-use Rattle.cr_exec.specs.Answers.{IsBoth}
+use Rattle.cr_exec.specs.Answers.{IsMeant}
 use Rattle.cr_exec.specs.Combinations.{IsOfOneTable}
 use Rattle.cr_pushdown.specs.Passing.{passes}
 use Rattle.cr_pushdown.proofs.Answers.{holds_for, known_false}
@@ -48,10 +50,9 @@ each_so : {X : Type 0} (P Q : X → Type 0) → ((x : X) → P x → Q x) → (x
 each_so P Q f [] all = tt
 each_so P Q f (x ∷ xs) all = (f x all.0, each_so P Q f xs all.1)
 
--- what is true under both meanings is true under each limit
+-- what is true under each regard is true under each limit
 true_for : (means : Means) (params : List Value) (most : Option ℕ) → IsLimit most → (terms : List Expr) (r : Row) → AreTrue means params terms r → holds (meaning most means params) (map view.plain terms) r ≡ Some true
-true_for means params most (inl none) terms r so = subst (λ (n : Option ℕ). holds (meaning n means params) (map view.plain terms) r ≡ Some true) (sym none) so.exact
-true_for means params most (inr is) terms r so = subst (λ (n : Option ℕ). holds (meaning n means params) (map view.plain terms) r ≡ Some true) (sym is) so.sized
+true_for means params most limit terms r so = so.under (strict most) limit
 
 -- ---- what the group shows
 
@@ -77,7 +78,7 @@ module _ (means : Means) (params : List Value) (most : Option ℕ) (limit : IsLi
       let steps : Row → Option Bool → Option (List Row) = λ r o. option_map (λ b. cond b (single r) []) o in
       joined_one by (view.query q) (view.joining one.table) (ap (map view.joining) one.only) one.inner all
       ∙ gather_kept (step by (view.query q)) (passes means params q.filter)
-      (λ r out. ap (steps r) (ap (λ ts. holds by ts r) terms_are ∙ holds_for means params most limit (map view.plain q.filter) r false (known_false _ out)))
+      (λ r out. ap (steps r) (ap (λ ts. holds by ts r) terms_are ∙ holds_for means params (strict most) limit (map view.plain q.filter) r false (known_false _ out)))
       all
       (each_so (AreTrue means params q.filter) (λ r. step by (view.query q) r ≡ Some (r ∷ []))
       (λ r so. ap (steps r) (ap (λ ts. holds by ts r) terms_are ∙ true_for means params most limit q.filter r so)) found true_of)
@@ -98,14 +99,13 @@ module _ (means : Means) (params : List Value) (most : Option ℕ) (limit : IsLi
       ∙ ap (option_map (finished by (view.query q))) (shown_is group (judged_is means params most found values q o (shows.same s values refl (known_of means params found most limit ts values tells worths)) ∙ is))
 
 pub answers_both : (means : Means) (params : List Value) (q : Query) → IsOfOneTable q → HasOneGroup q → (all : List Row) (o : OverGroup) (calls : List Call) (rows : List Row) → ShowsQuery [] calls q o
-    → AnswersOver means params q o calls (filter (passes means params q.filter) all) rows → IsBoth means params (λ m. answer m (view.query q) (single all)) rows
+    → AnswersOver means params q o calls (filter (passes means params q.filter) all) rows → IsMeant means params (λ m. answer m (view.query q) (single all)) rows
 answers_both means params q one of all o calls rows shows over =
     let fin = over.finishes in
     let shows_told : ShowsQuery [] (map (λ t. t.call) over.told) q o = subst (λ (cs : List Call). ShowsQuery [] cs q o) (sym over.of) shows in
-    record {
-      exact = answered means params None (inl refl) q one of all over.are_true o over.told fin.values fin.group shows_told over.tells fin.worth fin.shows.exact ∙ ap (λ (rs : List Row). Some rs) (sym (fin.are None));
-      sized = answered means params byte_limit (inr refl) q one of all over.are_true o over.told fin.values fin.group shows_told over.tells fin.worth fin.shows.sized ∙ ap (λ (rs : List Row). Some rs) (sym (fin.are byte_limit));
-    }
+    let sized_answer = answered means params byte_limit (inr refl) q one of all over.are_true o over.told fin.values fin.group shows_told over.tells fin.worth (fin.shows.under (strict byte_limit) (inr refl))
+    ∙ ap (λ (rs : List Row). Some rs) (sym (fin.are byte_limit)) in
+    record { under = λ g limit. answer_refines (sized means params) (regarded g means params) (refines means params g limit) (view.query q) (single all) rows sized_answer }
 
 -- what is read answers this, too
 pub read_so : {X : Type 0} (P Q : X → Type 0) (old new : Holding) (r : Result (Option X) CellsError) → ((x : X) → P x → Q x) → Reads old new r (λ o. ForSome o P) → Reads old new r (λ o. ForSome o Q)

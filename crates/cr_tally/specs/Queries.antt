@@ -9,7 +9,7 @@ use Rattle.cr_query.specs.Queries.{Shown}
 use Rattle.cr_query.specs.Query.{Row, finished, holds}
 use Rattle.cr_meaning.specs.View as view
 use Rattle.cr_meaning.specs.Meaning.{meaning}
-use Rattle.cr_exec.specs.Answers.{IsBoth}
+use Rattle.cr_exec.specs.Answers.{IsMeant}
 use Rattle.cr_tally.specs.declared.over.OverGroup.{OverGroup}
 use Rattle.cr_tally.specs.declared.show.Call.{Call}
 use Rattle.cr_tally.specs.declared.tally.Tally.{Tally}
@@ -27,7 +27,7 @@ pub record TellsFrom (means : Means) (params : List Value) (ts : List Tally) (ro
 
 -- the terms are all true on the row, without a limit on values and with it
 abbrev pub AreTrue : Means → List Value → List Expr → Row → Type 0
-AreTrue means params terms row = IsBoth means params (λ m. holds m (map view.plain terms) row) true
+AreTrue means params terms row = IsMeant means params (λ m. holds m (map view.plain terms) row) true
 
 -- the terms are all true on each of the rows, of which these tell
 pub record TellsOf (means : Means) (params : List Value) (terms : List Expr) (ts : List Tally) (rows : List Row) (us : List Tally) : Type 0 where
@@ -39,7 +39,7 @@ pub record Finishes (means : Means) (params : List Value) (q : Query) (o : OverG
   pub values : List Value
   pub worth : AllZip Worth ts values
   pub group : List Shown
-  pub shows : IsBoth means params (λ m. group_shows m o (record { shown = values; members = [] })) group
+  pub shows : IsMeant means params (λ m. group_shows m o (record { shown = values; members = [] })) group
   pub are : (most : Option ℕ) → answer ≡ finished (meaning most means params) (view.query q) group
 
 -- the rows of an answer over these rows, on which the terms are all true, where what these aggregates give of them is shown

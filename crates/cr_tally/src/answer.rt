@@ -6,7 +6,7 @@ ghost use Rattle.std.specs.Option.{ForSome};
 ghost use Rattle.cr_bags.specs.Bags.{single};
 ghost use Rattle.cr_cells.specs.Calls.{Reads, is_want, StaysClean};
 ghost use Rattle.cr_cells.specs.Holding.{kept_of};
-ghost use Rattle.cr_exec.specs.Answers.{IsBoth};
+ghost use Rattle.cr_exec.specs.Answers.{IsMeant};
 ghost use Rattle.cr_exec.specs.Combinations.{IsOfOneTable};
 ghost use Rattle.cr_lattice.specs.Keep.{join};
 ghost use Rattle.cr_lattice.specs.Rows.{rows};
@@ -177,7 +177,7 @@ pub fn answer_by_tallies<C: Cells, F: Functions>(
     ensures device { StaysClean C.is_honest C.is_clean is_want replica.old replica.new result }
     ensures reads { C.is_clean replica.new → Reads (C.holding replica.old) (C.holding replica.new) result
         (λ o. ForSome o (λ rs. IsOfOneTable query.now
-        → IsBoth (⟦<F as Hosted>⟧.means functions.now) params.now (λ m. answer m (view.query query.now) (single (rows (join (kept_of (C.holding replica.old)) changes.now) def.now))) rs)) }
+        → IsMeant (⟦<F as Hosted>⟧.means functions.now) params.now (λ m. answer m (view.query query.now) (single (rows (join (kept_of (C.holding replica.old)) changes.now) def.now))) rs)) }
 {
     if !has_one_group(query) {
         return Ok(None);

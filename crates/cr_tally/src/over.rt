@@ -2,7 +2,7 @@
 
 ghost use Rattle.std.specs.Prelude.{[], map, IfOk};
 ghost use Rattle.std.specs.Option.{ForSome};
-ghost use Rattle.cr_exec.specs.Answers.{IsBoth};
+ghost use Rattle.cr_exec.specs.Answers.{IsMeant};
 ghost use Rattle.cr_exec.specs.Shows.{shown_of};
 ghost use Rattle.cr_tally.specs.Showing.{ShowsAll, ShowsIfAny};
 ghost use Rattle.cr_tally.specs.Over.{ShowsQuery, group_shows};
@@ -99,7 +99,7 @@ pub fn shown_over<F: Functions>(
     params: &[Value],
 ) -> Result<Option<Vec<Shown>>, AllocError>
     requires { F.is_faithful functions.now }
-    ensures { IfOk result (λ o. ForSome o (λ v. IsBoth (⟦<F as Hosted>⟧.means functions.now) params.now (λ m. group_shows m over.now (record { shown = values.now; members = [] })) (map shown_of v.items))) }
+    ensures { IfOk result (λ o. ForSome o (λ v. IsMeant (⟦<F as Hosted>⟧.means functions.now) params.now (λ m. group_shows m over.now (record { shown = values.now; members = [] })) (map shown_of v.items))) }
 {
     let results = there_of(alloc, over.results.as_slice())?;
     let keys = there_of(alloc, over.keys.as_slice())?;

@@ -35,7 +35,6 @@ of_taking take.Memory = Memory
 of_taking (take.Store f) = Store f
 of_taking (take.Bad b) = BadChange b
 of_taking take.VersionLimit = VersionLimit
-of_taking take.SameSite = SameSite
 
 -- an expression without a value
 abbrev pub of_fault : Fault → Refusal

@@ -279,7 +279,6 @@ impl From<TakeError> for Refusal {
             TakeError::Store(fault) => Refusal::Store(fault),
             TakeError::Bad(reason) => Refusal::BadChange(reason),
             TakeError::VersionLimit => Refusal::VersionLimit,
-            TakeError::SameSite => Refusal::SameSite,
         }
     }
 }

@@ -4,7 +4,7 @@ use Rattle.cr_query.specs.Query.{Row, answer}
 use Rattle.cr_meaning.specs.View.{query}
 use Rattle.cr_term.specs.declared.query.Joined.{Joined}
 use Rattle.cr_module.specs.Reading.{tables_between}
-use Rattle.cr_exec.specs.Answers.{Faults, IsBoth}
+use Rattle.cr_exec.specs.Answers.{Faults, IsMeant}
 use Rattle.cr_snapshot.specs.Seen.{name_of, rows_seen}
 use Rattle.cr_tables.specs.Views.{rows_at}
 use Rattle.cr_tables.proofs.Seen.{tables_seen}
@@ -19,8 +19,8 @@ returns-in-Ok g c =
     let s = c.args.snapshot.now in
     let q = c.args.query.now in
     let tables = ap (λ (js : List Joined). tables_between (rows_at s js) 0 (length q.joined)) c.as_slice.ensures ∙ tables_seen s q.joined in
-    subst (λ (rows : List Row). IsBoth h c.args.params.now (λ m. answer m (query q) (map (λ j. rows_seen s (name_of j)) q.joined)) rows) (sym c.new.ensures)
-    (subst (λ (ts : List (List Row)). IsBoth h c.args.params.now (λ m. answer m (query q) ts) c.in-Ok.rows.items) tables c.in-Ok.ensures.answers)
+    subst (λ (rows : List Row). IsMeant h c.args.params.now (λ m. answer m (query q) (map (λ j. rows_seen s (name_of j)) q.joined)) rows) (sym c.new.ensures)
+    (subst (λ (ts : List (List Row)). IsMeant h c.args.params.now (λ m. answer m (query q) ts) c.in-Ok.rows.items) tables c.in-Ok.ensures.answers)
 
 pub returns-in-Err-Eval : goal.returns-in-Err-Eval
 returns-in-Err-Eval g c =

@@ -6,7 +6,7 @@ use Rattle.cr_scalar.specs.declared.fault.EvalFault.{EvalFault}
 use Rattle.cr_query.specs.Query.{Row}
 use Rattle.cr_query.specs.Writes.{wanted_by_delete}
 use Rattle.cr_meaning.specs.View as view
-use Rattle.cr_exec.specs.Answers.{Faults, IsBoth, Stage}
+use Rattle.cr_exec.specs.Answers.{Faults, IsMeant, Stage}
 use Rattle.cr_changed.specs.Steps.{of_source}
 use Rattle.cr_changed.proofs.Sources.{fault_told}
 use Rattle.cr_changed.proofs.wants.delete_wants.Goals as goal
@@ -18,7 +18,7 @@ returns-in-Ok g c =
     let h = host (f.function_of own) (f.scalar own) (f.step own) (f.finish own) (f.order_of own) in
     let w = c.args.delete.now in
     let stage : List Change → Stage (List Row) = λ changes m. wanted_by_delete m (view.delete w) (rows changes w.relation.definition) in
-    subst (λ (changes : List Change). IsBoth h c.args.params.now (stage changes) c.in-Ok.rows.items) c.as_slice-changes.ensures c.in-Ok.ensures.wanted
+    subst (λ (changes : List Change). IsMeant h c.args.params.now (stage changes) c.in-Ok.rows.items) c.as_slice-changes.ensures c.in-Ok.ensures.wanted
 
 pub returns-in-Err : goal.returns-in-Err
 returns-in-Err g c =

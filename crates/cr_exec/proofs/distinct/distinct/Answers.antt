@@ -8,6 +8,6 @@ pub returns : goal.returns
 returns g c =
     let h = host (g.F.Functions.function_of c.args.functions.now) (g.F.Functions.scalar c.args.functions.now) (g.F.Functions.step c.args.functions.now) (g.F.Functions.finish c.args.functions.now) (g.F.Functions.order_of c.args.functions.now) in
     of_ok _ _ c.spelled-2.result
-    (λ v is most params. distinct_is most h params c.args.results.now (map (held_order (g.F.Functions.order_at c.args.functions.now)) c.as_slice.result.now) c.args.shown.items c.in_ok-shown.shown.items c.in_ok-shown-2.shown.items v.items
+    (λ v is regard params. distinct_is regard h params c.args.results.now (map (held_order (g.F.Functions.order_at c.args.functions.now)) c.as_slice.result.now) c.args.shown.items c.in_ok-shown.shown.items c.in_ok-shown-2.shown.items v.items
     (ap (map (held_order (g.F.Functions.order_at c.args.functions.now))) c.as_slice.ensures.value ∙ c.in_ok-senses.ensures) c.in_ok-shown.ensures c.in_ok-shown-2.ensures is)
     c.spelled-2.ensures

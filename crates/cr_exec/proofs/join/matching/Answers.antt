@@ -2,8 +2,8 @@ use Rattle.std.proofs.Common.{◌∙◌, subst, map, ◌++◌}
 use Rattle.cr_scalar.specs.Host.{host}
 use Rattle.cr_bags.specs.Bags.{those, single}
 use Rattle.cr_query.specs.Query.{all_true, with_rows}
-use Rattle.cr_meaning.specs.Meaning.{meaning}
-use Rattle.cr_exec.specs.Answers.{IsBoth, behind}
+use Rattle.cr_meaning.specs.Meaning.{Regard, regarded}
+use Rattle.cr_exec.specs.Answers.{IsMeant, behind}
 use Rattle.cr_exec.specs.Groups.{row_there}
 use Rattle.cr_exec.specs.Scopes.{there}
 use Rattle.cr_exec.proofs.Loops.{starts, gather_next}
@@ -14,11 +14,11 @@ pub loop-row-init : goal.loop-row-init
 loop-row-init g c =
     let h = host (g.F.Functions.function_of c.args.functions.now) (g.F.Functions.scalar c.args.functions.now) (g.F.Functions.step c.args.functions.now) (g.F.Functions.finish c.args.functions.now) (g.F.Functions.order_of c.args.functions.now) in
     starts h c.args.params.now (λ m r. those (all_true m (map there c.args.terms.now)) (single (c.args.combination.now ++ row_there r))) (λ m. those (all_true m (map there c.args.terms.now)) (with_rows c.args.combination.now (map row_there c.args.rows.now))) c.args.rows.now c.new-out.result.items c.new-out.ensures.items
-    (λ most. those_there (all_true (meaning most h c.args.params.now) (map there c.args.terms.now)) c.args.combination.now c.args.rows.now)
+    (λ regard. those_there (all_true (regarded regard h c.args.params.now) (map there c.args.terms.now)) c.args.combination.now c.args.rows.now)
 
 pub loop-row-preserved : goal.loop-row-preserved
 loop-row-preserved g c =
     let h = host (g.F.Functions.function_of c.args.functions.now) (g.F.Functions.scalar c.args.functions.now) (g.F.Functions.step c.args.functions.now) (g.F.Functions.finish c.args.functions.now) (g.F.Functions.order_of c.args.functions.now) in
     gather_next h c.args.params.now (λ m r. those (all_true m (map there c.args.terms.now)) (single (c.args.combination.now ++ row_there r))) (λ m. those (all_true m (map there c.args.terms.now)) (with_rows c.args.combination.now (map row_there c.args.rows.now))) c.args.rows.now c.loop-row.row-index c.row-item.result c.loop-row.out.items c.keep.new.out.items c.loop-row-test.true c.row-item.is
-    (subst (λ d. IsBoth h c.args.params.now (λ m. behind c.loop-row.out.items (those (all_true m (map there c.args.terms.now)) (single d))) c.keep.new.out.items) (c.as_slice.ensures ∙ c.in_ok-more.ensures) c.in_ok-keep.ensures)
+    (subst (λ d. IsMeant h c.args.params.now (λ m. behind c.loop-row.out.items (those (all_true m (map there c.args.terms.now)) (single d))) c.keep.new.out.items) (c.as_slice.ensures ∙ c.in_ok-more.ensures) c.in_ok-keep.ensures)
     c.loop-row.invariant

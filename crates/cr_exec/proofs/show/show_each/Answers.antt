@@ -3,7 +3,7 @@ use Rattle.std.proofs.lemmas.List.{map-append}
 use Rattle.cr_scalar.specs.Host.{host}
 use Rattle.cr_bags.specs.Bags.{each, single}
 use Rattle.cr_query.specs.Query.{pair}
-use Rattle.cr_exec.specs.Answers.{Faults, IsBoth}
+use Rattle.cr_exec.specs.Answers.{Faults, IsMeant}
 use Rattle.cr_exec.specs.Scopes.{there}
 use Rattle.cr_exec.specs.Shows.{shown_of}
 use Rattle.cr_exec.proofs.Loops.{gather_next, gather_fails, one_behind, none_single}
@@ -15,7 +15,7 @@ loop-combination-preserved g c =
     gather_next h c.args.params.now (λ m d. option_map single (pair (each (λ e. m.value e d) (map there c.args.results.now)) (each (λ e. m.value e d) (map there c.args.keys.now)))) (λ m. each (λ d. pair (each (λ e. m.value e d) (map there c.args.results.now)) (each (λ e. m.value e d) (map there c.args.keys.now))) c.args.combinations.now) c.args.combinations.now c.loop-combination.combination-index c.combination-item.result (map shown_of c.loop-combination.out.items) (map shown_of c.push.new.out.items) c.loop-combination-test.true c.combination-item.is
     (one_behind h c.args.params.now (λ m. pair (each (λ e. m.value e c.combination-item.result) (map there c.args.results.now)) (each (λ e. m.value e c.combination-item.result) (map there c.args.keys.now))) (shown_of c.in_ok-shown.shown) (map shown_of c.loop-combination.out.items) (map shown_of c.push.new.out.items)
     (ap (map shown_of) c.in_ok-push.ensures ∙ map-append shown_of c.loop-combination.out.items (c.in_ok-shown.shown ∷ []))
-    (subst (λ d. IsBoth h c.args.params.now (λ m. pair (each (λ e. m.value e d) (map there c.args.results.now)) (each (λ e. m.value e d) (map there c.args.keys.now))) (shown_of c.in_ok-shown.shown)) c.as_slice.ensures c.in_ok-shown.ensures))
+    (subst (λ d. IsMeant h c.args.params.now (λ m. pair (each (λ e. m.value e d) (map there c.args.results.now)) (each (λ e. m.value e d) (map there c.args.keys.now))) (shown_of c.in_ok-shown.shown)) c.as_slice.ensures c.in_ok-shown.ensures))
     c.loop-combination.invariant
 
 pub returns-in_err-shown : goal.returns-in_err-shown

@@ -8,4 +8,4 @@ returns-in-Some g c =
 
 pub returns-in-None : goal.returns-in-None
 returns-in-None g c =
-    row_loud (host (g.F.Functions.function_of c.args.functions.now) (g.F.Functions.scalar c.args.functions.now) (g.F.Functions.step c.args.functions.now) (g.F.Functions.finish c.args.functions.now) (g.F.Functions.order_of c.args.functions.now)) c.args.params.now c.args.row.now c.args.expr.now c.in_ok-quiet.quiet c.limited_value.result c.in_ok-quiet.ensures c.in-None.is c.limited_value.ensures
+    row_loud (host (g.F.Functions.function_of c.args.functions.now) (g.F.Functions.scalar c.args.functions.now) (g.F.Functions.step c.args.functions.now) (g.F.Functions.finish c.args.functions.now) (g.F.Functions.order_of c.args.functions.now)) c.args.params.now c.args.row.now c.args.expr.now c.in_ok-quiet.quiet c.eval.result c.in_ok-quiet.ensures c.in-None.is c.eval.ensures

@@ -8,4 +8,4 @@ returns-in-Row g c =
 
 pub returns-in-Group : goal.returns-in-Group
 returns-in-Group g c =
-    in_group (host (g.F.Functions.function_of c.args.functions.now) (g.F.Functions.scalar c.args.functions.now) (g.F.Functions.step c.args.functions.now) (g.F.Functions.finish c.args.functions.now) (g.F.Functions.order_of c.args.functions.now)) c.args.params.now c.args.scope c.in-Group.shown c.in-Group.members c.args.expr.now c.limited_value.result c.in-Group.is c.limited_value.ensures
+    in_group (host (g.F.Functions.function_of c.args.functions.now) (g.F.Functions.scalar c.args.functions.now) (g.F.Functions.step c.args.functions.now) (g.F.Functions.finish c.args.functions.now) (g.F.Functions.order_of c.args.functions.now)) c.args.params.now c.args.scope c.in-Group.shown c.in-Group.members c.args.expr.now c.eval.result c.in-Group.is c.eval.ensures

@@ -2,7 +2,7 @@ use Rattle.std.proofs.Common.{◌∙◌, ap, sym, rules, [], ◌∷◌, ◌++◌
 use Rattle.cr_scalar.specs.Host.{host}
 use Rattle.cr_bags.specs.Bags.{each, single}
 use Rattle.cr_query.proofs.PlanLaws.{gather-map}
-use Rattle.cr_meaning.specs.Meaning.{meaning}
+use Rattle.cr_meaning.specs.Meaning.{Regard, regarded}
 use Rattle.cr_exec.specs.Answers.{Faults}
 use Rattle.cr_exec.specs.Scopes.{in_scope, there}
 use Rattle.cr_exec.proofs.Loops.{starts, gather_next, gather_fails, one_behind, none_single}
@@ -12,7 +12,7 @@ pub loop-expr-init : goal.loop-expr-init
 loop-expr-init g c =
     let h = host (g.F.Functions.function_of c.args.functions.now) (g.F.Functions.scalar c.args.functions.now) (g.F.Functions.step c.args.functions.now) (g.F.Functions.finish c.args.functions.now) (g.F.Functions.order_of c.args.functions.now) in
     starts h c.args.params.now (λ m e. option_map single (in_scope m c.args.scope (there e))) (λ m. each (in_scope m c.args.scope) (map there c.args.exprs.now)) c.args.exprs.now c.new-values.result.items c.new-values.ensures.items
-    (λ most. sym (gather-map there (λ e. option_map single (in_scope (meaning most h c.args.params.now) c.args.scope e)) c.args.exprs.now))
+    (λ regard. sym (gather-map there (λ e. option_map single (in_scope (regarded regard h c.args.params.now) c.args.scope e)) c.args.exprs.now))
 
 pub loop-expr-preserved : goal.loop-expr-preserved
 loop-expr-preserved g c =

@@ -1,4 +1,4 @@
-use Rattle.cr_taken.proofs.Refined.{rows_refine, insert_refines, update_refines, delete_refines}
+use Rattle.cr_query.proofs.RefiningWrites.{rows_refine, insert_refines, update_refines, delete_refines}
 use Rattle.cr_taken.proofs.laws.limits_refine_writes.Goals as goal
 
 pub returns : goal.returns
