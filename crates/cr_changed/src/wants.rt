@@ -19,7 +19,7 @@ use std::alloc::Global;
 /// The rows that an UPDATE wants. Those that the snapshot shows of its table are made one after another.
 ///
 /// # Errors
-/// The fault of an expression, where there are no such rows without a limit on values; `TooBig` where there are none with
+/// The fault of an expression, where there are no such rows whatever values stand for other faults; `TooBig` the same with
 /// the limit of 1,000,000 bytes; `Memory`.
 pub(crate) fn update_wants<F: Functions>(
     alloc: Global,

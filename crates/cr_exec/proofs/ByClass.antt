@@ -75,7 +75,7 @@ module _ (host : Host) (params : List Value) where
 
       module _ (Rs : List ValueOrder) (orders : Rs ≡ map (group_order host.order) gs) (keyed grouped : List Keyed) (by : IsByClass Rs keyed grouped) (classes : List Row) (classed : classes ≡ firsts (ties_by Rs) (sort row_cmp (map key_of grouped))) where
         order_is : (regard : Regard) → by_exprs (regarded regard host params) (map group_term gs) ≡ by_orders Rs
-        order_is most = groups_compare regard host params gs ∙ ap by_orders (sym orders)
+        order_is regard = groups_compare regard host params gs ∙ ap by_orders (sym orders)
 
         classes_are : firsts (ties_by Rs) (sort row_cmp (map key_of keyed)) ≡ classes
         classes_are = ap (firsts (ties_by Rs)) (sym (sort_same row_cmp row_total row_exact by.keys)) ∙ sym classed

@@ -1,5 +1,5 @@
 -- From the value of an expression to what it means to a query.
-use Rattle.std.proofs.Common.{MatchOption, ℕ, ◌&&◌, ◌≡◌, ◌∙◌, Bool, true, false, cond, List, Option, Some, None, Result, Ok, Err, refl, sym, ap, subst}
+use Rattle.std.proofs.Common.{MatchOption, inl, inr, ℕ, ◌&&◌, ◌≡◌, ◌∙◌, Bool, true, false, cond, List, Option, Some, None, Result, Ok, Err, refl, sym, ap, subst}
 use Rattle.std.specs.Option.{option_and_then}
 use Rattle.cr_value.specs.declared.value.Value.{Value}
 use Rattle.cr_term.specs.declared.expr.Expr.{Expr}

@@ -56,7 +56,7 @@ module _ (host : Host) (params : List Value) (ts : List Ordered) (rows out : Lis
 
 module _ (host : Host) (params : List Value) (q : Resolved) (one : IsOfOneTable q) (ts : List Ordered) (are : ts ≡ with_quiet_first (terms q)) (rows : List Row) where
   joined_are : (regard : Regard) → joined (regarded regard host params) (query q) (single rows) ≡ those (all_true (regarded regard host params) ts) rows
-  joined_are most =
+  joined_are regard =
       let m = regarded regard host params in
       joined_one m (query q) (joining one.table) (ap (map joining) one.only) one.inner rows ∙ ap (λ es. those (all_true m es) rows) (sym are)
 

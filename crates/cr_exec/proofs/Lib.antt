@@ -14,3 +14,4 @@ pub mod LeftOut
 pub mod Indexed
 pub mod Streams
 pub mod Kept
+pub mod Grouping

@@ -31,13 +31,13 @@ module _ (host : Host) (params : List Value) (q : Resolved) where
         λ i. pair (a i) (b i)
 
     grouped_is : q.is_grouped ≡ true → (cs : List Row) (regard : Regard) → option_and_then (gather (λ g. judged_by (regarded regard host params) (λ e. (regarded regard host params).over e g) q.having results keys)) (groups (regarded regard host params) (map group_term q.groups) cs) ≡ shown (regarded regard host params) (query q) cs
-    grouped_is yes_grouped cs most =
+    grouped_is yes_grouped cs regard =
         let m = regarded regard host params in
         (λ i. option_and_then (gather (λ g. option_and_then (λ b. cond b (option_map single (shows_same regard (λ x. taken regard.value (eval_of (at_group regard.most host params g) x)) i)) (Some [])) (has m (option_map plain q.having) (λ e. m.over e g)))) (groups m (map group_term q.groups) cs))
         ∙ sym (ap (λ b. cond b (shown_groups m (query q) cs) (each (λ c. shows m (query q) (λ e. m.value e c)) cs)) yes_grouped)
 
     plain_is : q.is_grouped ≡ false → (cs : List Row) (regard : Regard) → each (λ c. shows_by (λ e. (regarded regard host params).value e c) results keys) cs ≡ shown (regarded regard host params) (query q) cs
-    plain_is not_grouped cs most =
+    plain_is not_grouped cs regard =
         let m = regarded regard host params in
         (λ i. each (λ c. shows_same regard (λ x. taken regard.value (eval_of (at_row (limit_of regard.most x) host params c) x)) i) cs)
         ∙ sym (ap (λ b. cond b (shown_groups m (query q) cs) (each (λ c. shows m (query q) (λ e. m.value e c)) cs)) not_grouped)

@@ -1,5 +1,5 @@
 -- What holds of a part under a regard holds of the whole, under each.
-use Rattle.std.proofs.Common.{◌≡◌, List, Option, Some, None, ◌∙◌, sym}
+use Rattle.std.proofs.Common.{◌≡◌, inr, List, Option, Some, None, ◌∙◌, sym}
 use Rattle.cr_value.specs.declared.value.Value.{Value}
 use Rattle.cr_scalar.specs.Host.{Host}
 use Rattle.cr_scalar.specs.declared.fault.EvalFault.{EvalFault}

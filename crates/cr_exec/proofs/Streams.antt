@@ -113,7 +113,7 @@ module _ (host : Host) (params : List Value)
   in_order m = tail m terms q.joined all_tables []
 
   read_is : (regard : Regard) → read_rows (regarded regard host params) ≡ in_order (regarded regard host params)
-  read_is most =
+  read_is regard =
       let m = regarded regard host params in
       (λ i. gather (λ c. one_is m c i) (stay i 0))
       ∙ ap (gather (tail m terms js tables)) (sym (map-id (rows 0)))

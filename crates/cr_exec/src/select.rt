@@ -111,7 +111,7 @@ pub fn answered<F: Functions>(
 /// a limit hides no fault.
 ///
 /// # Errors
-/// The fault of an expression, where there is no answer without a limit on values; `TooBig` where there is none with the
+/// The fault of an expression, where there is no answer whatever values stand for other faults; `TooBig` the same with the
 /// limit of 1,000,000 bytes; `Memory`.
 pub fn select<F: Functions>(
     alloc: Global,

@@ -185,9 +185,9 @@ fn joined_from<F: Functions, S: Source>(
 /// table that no LEFT JOIN brings one row is held at a time.
 ///
 /// # Errors
-/// `Eval` as of `select`: the fault of an expression, where there is no answer without a limit on values; `TooBig` where
-/// there is none with the limit of 1,000,000 bytes; `Memory`. `Store` where the source fails; then nothing is said of the
-/// answer.
+/// `Eval` as of `select`: the fault of an expression, where there is no answer whatever values stand for other faults;
+/// `TooBig` the same with the limit of 1,000,000 bytes; `Memory`. `Store` where the source fails; then nothing is said of
+/// the answer.
 pub fn select_from<F: Functions, S: Source>(
     alloc: Global,
     query: &Query,

@@ -35,7 +35,7 @@ use Rattle.cr_plan.proofs.Plans.{all_given, answers_by_plan, one_alike}
 use Rattle.cr_replica.specs.declared.snapshot.Listing.{Listing}
 use Rattle.cr_replica.specs.declared.snapshot.Snapshot.{Snapshot}
 use Rattle.cr_scalar.specs.Host.{Host as Means}
-use Rattle.cr_session.specs.Lookup.{ShowsQuery}
+use Rattle.cr_session.specs.Lookup.{ShowsStrictly}
 use Rattle.cr_session.specs.Performing.{placed}
 use Rattle.cr_session.specs.Sessions.{state_of}
 use Rattle.cr_snapshot.specs.Seen.{is_listing, listed_rows, name_of, rows_listed, rows_seen}
@@ -281,5 +281,5 @@ module _ (means : Means) (params : List Value) (q : Query) (total : (name : List
   names [] = refl
   names (j ∷ js) = ap (λ (ts : List (List Row)). shown j ∷ ts) (names js)
 
-  pub shows_planned : ShowsQuery means params q (placed ms (state_of h pending)) there
+  pub shows_planned : ShowsStrictly means params q (placed ms (state_of h pending)) there
   shows_planned = λ most limit. ap (over most) (names q.joined) ∙ from [] q.joined refl (λ may. tt) most

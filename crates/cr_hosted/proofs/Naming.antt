@@ -25,7 +25,8 @@ use Rattle.cr_world.specs.Resolved as world
 use Rattle.cr_world.specs.State.{State, ModuleState, changes_definition, changes_name, is_module, module_definition}
 use Rattle.cr_world.specs.Statement.{is_module_target}
 use Rattle.cr_modules.specs.States.{definition_listed, module_in}
-use Rattle.cr_session.specs.Performing.{has_target, is_held, placed, touches}
+use Rattle.cr_session.specs.Performing.{has_target, is_held, placed}
+use Rattle.cr_world.specs.Statement.{touches}
 use Rattle.cr_hosted.specs.Hosted.{alone}
 
 -- ---- names

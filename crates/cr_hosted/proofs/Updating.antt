@@ -36,9 +36,9 @@ use Rattle.cr_world.specs.Causes.{Cause, Free, Is, IsWant, Tells, or_else, where
 use Rattle.cr_world.specs.Resolved.{Resolved, Target}
 use Rattle.cr_world.specs.Resolved as world
 use Rattle.cr_world.specs.State.{State, ModuleState, in_transaction, is_module}
-use Rattle.cr_world.specs.Statement.{Host, ModuleLeaves, ModulesLeave, evaluation_cause, is_module_target, not_a_table}
+use Rattle.cr_world.specs.Statement.{Host, ModuleLeaves, ModulesLeave, evaluation_cause, is_module_target, not_a_table, touches}
 use Rattle.cr_modules.specs.States.{IsRefusedBy, Updates, module_in}
-use Rattle.cr_session.specs.Performing.{PerformsWith, PerformedWith, against, placed, touches}
+use Rattle.cr_session.specs.Performing.{PerformsWith, PerformedWith, against, placed}
 use Rattle.cr_session.proofs.Beside.{all_stay}
 use Rattle.cr_session.proofs.Making.{still, told_first}
 use Rattle.cr_session.proofs.Selecting.{fault_told, or_free}
@@ -76,6 +76,10 @@ refuses o m rows f e is =
     subst (λ (x : Option ModuleState). Tells (answered rows x) f) (sym e)
     (subst (λ (x : Result (List Row) Refusal). Tells (elim x as (λ _. Cause) [ Ok more ↦ Free | Err f ↦ Is f ]) f) (sym is) refl)
 
+-- of a module that is touched nothing more is said
+not_said : {P : Type 0} → true ≡ false → P
+not_said e = absurd (let z : ⊥ = cc in z)
+
 -- ---- an INSERT
 
 module _ (means : Means) (params : List Value) (host : Host) (st : State) (name : List ℕ) (columns : List ColumnDef) (w : queries.Insert Ordered) where
@@ -93,7 +97,7 @@ module _ (means : Means) (params : List Value) (host : Host) (st : State) (name 
 
   -- inside a transaction it is refused
   pub forbidden : (b : Bool) → in_transaction st ≡ true → Does b (Err refusal.TransactionState) st
-  forbidden b e = (inr (told_first opened _ refusal.TransactionState (subst (λ (x : Bool). Tells (where_true (x && true) refusal.TransactionState) refusal.TransactionState) (sym e) refl)), refl)
+  forbidden b e = (inr (told_first opened _ refusal.TransactionState (subst (λ (x : Bool). Tells (where_true (x && true) refusal.TransactionState) refusal.TransactionState) (sym e) refl)), (refl, λ untouched. not_said untouched))
 
   module _ (outside : in_transaction st ≡ false) where
     closed : opened ≡ Free
@@ -118,7 +122,7 @@ module _ (means : Means) (params : List Value) (host : Host) (st : State) (name 
 
     pub faulty : (f : Refusal) (e : EvalFault) → f ≡ of_fault e → Faults means params (brought false) e → Does false (Err f) st
     faulty f e told faults =
-        (told_so f (subst (λ (y : Refusal). IsWant y ⊎ Tells (evaluation_cause None (brought false (exact means params)) (brought false (sized means params))) y) (sym told) (fault_told None means params (brought false) gains e faults)), refl)
+        (told_so f (subst (λ (y : Refusal). IsWant y ⊎ Tells (evaluation_cause None (brought false (exact means params)) (brought false (sized means params))) y) (sym told) (fault_told None means params (brought false) gains e faults)), (refl, λ untouched. not_said untouched))
 
     module _ (rows : List Row) (both : IsMeant means params (brought false) rows) where
       rows_cause : against means params host st (bringing false) ≡ answered rows (module_in st.modules name)
@@ -141,7 +145,7 @@ module _ (means : Means) (params : List Value) (host : Host) (st : State) (name 
           )
       updates (Err f) ms reply up e =
           subst (λ (x : Result Reply Refusal). Does false x (placed ms st)) (sym e)
-          (told f up.0, ap (λ (x : List ModuleState). placed x st) up.1) where
+          (told f up.0, (ap (λ (x : List ModuleState). placed x st) up.1, λ untouched. not_said untouched)) where
             told : (f : Refusal) → (f ≡ refusal.Memory) ⊎ IsRefusedBy (module_in st.modules name) rows f → IsWant f ⊎ Tells (against means params host st (bringing false)) f
             told f (inl memory) = inl (inl memory)
             told f (inr is) = inr (subst (λ (c : Cause). Tells c f) (sym rows_cause) (by_module (module_in st.modules name) f refl is))
@@ -196,11 +200,11 @@ module _ (means : Means) (params : List Value) (host : Host) (st : State) (x : R
 -- it is read only for an UPDATE and a DELETE, and outside of transactions for what makes a table replicated or adds a column
 pub refuses_update : (means : Means) (params : List Value) (host : Host) (st : State) (u : Update) (f : Refusal) → is_module_target (target u.relation) ≡ true → (f ≡ refusal.Memory) ⊎ (f ≡ refusal.ReadOnly u.relation.definition.name)
     → PerformsWith means params host st (view (r.Update u)) (Err f) st
-refuses_update means params host st u f e told = (tells means params host st u.relation e f told _, refl)
+refuses_update means params host st u f e told = (tells means params host st u.relation e f told _, (refl, λ untouched. not_said (sym e ∙ untouched)))
 
 pub refuses_delete : (means : Means) (params : List Value) (host : Host) (st : State) (d : Delete) (f : Refusal) → is_module_target (target d.relation) ≡ true → (f ≡ refusal.Memory) ⊎ (f ≡ refusal.ReadOnly d.relation.definition.name)
     → PerformsWith means params host st (view (r.Delete d)) (Err f) st
-refuses_delete means params host st d f e told = (tells means params host st d.relation e f told _, refl)
+refuses_delete means params host st d f e told = (tells means params host st d.relation e f told _, (refl, λ untouched. not_said (sym e ∙ untouched)))
 
 -- what is told of one that is no table, by whether a transaction is open
 abbrev pub NoTable : State → Relation → Refusal → Type 0
@@ -217,11 +221,11 @@ refused_by means params host st x f c e (inr closed) = tells_later means params 
 
 pub refuses_mark : (means : Means) (params : List Value) (host : Host) (st : State) (m : MarkReplicated) (f : Refusal) → is_module_target (target m.relation) ≡ true → NoTable st m.relation f
     → PerformsWith means params host st (view (r.MarkReplicated m)) (Err f) st
-refuses_mark means params host st m f e told = (refused_by means params host st m.relation f _ e told, refl)
+refuses_mark means params host st m f e told = (refused_by means params host st m.relation f _ e told, (refl, λ untouched. not_said (sym e ∙ untouched)))
 
 pub refuses_alter : (means : Means) (params : List Value) (host : Host) (st : State) (a : Alter) (f : Refusal) → is_module_target (target a.relation) ≡ true → NoTable st a.relation f
     → PerformsWith means params host st (view (r.Alter a)) (Err f) st
-refuses_alter means params host st a f e told = (refused_by means params host st a.relation f _ e told, refl)
+refuses_alter means params host st a f e told = (refused_by means params host st a.relation f _ e told, (refl, λ untouched. not_said (sym e ∙ untouched)))
 
 -- what a statement is, where it touches a module
 pub touched : (ms : List ModuleState) (s t : Answered) (b : Bool) → s ≡ t → b ≡ touches ms (view s) → b ≡ true → touches ms (view t) ≡ true

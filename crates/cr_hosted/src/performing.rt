@@ -48,13 +48,13 @@ impl<C: Cells, M: Module> HostedSession<C, M> {
     ghost use Rattle.cr_value.specs.declared.value.Value.{Value};
     ghost use Rattle.cr_cells.specs.Holding.{IsSound};
     ghost use Rattle.cr_fit.specs.Suited.{Suits};
-    ghost use Rattle.cr_language.specs.Sql.{target};
+    ghost use Rattle.cr_language.specs.Sql.{target, view};
     ghost use Rattle.cr_modules.specs.States.{definition_listed, module_in};
     ghost use Rattle.cr_replica.specs.Snapshots.{IsWhole};
     ghost use Rattle.cr_snapshot.specs.Seen.{IsNamed, catalog_of};
     ghost use Rattle.cr_term.specs.declared.query.Resolved.TheVariants as r;
     ghost use Rattle.cr_world.specs.State.{heard_between};
-    ghost use Rattle.cr_world.specs.Statement.{Host, is_module_target};
+    ghost use Rattle.cr_world.specs.Statement.{Host, is_module_target, touches};
     ghost use Rattle.cr_script.specs.Hearing.{Hears};
     ghost use Rattle.cr_session.specs.Performing.{PerformedWith, is_performed};
     ghost use Rattle.cr_session.specs.Sessions.{standing};
@@ -71,6 +71,7 @@ impl<C: Cells, M: Module> HostedSession<C, M> {
         requires functions { F.is_faithful functions.now }
         requires sound { C.is_clean self.old.session.0 → IsSound (C.holding self.old.session.0) }
         requires named { C.is_clean self.old.session.0 → IsNamed (standing C.holding self.old.session) names }
+        requires touched { touches (⟦<Modules<M> as StandAll>⟧.states self.old.modules) (view (r.Select query.now)) ≡ true }
         ensures { (host : Host) → PerformedWith (⟦<F as Hosted>⟧.means functions.now) params.now host (⟦<HostedSession<C, M> as Executor>⟧.is_honest) (⟦<HostedSession<C, M> as Executor>⟧.is_clean) (⟦<HostedSession<C, M> as Executor>⟧.stands) self.old (r.Select query.now) result self.new }
     {
         let joined = query.joined.as_slice();

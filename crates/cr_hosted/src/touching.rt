@@ -6,7 +6,7 @@ ghost use Rattle.cr_snapshot.specs.Seen.{name_of};
 ghost use Rattle.cr_modules.specs.States.{module_in};
 ghost use Rattle.cr_language.specs.Sql.{target, view};
 ghost use Rattle.cr_world.specs.Statement.{is_module_target};
-ghost use Rattle.cr_session.specs.Performing.{touches};
+ghost use Rattle.cr_world.specs.Statement.{touches};
 
 use cr_module::module::Module;
 use cr_modules::modules::{Modules, StandAll};

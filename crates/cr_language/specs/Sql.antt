@@ -21,7 +21,7 @@ use Rattle.cr_term.specs.declared.query.Resolved.{Resolved}
 use Rattle.cr_term.specs.declared.query.Resolved.TheVariants as r
 use Rattle.cr_scalar.specs.Host.{Host}
 use Rattle.cr_meaning.specs.View.{Ordered, query, insert, update, delete}
-use Rattle.cr_meaning.specs.Meaning.{exact, sized}
+use Rattle.cr_meaning.specs.Meaning.{exact, regarded, sized}
 use Rattle.cr_questions.specs.Questions.{Name}
 use Rattle.cr_resolve.specs.declared.refusal.Refusal.{Refusal as Unresolved}
 use Rattle.cr_resolve.specs.declared.refusal.Refusal.TheVariants as unresolved
@@ -216,4 +216,5 @@ sql e = record {
   standing = standing places;
   exact = exact e.host;
   sized = sized e.host;
+  regarded = λ regard params. regarded regard e.host params;
 }

@@ -1,6 +1,6 @@
 -- What expressions mean to queries: without a limit on values, and with it, and where some faults pass for values. The limit
 -- passes over quiet terms: a row that a constraint rejects would else be a fault of the limit alone. Source: this project's own.
-use Rattle.std.specs.Prelude.{◌≡◌, ◌⊎◌, ℕ, ⊥, Bool, false, cond, List, [], Option, Some, None, Ok, Err}
+use Rattle.std.specs.Prelude.{◌≡◌, ◌⊎◌, ℕ, Bool, false, cond, List, [], Option, Some, None, Ok, Err}
 use Rattle.cr_value.specs.declared.value.Value.{Value}
 use Rattle.cr_term.specs.declared.expr.Expr.{Expr}
 use Rattle.cr_term.specs.Terms.{quiet}

@@ -145,7 +145,7 @@ module _ {E C : Type 0} (l : Language Statement E) (host : Host) (is_honest is_c
   module _ (x : Statement) (n : ℕ) (new : C) (e : is_empty source tokens ≡ false) (f : next source tokens ≡ Ok (Some (x, n))) (none : second_place (drop n tokens) ≡ None) where
     given : (result : Result Reply Refusal) → Carries l host is_honest is_clean stands old params x result new → is_clean new → Executes l host (stands old) params (Some (language.Statement x)) result (stands new)
     given (Ok reply) c clean = ((stands new).modules, (c.answers clean, sym (c.leaves clean)))
-    given (Err r) c clean = (((c.answers clean).0, refl), sym (c.leaves clean))
+    given (Err r) c clean = (((c.answers clean).0, (refl, (c.answers clean).1.1)), sym (c.leaves clean))
 
     pub carries_single : (result : Result Reply Refusal) → Carries l host is_honest is_clean stands old params x result new → Made result new
     carries_single result c = record {
@@ -158,7 +158,7 @@ module _ {E C : Type 0} (l : Language Statement E) (host : Host) (is_honest is_c
   any_wants : (p : Option (Piece Statement)) → Executes l host (stands old) params p (Err Memory) (stands old)
   any_wants None = (refl, refl)
   any_wants (Some (language.Unread why)) = (inr refl, refl)
-  any_wants (Some (language.Statement x)) = ((inl (inl refl), refl), refl)
+  any_wants (Some (language.Statement x)) = ((inl (inl refl), (refl, λ r allowed untouched. tt)), refl)
 
   pub wants_single : (p : Option (Piece Statement)) → Executed l host is_honest is_clean stands old params p (Err Memory) old
   wants_single p = record { device = record { was_honest = λ honest. honest; was_clean = λ clean. clean; stays_clean = λ honest clean told. clean }; executes = λ clean. any_wants p }

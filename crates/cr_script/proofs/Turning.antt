@@ -192,7 +192,7 @@ module _ {E C : Type 0} (l : Language Statement E) (host : Host) (is_honest is_c
   -- want of memory may be told of a script at once, and of each of its statements
   wants_first : (st : State) (p : Piece Statement) (ps : List (Piece Statement)) → RunsEach l host st (p ∷ ps) [] (Some Memory) st
   wants_first st (language.Unread why) ps = (inr refl, refl)
-  wants_first st (language.Statement s) ps = ((inl (inl refl), refl), refl)
+  wants_first st (language.Statement s) ps = ((inl (inl refl), (refl, λ r allowed untouched. tt)), refl)
 
   pub wanting : (st : State) (ps : List (Piece Statement)) → Runs l host st ps [] (Some Memory) st
   wanting st [] = inr (refl, refl, refl, refl)
@@ -233,7 +233,7 @@ module _ {E C : Type 0} (l : Language Statement E) (host : Host) (is_honest is_c
       → Carries l host is_honest is_clean stands now [] x (Err r) new → is_clean new → RunsEach l host (stands now) (pieces_left n source rest) [] (Some r) (stands new)
   refuses_runs source rest now new zero x k r few e carries clean = let some = takes source rest x k e in absurd (omega (arith, few, some.0, some.1))
   refuses_runs source rest now new (suc n) x k r few e carries clean =
-      subst (λ (ps : List (Piece Statement)). RunsEach l host (stands now) ps [] (Some r) (stands new)) (sym (one_left n source rest x k e)) (((carries.answers clean).0, refl), sym (carries.leaves clean))
+      subst (λ (ps : List (Piece Statement)). RunsEach l host (stands now) ps [] (Some r) (stands new)) (sym (one_left n source rest x k e)) (((carries.answers clean).0, (refl, (carries.answers clean).1.1)), sym (carries.leaves clean))
 
   pub stops : (source : List ℕ) (all : List (Piece Statement)) (old now : C) (rest : List Token) (replies : List Reply) (r : Refusal) (new : C)
       → Led source all old now rest replies → Stops l host is_honest is_clean stands now (next source rest) r new → CarriesAll l host is_honest is_clean stands old all replies (Some r) new

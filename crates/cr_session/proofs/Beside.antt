@@ -12,7 +12,7 @@ use Rattle.cr_query.specs.Query.{Row, Meaning, answer}
 use Rattle.cr_query.specs.Queries.{Insert as Insertion, Update as Updating, Delete as Deletion}
 use Rattle.cr_query.specs.Writes.{wanted_by_insert, wanted_by_update, wanted_by_delete}
 use Rattle.cr_meaning.specs.View.{Ordered}
-use Rattle.cr_meaning.specs.Meaning.{exact, sized}
+use Rattle.cr_meaning.specs.Meaning.{exact, regarded, sized}
 use Rattle.cr_term.specs.declared.query.Resolved.{Resolved as Answered}
 use Rattle.cr_language.specs.Sql.{view}
 use Rattle.cr_world.specs.declared.command.Reply.{Reply}
@@ -21,8 +21,9 @@ use Rattle.cr_world.specs.Causes.{Cause, IsWant, Tells, first_cause}
 use Rattle.cr_world.specs.Resolved.{Resolved, Target, Select, Mark, Insert, Update, Delete, Create, Alter, Begin, Commit, Rollback}
 use Rattle.cr_world.specs.Resolved as target
 use Rattle.cr_world.specs.State.{State, ModuleState, change_rows, changes_name, in_transaction, is_module, module_rows, now, other_rows, rows_named, rows_or, table_of, tables_named}
-use Rattle.cr_world.specs.Statement.{Host, ModulesLeave, adding, causes_of, changes_by, ended, evaluated, is_memory, left_by, reply_to, updates_module, writes}
-use Rattle.cr_session.specs.Performing.{Performs, Performed, PerformsWith, PerformedWith, against, beside, has_target, is_commit, is_held, placed, touches, with_limit, without_limit}
+use Rattle.cr_world.specs.Statement.{Host, ModulesLeave, adding, causes_of, changes_by, ended, evaluated, is_memory, left_by, reply_to, touches, updates_module, writes}
+use Rattle.cr_session.proofs.Selecting.{found_as}
+use Rattle.cr_session.specs.Performing.{Performs, Performed, PerformsWith, PerformedWith, against, beside, has_target, is_commit, is_held, placed, with_limit, without_limit}
 use Rattle.cr_session.specs.Sessions.{SessionOf, clean, honest, standing, state_of}
 
 both_false : (a b : Bool) → (a || b) ≡ false → (a ≡ false) × (b ≡ false)
@@ -190,7 +191,10 @@ module _ (means : Means) (params : List Value) (host : Host) (h : Holding) (pend
   )
   performs_beside (Err f) new d = (
     subst (λ (c : Cause). IsWant f ⊎ Tells c f) (sym same_cause) d.0,
-    ap (placed ms) d.1 ∙ sym (put_either ms (is_commit v && (in_transaction here && not (is_memory f))) (ended here) here),
+    (
+      ap (placed ms) d.1.0 ∙ sym (put_either ms (is_commit v && (in_transaction here && not (is_memory f))) (ended here) here),
+      λ untouched. found_as (λ g. regarded g means params) (λ g. regarded g means params) here (placed ms here) v (λ g. evaluated_beside (regarded g means params) here ms v refl e there) f d.1.1,
+    ),
   )
 
 -- a session beside modules

@@ -20,7 +20,7 @@ use Rattle.cr_term.specs.declared.query.Update.{Update}
 use Rattle.cr_scalar.specs.Host.{Host as Means}
 use Rattle.cr_query.specs.Query.{answer}
 use Rattle.cr_meaning.specs.View.{query}
-use Rattle.cr_meaning.specs.Meaning.{meaning, strict}
+use Rattle.cr_meaning.specs.Meaning.{Regard, regarded}
 use Rattle.cr_replica.specs.declared.snapshot.Snapshot.{Snapshot}
 use Rattle.cr_snapshot.specs.Seen.{IsSeen, name_of}
 use Rattle.cr_snapshot.proofs.Standing.{named}
@@ -74,7 +74,7 @@ module _ (means : Means) (params : List Value) (h : Holding) (sound : IsSound h)
   pub query_by_keys : (q : Query) (j : Joined) → q.joined ≡ j ∷ [] → j.is_left ≡ false → j.on ≡ [] → name_of j ≡ name → q.filter ≡ terms → ShowsQuery means params q st snap
   query_by_keys q j only inner no_on named same =
       one.query_of_one h sound pending name is.fit def is.there snap at.named (of_keys def keys (now st)) kept_is means params q j only named
-      (λ most limit. answers_by_keys means params (strict most) def (now st) q j keys limit keyed kept_of_it only inner no_on (others_of q.filter same))
+      (λ regard limit. answers_by_keys means params regard def (now st) q j keys limit keyed kept_of_it only inner no_on (others_of q.filter same))
 
   -- ---- writes
 
@@ -121,7 +121,7 @@ module _ (means : Means) (params : List Value) (h : Holding) (sound : IsSound h)
 
 module _ (means : Means) (params : List Value) (st : State) (snap : Snapshot) (is : IsSeen st snap) where
   pub query_seen : (q : Query) → ShowsQuery means params q st snap
-  query_seen q = λ most limit. λ i. answer (meaning most means params) (query q) (tables_are st snap is q.joined i)
+  query_seen q = λ regard limit. λ i. answer (regarded regard means params) (query q) (tables_are st snap is q.joined i)
 
   pub update_seen : (u : Update) → ShowsUpdate means params u st snap
   update_seen u = record {

@@ -25,7 +25,7 @@ use Rattle.cr_scalar.specs.Host.{Host as Means}
 use Rattle.cr_query.specs.Query.{Row, answer}
 use Rattle.cr_query.specs.Writes.{by_key, wanted_by_delete, wanted_by_update}
 use Rattle.cr_meaning.specs.View as view
-use Rattle.cr_meaning.specs.Meaning.{meaning}
+use Rattle.cr_meaning.specs.Meaning.{Regard, regarded}
 use Rattle.cr_exec.specs.Answers.{Faults, IsMeant, Stage}
 use Rattle.cr_replica.specs.declared.snapshot.Listing.{Listing}
 use Rattle.cr_replica.specs.declared.snapshot.Snapshot.{Snapshot}
@@ -119,7 +119,7 @@ module _ (h : Holding) (pending : Option (List Change)) (tables : List (List ℕ
       λ i. rows_alike (name_of j) there (not_changes tables (name_of j) other there) i ∷ tables_alike other js (λ k m. each k (inr m)) i
 
   pub query_of_tables : (means : Means) (params : List Value) (q : Query) → names_changes tables ≡ false → ((j : Joined) → Among q.joined j → is_name_of tables (name_of j) ≡ true) → ShowsQuery means params q st snap
-  query_of_tables means params q other each = λ most limit. ap (answer (meaning most means params) (view.query q)) (tables_alike other q.joined each)
+  query_of_tables means params q other each = λ regard limit. ap (answer (regarded regard means params) (view.query q)) (tables_alike other q.joined each)
 
   -- ---- writes
 

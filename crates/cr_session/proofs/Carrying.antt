@@ -14,7 +14,7 @@ use Rattle.cr_host.specs.declared.function.Definition.{Definition}
 use Rattle.cr_scalar.specs.Host.{Host as Means, host as means_of}
 use Rattle.cr_meaning.specs.View.{Ordered}
 use Rattle.cr_query.specs.Query.{Meaning}
-use Rattle.cr_meaning.specs.Meaning.{exact, sized}
+use Rattle.cr_meaning.specs.Meaning.{Regard, exact, regarded, sized}
 use Rattle.cr_resolve.specs.Parameters.{fits}
 use Rattle.cr_resolve.specs.Known.{Known}
 use Rattle.cr_resolve.specs.Resolve.{marked, read, resolved, select_or_mark}
@@ -36,7 +36,7 @@ use Rattle.cr_world.specs.Resolved.{Resolved}
 use Rattle.cr_world.specs.Resolved as world
 use Rattle.cr_world.specs.State.{State, ModuleState, catalog, in_transaction}
 use Rattle.cr_world.specs.Statement as statement
-use Rattle.cr_world.specs.Statement.{Host, Answers, stepped, cause_of, later_cause, rows_of, reply_to, left_by, result_ok, evaluated, causes_of, is_memory, ended, ends, updates_module, ModulesLeave}
+use Rattle.cr_world.specs.Statement.{Host, Answers, IsFound, IsFoundOf, stepped, touches, cause_of, later_cause, rows_of, reply_to, left_by, result_ok, evaluated, causes_of, is_memory, ended, ends, updates_module, ModulesLeave}
 use Rattle.cr_language.specs.Engines.{OrderOf, AreTotal, engine}
 use Rattle.cr_language.specs.Sql.{known as known_in, view, viewed, of_unresolved}
 use Rattle.cr_answer.specs.Allowing.{Allows, IsRefused, known_by}
@@ -45,6 +45,8 @@ use Rattle.cr_world.specs.Refusals.{is_want, of_store}
 use Rattle.cr_script.specs.Hearing.{is_transaction}
 use Rattle.cr_session.specs.Performing.{Performs, Performed, PerformsWith, PerformedWith, Permits, against, is_commit, is_performed, refused, with_limit}
 use Rattle.cr_session.specs.Sessions.{Names, SessionOf, clean, honest, standing, state_of}
+use Rattle.cr_session.proofs.Making.{store_finds}
+use Rattle.cr_session.proofs.Selecting.{found_as}
 use Rattle.cr_session.proofs.Takings.{want_of_store, wanting}
 use Rattle.cr_script.specs.Scripts.{Carries}
 use Rattle.cr_script.specs.Speaking.{spoken}
@@ -169,18 +171,19 @@ module _ {S E : Type 0} (l : Language S E) (host : Host) (at : State) (params : 
 
   -- ---- it is refused
 
-  pub refused_for : (f : Refusal) → Lasts → IsWant f ⊎ Tells (cause_of l host at params x) f → Replies (Err f) at
-  refused_for f lasts told = ((told, refl), ap (λ (b : Bool). cond (is_memory f) at (cond b (ended at) at)) lasts ∙ same_anyhow (is_memory f) false at)
+  pub refused_for : (f : Refusal) → Lasts → IsWant f ⊎ Tells (cause_of l host at params x) f → IsFoundOf l host at params x f → Replies (Err f) at
+  refused_for f lasts told found = ((told, (refl, found)), ap (λ (b : Bool). cond (is_memory f) at (cond b (ended at) at)) lasts ∙ same_anyhow (is_memory f) false at)
 
   -- for want of memory, whatever it is
   pub wants : Replies (Err refusal.Memory) at
-  wants = ((inl (inl refl), refl), refl)
+  wants = ((inl (inl refl), (refl, λ r allowed untouched. tt)), refl)
 
   pub not_resolved : (f : Refusal) → l.resolved (catalog at) host.ask x ≡ Err f → Replies (Err f) at
   not_resolved f e = refused_for f (lasts_unresolved f e) (inr (subst (λ (c : Cause). Tells c f) (sym (cause_is (Err f) (l.fits x (length params)) e refl)) refl))
+      (λ r allowed untouched. absurd (let q : None ≡ Some r = ap result_ok (sym e) ∙ allowed in let z : ⊥ = cc in z))
 
   pub not_fitting : (y : Resolved E) → l.resolved (catalog at) host.ask x ≡ Ok y → l.fits x (length params) ≡ false → Replies (Err refusal.Parameters) at
-  not_fitting y e f = refused_for refusal.Parameters (lasts_unfit y e f) (inr (subst (λ (c : Cause). Tells c refusal.Parameters) (sym (cause_is (Ok y) false e f)) refl))
+  not_fitting y e f = refused_for refusal.Parameters (lasts_unfit y e f) (inr (subst (λ (c : Cause). Tells c refusal.Parameters) (sym (cause_is (Ok y) false e f)) refl)) (λ r allowed untouched. tt)
 
 -- ---- a statement of this project's SQL
 
@@ -202,7 +205,7 @@ pub performs_alone : (means : Means) (params : List Value) (host : Host) (st : S
 performs_alone means params host st v (Ok reply) h pending none p =
     let rows = unwrap_or (with_limit means params host st v) [] in
     (p.0, (p.1.0, (subst (λ (ms : List ModuleState). ModulesLeave (updates_module v) rows ms []) (sym none) tt, p.1.1)))
-performs_alone means params host st v (Err f) h pending none p = p
+performs_alone means params host st v (Err f) h pending none p = (p.0, (p.1.0, λ untouched. p.1.1))
 
 pub performed_alone : {C : Type 0} (means : Means) (params : List Value) (host : Host) (is_honest is_clean : C → Type 0) (holding : C → Holding) (old : SessionOf C) (y : Answered) (result : Result Reply Refusal) (new : SessionOf C)
     → Performed means params host (honest is_honest) (clean is_clean) (standing holding) old y result new → PerformedWith means params host (honest is_honest) (clean is_clean) (standing holding) old y result new
@@ -212,7 +215,8 @@ performed_alone means params host is_honest is_clean holding old y result new d 
 }
 
 module _ (l : Language Statement Ordered) (means : Means) (params : List Value) (host : Host) (st : State) (x : Statement) (y : Answered)
-    (e : l.resolved (catalog st) host.ask x ≡ Ok (view y)) (f : l.fits x (length params) ≡ true) (ex : l.exact params ≡ exact means params) (sz : l.sized params ≡ sized means params) where
+    (e : l.resolved (catalog st) host.ask x ≡ Ok (view y)) (f : l.fits x (length params) ≡ true) (ex : l.exact params ≡ exact means params) (sz : l.sized params ≡ sized means params)
+    (under : (g : Regard) → l.regarded g params ≡ regarded g means params) where
   against_is : cause_of l host st params x ≡ against means params host st (view y)
   against_is = cause_is l host st params x (Ok (view y)) true e f ∙ (λ i. first_cause (causes_of host st (view y) (evaluated (ex i) st (view y)) (evaluated (sz i) st (view y))))
 
@@ -236,7 +240,17 @@ module _ (l : Language Statement Ordered) (means : Means) (params : List Value) 
     ap (λ (o : Result (Resolved Ordered) Refusal). option_map_or (λ r. left_by st r (rows_of l host st params r) new.modules) (result_ok o) st) e
         ∙ (λ i. left_by st (view y) (unwrap_or (evaluated (sz i) st (view y)) []) new.modules) ∙ sym p.1.1.1,
   )
-  replies_performed (Err g) new p = ((subst (λ (c : Cause). IsWant g ⊎ Tells c g) (sym against_is) p.0, ap (λ (s : State). s.modules) p.1 ∙ refused_modules st (view y) g), ends_so g ∙ sym p.1)
+  replies_performed (Err g) new p = (
+    (subst (λ (c : Cause). IsWant g ⊎ Tells c g) (sym against_is) p.0, (ap (λ (s : State). s.modules) p.1.0 ∙ refused_modules st (view y) g, found)),
+    ends_so g ∙ sym p.1.0,
+  ) where
+    found : IsFoundOf l host st params x g
+    found r allowed untouched =
+        let same : Some (view y) ≡ Some r = ap result_ok (sym e) ∙ allowed in
+        let is : view y ≡ r = cc in
+        subst (λ (v : Resolved Ordered). IsFound (λ g. l.regarded g params) st v g) is
+        (found_as (λ g. regarded g means params) (λ g. l.regarded g params) st st (view y) (λ g. ap (λ (m : Meaning Ordered). evaluated m st (view y)) (under g)) g
+        (p.1.1 (ap (touches st.modules) is ∙ untouched)))
 
 module _ {C : Type 0} (function_of : List ℕ → ℕ → Option Definition) (scalar : ℕ → List Value → Result Value (List ℕ)) (step : ℕ → Value → List Value → Result Value (List ℕ)) (finish : ℕ → Value → Result Value (List ℕ))
     (order_of : OrderOf) (total : AreTotal order_of) (has named : List ℕ → Bool) (names : has ≡ named) (under : Host) (is_honest is_clean : C → Type 0) (stands : C → State) (params : List Value) where
@@ -294,6 +308,10 @@ module _ {C : Type 0} (function_of : List ℕ → ℕ → Option Definition) (sc
   unfolding spoken
   limited = refl
 
+  regards : (g : Regard) → language.regarded g params ≡ regarded g means params
+  unfolding spoken
+  regards g = refl
+
   -- ---- it may not be carried out
 
   refused_told : (st : State) (snap : Snapshot) (x : Statement) (f : Refusal) → Agrees st snap x
@@ -348,7 +366,8 @@ module _ {C : Type 0} (function_of : List ℕ → ℕ → Option Definition) (sc
     leaves = λ clean. (replied clean).1;
   } where
     replied : is_clean new → Replies language under (stands old) params x (Err f) (stands new)
-    replied clean = subst (Replies language under (stands old) params x (Err f)) (sym (reads clean).same) (refused_for language under (stands old) params x f (lasts (stands old) x other) (inl (subst IsWant (sym told) (wanting e (reads clean).names))))
+    replied clean = subst (Replies language under (stands old) params x (Err f)) (sym (reads clean).same) (refused_for language under (stands old) params x f (lasts (stands old) x other) (inl (subst IsWant (sym told) (wanting e (reads clean).names)))
+        (λ r allowed untouched. subst (IsFound (λ g. language.regarded g params) (stands old) r) (sym told) (store_finds (λ g. language.regarded g params) (stands old) r e)))
 
   -- ---- it is carried out as what it is once its names are resolved
 
@@ -358,7 +377,7 @@ module _ {C : Type 0} (function_of : List ℕ → ℕ → Option Definition) (sc
     replied : is_clean new → Replies language under (stands old) params x result (stands new)
     replied clean =
         let first = reads (done.device.was_clean clean) in
-        replies_performed language means params under (stands old) x y (resolves (stands old) snap x first.names ∙ ap viewed allows.0) (counts x ∙ allows.1) exactly limited
+        replies_performed language means params under (stands old) x y (resolves (stands old) snap x first.names ∙ ap viewed allows.0) (counts x ∙ allows.1) exactly limited regards
         result (stands new) (subst (λ (st : State). PerformsWith means params under st (view y) result (stands new)) first.same (done.performs clean))
 
     pub carries_performed : (is_honest middle → is_honest old) → (is_clean middle → is_clean old) → (is_honest middle → is_clean old → is_clean middle) → Does old x result new
@@ -375,7 +394,7 @@ module _ {C : Type 0} (function_of : List ℕ → ℕ → Option Definition) (sc
     transacted permits clean =
         let y : Answered = permits.0 in
         let same : y ≡ z = (judged_left (known_by function_of named order_of snap) under.ask x y permits.1.0).0 ∙ is under.ask (known_by function_of named order_of snap) in
-        replies_performed language means params under (stands old) x z (transacts (stands old) snap x of ∙ ap viewed (permits.1.0 ∙ ap Ok same)) (counts x ∙ permits.1.1) exactly limited
+        replies_performed language means params under (stands old) x z (transacts (stands old) snap x of ∙ ap viewed (permits.1.0 ∙ ap Ok same)) (counts x ∙ permits.1.1) exactly limited regards
         result (stands new) (done.performs clean)
 
     pub carries_transacted : Permits (known_by function_of named order_of snap) under.ask x (length params) (Ok tt) → Does old x result new

@@ -19,8 +19,9 @@ use Rattle.cr_query.specs.Writes.{wanted_by_insert, wanted_by_update, wanted_by_
 use Rattle.cr_query.proofs.Refining.{Gains}
 use Rattle.cr_meaning.specs.View.{Ordered}
 use Rattle.cr_scalar.specs.Meaning.{byte_limit}
-use Rattle.cr_meaning.specs.Meaning.{exact, sized, strict}
+use Rattle.cr_meaning.specs.Meaning.{exact, regarded, sized, strict}
 use Rattle.cr_exec.specs.Answers.{IsMeant, Stage}
+use Rattle.cr_exec.proofs.Stages.{misses}
 use Rattle.cr_world.specs.declared.command.Reply.{Reply}
 use Rattle.cr_world.specs.declared.command.Reply.TheVariants.{Done}
 use Rattle.cr_world.specs.declared.refusal.Refusal.{Refusal}
@@ -31,10 +32,10 @@ use Rattle.cr_world.specs.Resolved as world
 use Rattle.cr_world.specs.State.{State, in_transaction, now, other_rows, rows_named, rows_or}
 use Rattle.cr_world.specs.Statement.{Host, adding, causes_of, ended, evaluated, evaluation_cause, is_memory, left_by, not_yet, reply_to}
 use Rattle.cr_changed.specs.Changed.{Leads, IsRefused, Stands, changes_to}
-use Rattle.cr_session.specs.Performing.{AreAdded, Performs, adding_cause, against, commit_cause, is_commit, refused, with_limit, without_limit}
+use Rattle.cr_session.specs.Performing.{AreAdded, IsFound, Performs, adding_cause, against, commit_cause, is_commit, refused, with_limit, without_limit}
 use Rattle.cr_session.specs.Sessions.{state_of}
 use Rattle.cr_session.proofs.Making.{told_first, told_then}
-use Rattle.cr_session.proofs.Selecting.{fault_told}
+use Rattle.cr_session.proofs.Selecting.{counts, fault_told, meant_finds}
 
 -- ---- causes of a write, one behind the other
 
@@ -196,6 +197,10 @@ module _ (means : Means) (params : List Value) (host : Host) (st : State) (def :
           rows_cause ∙ (λ i. or_else (long_is false short i) (or_else (where_is (lacks_value def out) false refusal.NotNull whole i) (or_else (where_is (has_twice def out) false refusal.PrimaryKey once i)
           (or_else (where_is (passes_limit more) false refusal.VersionLimit within i) (adding_cause host st more)))))
 
+      -- and nothing is told of an evaluation
+      meant : (r : Refusal) → IsFound means params host st x r
+      meant r = meant_finds means params host st x out (evaluated_is (sized means params) ∙ both.under (strict byte_limit) (inr refl)) r
+
       -- a write with those changes
       makes : (changes : List Change) (result : Result Reply Refusal) (new : State) → changes ≡ more → has_long_key def out ≡ false → lacks_value def out ≡ false → has_twice def out ≡ false → passes_limit more ≡ false
           → AreAdded host st changes result new → Performs means params host st x result new
@@ -208,17 +213,20 @@ module _ (means : Means) (params : List Value) (host : Host) (st : State) (def :
 
         done : (result : Result Reply Refusal) → AreAdded host st more result new → Performs means params host st x result new
         done (Ok reply) a = (sym same ∙ a.0, (a.1.0 ∙ sym (is.replies (unwrap_or (with_limit means params host st x) [])), a.1.1 ∙ leaves))
-        done (Err r) a = (subst (λ (c : Cause). IsWant r ⊎ Tells c r) same a.0, a.1 ∙ sym (lasts r))
+        done (Err r) a = (subst (λ (c : Cause). IsWant r ⊎ Tells c r) same a.0, (a.1 ∙ sym (lasts r), meant r))
 
     -- a write that is refused before its changes are added
     pub refuses_write : (r : Refusal) → Gains (stage (sized means params)) (stage (exact means params)) → IsRefused means params def st.holding.site (now st) stage r → Performs means params host st x (Err r) st
-    refuses_write r gains (inl e) = (inl (inl e), sym (lasts r))
+    refuses_write r gains (inl e) = (inl (inl e), (sym (lasts r), subst (IsFound means params host st x) (sym e) tt))
     refuses_write r gains (inr (inl (e, is_told, faults))) =
-        (subst (λ (y : Refusal). IsWant y ⊎ Tells (against means params host st x) y) (sym is_told) (first (fault_told (Some def) means params stage gains e faults)), sym (lasts r)) where
+        (subst (λ (y : Refusal). IsWant y ⊎ Tells (against means params host st x) y) (sym is_told) (first (fault_told (Some def) means params stage gains e faults)), (sym (lasts r), found)) where
+          found : IsFound means params host st x r
+          found = subst (IsFound means params host st x) (sym is_told) (counts means params host st x e (λ g c. evaluated_is (regarded g means params) ∙ misses means params stage e faults g c))
+
           first : {y : Refusal} → IsWant y ⊎ Tells (evaluation_cause (Some def) (stage (exact means params)) (stage (sized means params))) y → IsWant y ⊎ Tells (against means params host st x) y
           first (inl w) = inl w
           first {y} (inr t) = inr (subst (λ (c : Cause). Tells c y) (sym cause_is) (told_first _ _ y t))
-    refuses_write r gains (inr (inr (out, both, stands))) = (inr (stands_told out both r stands), sym (lasts r))
+    refuses_write r gains (inr (inr (out, both, stands))) = (inr (stands_told out both r stands), (sym (lasts r), meant out both r))
 
     -- a write whose changes are added, or refused as they are
     pub performs_write : (changes : List Change) (result : Result Reply Refusal) (new : State) (leads : Leads means params def st.holding.site (now st) stage changes)

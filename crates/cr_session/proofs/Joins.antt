@@ -22,7 +22,7 @@ use Rattle.cr_scalar.specs.Host.{Host as Means}
 use Rattle.cr_query.specs.Query.{Row, answer}
 use Rattle.cr_meaning.specs.View.{Ordered}
 use Rattle.cr_meaning.specs.View as view
-use Rattle.cr_meaning.specs.Meaning.{IsLimit, meaning, strict}
+use Rattle.cr_meaning.specs.Meaning.{IsLimit, Regard, regarded}
 use Rattle.cr_snapshot.specs.Seen.{name_of}
 use Rattle.cr_taken.specs.Taken.{AreKept, Replicates}
 use Rattle.cr_taken.proofs.Tables.{in_profile, kept_well_formed}
@@ -154,18 +154,18 @@ module _ (means : Means) (params : List Value) (q : Query) (h : Holding) (sound 
   abbrev shown : Joined → List Row
   shown j = rows_named st (name_of j)
 
-  abbrev over : Option ℕ → List (List Row) → Option (List Row)
-  over most ts = answer (meaning most means params) (view.query q) ts
+  abbrev over : Regard → List (List Row) → Option (List Row)
+  over regard ts = answer (regarded regard means params) (view.query q) ts
 
   -- the first tables of a query have these rows, of which it answers alike
   pub record SoFar (i base : ℕ) (ps : List Partner) (ts : List (List Row)) : Type 0 where
     pub base_is : base ≡ widths (take i q.joined)
     pub partners_are : ps ≡ partners (take i q.joined) ts
     pub wide : AreWide (take i q.joined) ts
-    pub alike : (most : Option ℕ) → IsLimit most → over most (map shown q.joined) ≡ over most (ts ++ map shown (drop i q.joined))
+    pub alike : (regard : Regard) → IsLimit regard.most → over regard (map shown q.joined) ≡ over regard (ts ++ map shown (drop i q.joined))
 
   pub at_first : (ps : List Partner) → ps ≡ no_row ∷ [] → SoFar 0 0 ps []
-  at_first ps e = record { base_is = refl; partners_are = e; wide = tt; alike = λ most limit. refl }
+  at_first ps e = record { base_is = refl; partners_are = e; wide = tt; alike = λ regard limit. refl }
 
   module _ (i base : ℕ) (ps : List Partner) (ts : List (List Row)) (so_far : SoFar i base ps ts) (within : i < length q.joined) (j : Joined) (at : j ≡ get_or q.joined i j)
       (found : List Row) (finds : IsFoundIn params st h.tables q j base ps found) where
@@ -215,32 +215,32 @@ module _ (means : Means) (params : List Value) (q : Query) (h : Holding) (sound 
     key_in_order keys = λ k x. list_any-set_of bytes_total bytes_exact (same_bytes x) keys k
 
     told_alike : (keys : List (List ℕ)) → t.is_replicated ≡ true → IsTold params q j t.definition base ps keys → found ≡ rows (part (name_of j) (is_key_of keys) (now st)) t.definition
-        → (most : Option ℕ) → IsLimit most → over most (ts ++ (shown j ∷ map shown after)) ≡ over most (ts ++ (found ∷ map shown after))
-    told_alike keys r told f most limit =
+        → (regard : Regard) → IsLimit regard.most → over regard (ts ++ (shown j ∷ map shown after)) ≡ over regard (ts ++ (found ∷ map shown after))
+    told_alike keys r told f regard limit =
         let def = t.definition in
         let there = is_replicated_table r in
         let keyed : has_key def ≡ true = (in_profile h.tables (now st) def are there).key in
         let kept_of_it : AreKeptOf def (now st) = record { unbeaten = are.unbeaten; well_formed = kept_well_formed h.tables (now st) def are there } in
-        ap (λ (rs : List Row). over most (ts ++ (rs ∷ map shown after)))
+        ap (λ (rs : List Row). over regard (ts ++ (rs ∷ map shown after)))
         (all_rows ∙ ap (λ (b : Bool). if b then rows (now st) def else []) r)
         ∙ elim told.told [
           | inl b ↦
-              joins_by_keys means params (strict most) def q before j after ts (now st) (map shown after) b.0 told.given is.bytes keyed kept_of_it whole is.safe so_far.wide b.1
+              joins_by_keys means params regard def q before j after ts (now st) (map shown after) b.0 told.given is.bytes keyed kept_of_it whole is.safe so_far.wide b.1
               ((λ k. keys_told b.0 (sym so_far.base_is k) (sym so_far.partners_are k)) ∙ b.2)
           | inr l ↦
-              joins_by_list means params (strict most) def q before j after ts (now st) (map shown after) told.given limit is.bytes keyed kept_of_it whole l.1 so_far.wide l.0
+              joins_by_list means params regard def q before j after ts (now st) (map shown after) told.given limit is.bytes keyed kept_of_it whole l.1 so_far.wide l.0
               (ap (λ (n : ℕ). listed_keys n def params q.filter) (sym so_far.base_is) ∙ l.2)
         ]
-        ∙ ap (λ (rs : List Row). over most (ts ++ (rs ∷ map shown after)))
+        ∙ ap (λ (rs : List Row). over regard (ts ++ (rs ∷ map shown after)))
         ((λ k. rows (part (of_name k) (sym (key_in_order told.given) k) (now st)) def) ∙ ap (λ (ks : List (List ℕ)). rows (part (name_of j) (is_key_of ks) (now st)) def) (sym told.are) ∙ sym f) where
           keys_told : List Expr → ℕ → List Partner → Option (List (List ℕ))
           keys_told terms n qs = joined_keys n t.definition params terms qs
 
-    one_alike : (most : Option ℕ) → IsLimit most → over most (ts ++ (shown j ∷ map shown after)) ≡ over most (ts ++ (found ∷ map shown after))
-    one_alike most limit = by (finds t table.1) where
-      by : IsFound params st q j base ps t found → over most (ts ++ (shown j ∷ map shown after)) ≡ over most (ts ++ (found ∷ map shown after))
-      by (inl all) = ap (λ (rs : List Row). over most (ts ++ (rs ∷ map shown after))) (all_rows ∙ sym all)
-      by (inr k) = told_alike k.1 k.0 k.2 k.3 most limit
+    one_alike : (regard : Regard) → IsLimit regard.most → over regard (ts ++ (shown j ∷ map shown after)) ≡ over regard (ts ++ (found ∷ map shown after))
+    one_alike regard limit = by (finds t table.1) where
+      by : IsFound params st q j base ps t found → over regard (ts ++ (shown j ∷ map shown after)) ≡ over regard (ts ++ (found ∷ map shown after))
+      by (inl all) = ap (λ (rs : List Row). over regard (ts ++ (rs ∷ map shown after))) (all_rows ∙ sym all)
+      by (inr k) = told_alike k.1 k.0 k.2 k.3 regard limit
 
     pub one_more : SoFar (i + 1) (base + width j) (ps ++ partner base j found) (ts ++ found ∷ [])
     one_more = record {
@@ -250,11 +250,11 @@ module _ (means : Means) (params : List Value) (q : Query) (h : Holding) (sound 
           ∙ ap (λ (qs : List Partner). no_row ∷ qs) (sym (partners_more 0 before j ts found so_far.wide))
           ∙ ap (λ (js : List Joined). partners js (ts ++ found ∷ [])) (sym taken);
       wide = subst (λ (js : List Joined). AreWide js (ts ++ found ∷ [])) (sym taken) (wide_more before j ts found so_far.wide found_wide);
-      alike = λ most limit.
-          so_far.alike most limit
-          ∙ ap (λ (js : List Joined). over most (ts ++ map shown js)) left
-          ∙ one_alike most limit
-          ∙ ap (over most) (sym (append_assoc ts (found ∷ []) (map shown after)));
+      alike = λ regard limit.
+          so_far.alike regard limit
+          ∙ ap (λ (js : List Joined). over regard (ts ++ map shown js)) left
+          ∙ one_alike regard limit
+          ∙ ap (over regard) (sym (append_assoc ts (found ∷ []) (map shown after)));
     } where
       placed : base ≡ 0 + widths before
       placed = so_far.base_is ∙ sym (zero-add (widths before))
@@ -268,17 +268,17 @@ module _ (means : Means) (params : List Value) (q : Query) (h : Holding) (sound 
 
   -- all tables
   pub all_alike : (i base : ℕ) (ps : List Partner) (ts : List (List Row)) → SoFar i base ps ts → length q.joined ≤ i → Suffice means params q st ts
-  all_alike i base ps ts so_far past = λ most limit.
-      names_alike most q.joined
-      ∙ so_far.alike most limit
-      ∙ ap (λ (js : List Joined). over most (ts ++ map shown js)) (drop_all i q.joined past)
-      ∙ ap (over most) (append-nil ts) where
+  all_alike i base ps ts so_far past = λ regard limit.
+      names_alike regard q.joined
+      ∙ so_far.alike regard limit
+      ∙ ap (λ (js : List Joined). over regard (ts ++ map shown js)) (drop_all i q.joined past)
+      ∙ ap (over regard) (append-nil ts) where
         names : (js : List Joined) → tables_named st (map name_of js) ≡ map shown js
         names [] = refl
         names (j ∷ js) = ap (λ (ts : List (List Row)). shown j ∷ ts) (names js)
 
-        names_alike : (most : Option ℕ) (js : List Joined) → over most (tables_named st (map name_of js)) ≡ over most (map shown js)
-        names_alike most js = ap (over most) (names js)
+        names_alike : (regard : Regard) (js : List Joined) → over regard (tables_named st (map name_of js)) ≡ over regard (map shown js)
+        names_alike regard js = ap (over regard) (names js)
 
 -- ---- what a reading finds
 

@@ -7,6 +7,7 @@ use Rattle.cr_cells.specs.Calls as calls
 use Rattle.cr_cells.specs.Holding.{Holding}
 use Rattle.cr_term.specs.declared.query.Resolved.{Resolved}
 use Rattle.cr_scalar.specs.Host.{Host as Means}
+use Rattle.cr_meaning.specs.Meaning.{regarded}
 use Rattle.cr_language.specs.Sql.{view}
 use Rattle.cr_world.specs.declared.command.Reply.{Reply}
 use Rattle.cr_world.specs.declared.refusal.Refusal.{Refusal}
@@ -14,9 +15,9 @@ use Rattle.cr_world.specs.Refusals.{is_want, of_store}
 use Rattle.cr_world.specs.Causes.{IsWant}
 use Rattle.cr_world.specs.State.{State, in_transaction}
 use Rattle.cr_world.specs.Statement.{Host, ended, is_memory}
-use Rattle.cr_session.specs.Performing.{Performed, Performs, is_commit}
+use Rattle.cr_session.specs.Performing.{IsFound, Performed, Performs, is_commit}
 use Rattle.cr_session.specs.Sessions.{SessionOf, clean, honest, standing}
-use Rattle.cr_session.proofs.Making.{still}
+use Rattle.cr_session.proofs.Making.{still, store_finds}
 use Rattle.cr_session.proofs.Takings.{want_of_store, wanting}
 
 module _ {C : Type 0} (means : Means) (params : List Value) (host : Host) (is_honest is_clean : C → Type 0) (holding : C → Holding) (old middle : SessionOf C) (x : Resolved)
@@ -47,6 +48,9 @@ module _ {C : Type 0} (means : Means) (params : List Value) (host : Host) (is_ho
     device = record { was_honest = honest_was; was_clean = was; stays_clean = λ honest clean want. stays honest clean (sym (want_of_store e) ∙ ap is_want (sym told) ∙ want) };
     performs = λ clean. (
       inl (subst IsWant (sym told) (wanting e (is clean))),
-      same clean ∙ sym (ap (λ (b : Bool). cond (b && (in_transaction here && not (is_memory f))) (ended here) here) lasts),
+      (
+        same clean ∙ sym (ap (λ (b : Bool). cond (b && (in_transaction here && not (is_memory f))) (ended here) here) lasts),
+        subst (IsFound means params host here (view x)) (sym told) (store_finds (λ g. regarded g means params) here (view x) e),
+      ),
     );
   }

@@ -10,6 +10,7 @@ use Rattle.cr_lattice.specs.declared.table.Table.{Table}
 use Rattle.cr_lattice.specs.Check.{same_bytes}
 use Rattle.cr_lattice.specs.Profile.{lacks_default}
 use Rattle.cr_cells.specs.declared.store.CellsError.{CellsError}
+use Rattle.cr_cells.specs.declared.store.CellsError.TheVariants as cells
 use Rattle.cr_cells.specs.Calls.{Defines, UnlessWant}
 use Rattle.cr_cells.specs.Calls as calls
 use Rattle.cr_cells.specs.Holding.{Holding, IsSound}
@@ -23,6 +24,9 @@ use Rattle.cr_term.specs.declared.query.MarkReplicated.{MarkReplicated}
 use Rattle.cr_term.specs.declared.query.Resolved.{Resolved}
 use Rattle.cr_term.specs.declared.query.Resolved.TheVariants as r
 use Rattle.cr_scalar.specs.Host.{Host as Means}
+use Rattle.cr_query.specs.Query.{Meaning}
+use Rattle.cr_meaning.specs.View.{Ordered}
+use Rattle.cr_meaning.specs.Meaning.{Regard, regarded}
 use Rattle.cr_language.specs.Sql.{target, target_by, module_target, view}
 use Rattle.cr_world.specs.declared.command.Reply.{Reply}
 use Rattle.cr_world.specs.declared.command.Reply.TheVariants.{Done}
@@ -31,11 +35,12 @@ use Rattle.cr_world.specs.declared.refusal.Refusal.TheVariants as refusal
 use Rattle.cr_world.specs.Refusals.{is_want, of_store}
 use Rattle.cr_world.specs.Causes.{Cause, Free, Is, Evaluation, IsWant, Tells, or_else, of_option, where_true}
 use Rattle.cr_world.specs.Resolved as world
-use Rattle.cr_world.specs.State.{State, catalog, changes_name, name_of}
-use Rattle.cr_world.specs.Statement.{Host, ended, marked_reply, no_default, not_a_table, column_name, with_tables}
+use Rattle.cr_world.specs.State.{State, catalog, changes_name, in_transaction, name_of}
+use Rattle.cr_world.specs.Statement.{Host, ended, is_memory, marked_reply, no_default, not_a_table, column_name, with_tables}
+use Rattle.cr_world.specs.Statement as statement
 use Rattle.cr_fit.specs.Suited.{HasRelation, FitsIn}
 use Rattle.cr_fit.proofs.Adding.{new_column}
-use Rattle.cr_session.specs.Performing.{Passes, Performs, Performed, against, is_commit, is_table}
+use Rattle.cr_session.specs.Performing.{IsFound, Passes, Performs, Performed, against, is_commit, is_table, refused}
 use Rattle.cr_session.specs.Sessions.{clean, honest, standing, state_of}
 use Rattle.cr_session.proofs.Selecting.{or_free}
 use Rattle.cr_session.proofs.Takings.{want_of_store, wanting}
@@ -65,6 +70,12 @@ untouched means params host is_honest is_clean stands old x result p = record {
   performs = p;
 }
 
+-- what is told of a store is told of no evaluation
+pub store_finds : (under : Regard → Meaning Ordered) (st : State) (x : world.Resolved Ordered) (e : CellsError) → statement.IsFound under st x (of_store e)
+store_finds under st x cells.Memory = tt
+store_finds under st x (cells.Store f) = tt
+store_finds under st x cells.VersionLimit = tt
+
 -- ---- a definition of a store
 
 module _ {C : Type 0} (means : Means) (params : List Value) (host : Host) (is_honest is_clean : C → Type 0) (holding : C → Holding) (old new : C) (x : Resolved) (wanted : Holding)
@@ -83,7 +94,13 @@ module _ {C : Type 0} (means : Means) (params : List Value) (host : Host) (is_ho
       → Does (Err f)
   not_defined e f told lasts stays defines = record {
     device = record { was_honest = honest_was; was_clean = was; stays_clean = λ honest clean want. stays honest clean (sym (want_of_store e) ∙ ap is_want (sym told) ∙ want) };
-    performs = λ clean. (inl (subst IsWant (sym told) (wanting e (defines clean).1)), ap (λ (h : Holding). state_of h None) (defines clean).0 ∙ sym (ap (λ (b : Bool). cond (b && false) (ended (standing holding (old, None))) (standing holding (old, None))) lasts));
+    performs = λ clean. (
+      inl (subst IsWant (sym told) (wanting e (defines clean).1)),
+      (
+        ap (λ (h : Holding). state_of h None) (defines clean).0 ∙ sym (ap (λ (b : Bool). cond (b && false) (ended (standing holding (old, None))) (standing holding (old, None))) lasts),
+        subst (IsFound means params host (standing holding (old, None)) (view x)) (sym told) (store_finds (λ g. regarded g means params) (standing holding (old, None)) (view x) e),
+      ),
+    );
   }
 
 pub none_is : {X : Type 0} (o : Option X) → is_some o ≡ false → o ≡ None
@@ -129,6 +146,22 @@ module_told d = module_told_by d (same_bytes d.name changes_name) refl
 pub module_refused : (x : Relation) (at : ℕ) (name : List ℕ) → x.held ≡ held.Module at → name ≡ x.definition.name → Passes (not_a_table (target x)) (Err (refusal.ReadOnly name))
 module_refused x at name e same =
     inr (subst (λ (c : Cause). Tells c (refusal.ReadOnly name)) (sym (ap (λ (place : Held). not_a_table (target_by place x.definition)) e ∙ module_told x.definition)) (ap refusal.ReadOnly same))
+
+-- and where it is judged first, nothing is changed
+pub refuses_module : (means : Means) (params : List Value) (host : Host) (st : State) (x : Relation) (y : world.Resolved Ordered) (rest : Cause) (f : Refusal) → is_commit y ≡ false
+    → against means params host st y ≡ or_else (not_a_table (target x)) rest → Passes (not_a_table (target x)) (Err f) → Performs means params host st y (Err f) st
+refuses_module means params host st x y rest f lasts is passes = by passes where
+  same : st ≡ refused st y f
+  same = sym (ap (λ (b : Bool). cond (b && (in_transaction st && not (is_memory f))) (ended st) st) lasts)
+
+  found : (t : world.Target) → Tells (not_a_table t) f → IsFound means params host st y f
+  found (world.Table d) told = absurd told
+  found world.Changes told = subst (IsFound means params host st y) (sym told) tt
+  found (world.Module name columns) told = subst (IsFound means params host st y) (sym told) tt
+
+  by : Passes (not_a_table (target x)) (Err f) → Performs means params host st y (Err f) st
+  by (inl memory) = (inl (inl memory), (same, subst (IsFound means params host st y) (sym memory) tt))
+  by (inr told) = (inr (subst (λ (c : Cause). Tells c f) (sym is) (told_first (not_a_table (target x)) rest f told)), (same, found (target x) told))
 
 -- the table that a name stands for, by the place of its relation
 abbrev TableIn : Holding → Held → TableDef → Type 0

@@ -17,7 +17,7 @@ use Rattle.cr_term.specs.declared.query.Query.{Query}
 use Rattle.cr_scalar.specs.Host.{Host as Means}
 use Rattle.cr_query.specs.Query.{answer}
 use Rattle.cr_meaning.specs.View.{query}
-use Rattle.cr_meaning.specs.Meaning.{meaning, strict}
+use Rattle.cr_meaning.specs.Meaning.{Regard, regarded}
 use Rattle.cr_replica.specs.declared.snapshot.Snapshot.{Snapshot}
 use Rattle.cr_snapshot.specs.Seen.{name_of, rows_listed, rows_seen}
 use Rattle.cr_touched.proofs.Sets.{filter_set}
@@ -85,12 +85,12 @@ module _ (means : Means) (params : List Value) (st : State) (name : List ℕ) (t
   above_rows = filter_map version_place version (since st.holding.cells (pos 0)) refl ∙ ap (map row_of) (above st.holding.cells version is.from_0)
 
   pub query_above : (q : Query) (j : Joined) → q.joined ≡ j ∷ [] → j.is_left ≡ false → name_of j ≡ name → q.filter ≡ terms → ShowsQuery means params q st snap
-  query_above q j one inner named same = λ most limit.
-      let m = meaning most means params in
+  query_above q j one inner named same = λ regard limit.
+      let m = regarded regard means params in
       (λ i. answer m (query q) (tables_named st (map name_of (one i))))
       ∙ (λ i. answer m (query q) (rows_named st (named i) ∷ []))
       ∙ (λ i. answer m (query q) (rows_there i ∷ []))
-      ∙ answers_above means params (strict most) q j (map row_of (since st.holding.cells (pos 0))) version_place version is.bytes one inner (ap (λ ts. lower_bound params ts version_place) same ∙ is.told)
+      ∙ answers_above means params regard q j (map row_of (since st.holding.cells (pos 0))) version_place version is.bytes one inner (ap (λ ts. lower_bound params ts version_place) same ∙ is.told)
       ∙ (λ i. answer m (query q) (above_rows i ∷ []))
       ∙ (λ i. answer m (query q) (sym rows_here i ∷ []))
       ∙ (λ i. answer m (query q) (rows_seen snap (sym named i) ∷ []))

@@ -18,7 +18,7 @@ use Rattle.cr_term.specs.declared.query.Query.{Query}
 use Rattle.cr_scalar.specs.Host.{Host as Means}
 use Rattle.cr_query.specs.Query.{Row, answer}
 use Rattle.cr_meaning.specs.View.{query}
-use Rattle.cr_meaning.specs.Meaning.{IsLimit, meaning}
+use Rattle.cr_meaning.specs.Meaning.{IsLimit, Regard, regarded}
 use Rattle.cr_replica.specs.declared.snapshot.Snapshot.{Snapshot}
 use Rattle.cr_snapshot.specs.Seen.{IsNamed, name_of, rows_listed, rows_seen}
 use Rattle.cr_taken.specs.Taken.{AreKept, Replicates, replicated}
@@ -71,14 +71,14 @@ module _ (h : Holding) (sound : IsSound h) (pending : Option (List Change)) (nam
 
     -- a query that answers over its rows what it answers over all
     pub query_of_one : (means : Means) (params : List Value) (q : Query) (j : Joined) → q.joined ≡ j ∷ [] → name_of j ≡ name
-        → ((most : Option ℕ) → IsLimit most → answer (meaning most means params) (query q) (rows (now st) def ∷ []) ≡ answer (meaning most means params) (query q) (rows kept def ∷ []))
+        → ((regard : Regard) → IsLimit regard.most → answer (regarded regard means params) (query q) (rows (now st) def ∷ []) ≡ answer (regarded regard means params) (query q) (rows kept def ∷ []))
         → ShowsQuery means params q st snap
-    query_of_one means params q j one same alike = λ most limit.
-        let m = meaning most means params in
+    query_of_one means params q j one same alike = λ regard limit.
+        let m = regarded regard means params in
         (λ i. answer m (query q) (tables_named st (map name_of (one i))))
         ∙ (λ i. answer m (query q) (rows_named st (same i) ∷ []))
         ∙ (λ i. answer m (query q) (rows_there i ∷ []))
-        ∙ alike most limit
+        ∙ alike regard limit
         ∙ (λ i. answer m (query q) (sym rows_here i ∷ []))
         ∙ (λ i. answer m (query q) (rows_seen snap (sym same i) ∷ []))
         ∙ (λ i. answer m (query q) (map (λ j. rows_seen snap (name_of j)) (sym one i)))

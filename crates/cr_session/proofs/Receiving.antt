@@ -26,6 +26,7 @@ use Rattle.cr_meaning.specs.Meaning.{exact, sized, strict}
 use Rattle.cr_meaning.proofs.Limits.{refines}
 use Rattle.cr_scalar.specs.declared.fault.EvalFault.{EvalFault}
 use Rattle.cr_exec.specs.Answers.{Faults, IsMeant, Stage}
+use Rattle.cr_exec.proofs.Stages.{misses}
 use Rattle.cr_query.proofs.RefiningWrites.{rows_refine}
 use Rattle.cr_replica.specs.declared.snapshot.Listing.{Listing}
 use Rattle.cr_replica.specs.declared.snapshot.Snapshot.{Snapshot}
@@ -44,11 +45,11 @@ use Rattle.cr_world.specs.Statement.{Host, adding, change_of_row, evaluation_cau
 use Rattle.cr_fit.specs.Suited.{HasHeld, HasRelation}
 use Rattle.cr_received.specs.Received.{AreReceived, IsBad, IsFaulty, IsToldOf, first_bad_in}
 use Rattle.cr_received.proofs.Bad.{told_by_tables}
-use Rattle.cr_session.specs.Performing.{Adds, AreAdded, Performed, Performs, adding_cause, against, is_table, with_limit}
+use Rattle.cr_session.specs.Performing.{Adds, AreAdded, IsFound, Performed, Performs, adding_cause, against, is_table, with_limit}
 use Rattle.cr_session.specs.Sessions.{SessionOf, clean, honest, standing, state_of}
 use Rattle.cr_session.proofs.Changing.{added_to, judged_is, never}
 use Rattle.cr_session.proofs.Making.{told_first, untouched}
-use Rattle.cr_session.proofs.Selecting.{fault_told}
+use Rattle.cr_session.proofs.Selecting.{counts, fault_told, meant_finds}
 
 -- ---- where no module is listed, the table of changes is the only one
 
@@ -120,19 +121,25 @@ module _ (means : Means) (params : List Value) (host : Host) (h : Holding) (pend
     leaves : left_by here (receiving false) (unwrap_or (with_limit means params host here (receiving false)) []) [] ≡ adding (filter_map change_of_row rows) here
     leaves = ap (λ (p : Option (List Row)). left_by here (receiving false) (unwrap_or p []) []) (both.under (strict byte_limit) (inr refl)) ∙ added_to h (filter_map change_of_row rows) pending
 
+    -- nothing is told of an evaluation
+    meant : (f : Refusal) → IsFound means params host here (receiving false) f
+    meant f = meant_finds means params host here (receiving false) rows (both.under (strict byte_limit) (inr refl)) f
+
     performs_received : (changes : List Change) (result : Result Reply Refusal) (new : State) → changes ≡ filter_map change_of_row rows → first_bad here rows ≡ None
         → AreAdded host here changes result new → Performs means params host here (receiving false) result new
     performs_received changes result new e good c = done result (subst (λ (cs : List Change). AreAdded host here cs result new) e c) where
       done : (result : Result Reply Refusal) → AreAdded host here (filter_map change_of_row rows) result new → Performs means params host here (receiving false) result new
       done (Ok reply) a = (good_cause good ∙ a.0, (a.1.0, a.1.1 ∙ sym leaves))
-      done (Err f) a = (subst (λ (c : Cause). IsWant f ⊎ Tells c f) (sym (good_cause good)) a.0, a.1)
+      done (Err f) a = (subst (λ (c : Cause). IsWant f ⊎ Tells c f) (sym (good_cause good)) a.0, (a.1, meant f))
 
   first_told : (f : Refusal) → IsWant f ⊎ Tells (evaluation_cause None (brought (exact means params)) (brought (sized means params))) f → IsWant f ⊎ Tells (against means params host here (receiving false)) f
   first_told f (inl want) = inl want
   first_told f (inr t) = inr (subst (λ (c : Cause). Tells c f) (sym cause_is) (told_first (evaluation_cause None (brought (exact means params)) (brought (sized means params))) _ f t))
 
   faulty : (f : Refusal) (e : EvalFault) → f ≡ of_fault e → Faults means params brought e → Performs means params host here (receiving false) (Err f) here
-  faulty f e told faults = (first_told f (subst (λ (y : Refusal). IsWant y ⊎ Tells (evaluation_cause None (brought (exact means params)) (brought (sized means params))) y) (sym told) (fault_told None means params brought brought_gains e faults)), refl)
+  faulty f e told faults = (first_told f (subst (λ (y : Refusal). IsWant y ⊎ Tells (evaluation_cause None (brought (exact means params)) (brought (sized means params))) y) (sym told) (fault_told None means params brought brought_gains e faults)), (refl, found)) where
+      found : IsFound means params host here (receiving false) f
+      found = subst (IsFound means params host here (receiving false)) (sym told) (counts means params host here (receiving false) e (misses means params brought e faults))
 
 -- ---- of a session
 
@@ -162,13 +169,14 @@ module _ {C : Type 0} (means : Means) (params : List Value) (host : Host) (is_ho
   brought_by b m = inserted_rows m changes_columns (record { places = (insert i).places; tuples = (insert i).tuples; is_ignored = b })
 
   refused_so : is_clean old.0 → (f : Refusal) → i.is_ignored ≡ false → (f ≡ refusal.Memory) ⊎ (IsFaulty means params snap.tables i f ⊎ IsBad means params snap.tables i f) → Does false (Err f) at
-  refused_so clean f ig (inl memory) = (inl (inl memory), refl)
+  refused_so clean f ig (inl memory) = (inl (inl memory), (refl, subst (IsFound means params host at (world.Insert world.Changes (record { places = (insert i).places; tuples = (insert i).tuples; is_ignored = false }))) (sym memory) tt))
   refused_so clean f ig (inr (inl (fault, told, faults))) =
       faulty means params host (holding old.0) old.1 (insert i) f fault told (subst (λ (b : Bool). Faults means params (brought_by b) fault) ig faults)
   refused_so clean f ig (inr (inr bad)) = by_first bad.first where
     by_first : IsToldOf (first_bad_in snap.tables bad.rows) f → Does false (Err f) at
     by_first (b, is, told) =
-        (inr (bad_told means params host (holding old.0) old.1 (insert i) bad.rows (subst (λ (b : Bool). IsMeant means params (brought_by b) bad.rows) ig bad.brought) b f (bad_is clean bad.rows ∙ is) told), refl)
+        (inr (bad_told means params host (holding old.0) old.1 (insert i) bad.rows (subst (λ (b : Bool). IsMeant means params (brought_by b) bad.rows) ig bad.brought) b f (bad_is clean bad.rows ∙ is) told),
+        (refl, subst (IsFound means params host at (world.Insert world.Changes (record { places = (insert i).places; tuples = (insert i).tuples; is_ignored = false }))) (sym told) tt))
 
   pub receive_refused : (f : Refusal) → i.is_ignored ≡ false → (f ≡ refusal.Memory) ⊎ (IsFaulty means params snap.tables i f ⊎ IsBad means params snap.tables i f) → Performed means params host (honest is_honest) (clean is_clean) (standing holding) old (r.Insert i) (Err f) old
   receive_refused f ig l = untouched means params host (honest is_honest) (clean is_clean) (standing holding) old (r.Insert i) (Err f) (λ clean. as_insert false (Err f) at ig (refused_so clean f ig l))

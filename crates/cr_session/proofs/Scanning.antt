@@ -15,7 +15,7 @@ use Rattle.cr_term.specs.declared.query.Resolved.TheVariants as r
 use Rattle.cr_scalar.specs.Host.{Host as Means}
 use Rattle.cr_query.specs.Query.{Row, answer}
 use Rattle.cr_meaning.specs.View.{query}
-use Rattle.cr_meaning.specs.Meaning.{Regard, meaning, regarded, strict}
+use Rattle.cr_meaning.specs.Meaning.{Regard, regarded}
 use Rattle.cr_snapshot.specs.Seen.{name_of}
 use Rattle.cr_pushdown.specs.Passing.{passes}
 use Rattle.cr_pushdown.proofs.Answers.{answers_by_passing}
@@ -47,11 +47,11 @@ evaluated_one means params g st name t is q j one named =
 -- a query of the table alone answers over the rows that pass what it answers over all
 query_by_rows : (means : Means) (params : List Value) (st : State) (name : List ℕ) (terms : List Expr) (found : List Row) → ArePassing means params st name terms found
     → (q : Query) (j : Joined) → q.joined ≡ j ∷ [] → j.is_left ≡ false → j.on ≡ [] → name ≡ name_of j → terms ≡ q.filter → Suffice means params q st (found ∷ [])
-query_by_rows means params st name terms found is q j one inner no_on named same = λ most limit.
-    let m = meaning most means params in
+query_by_rows means params st name terms found is q j one inner no_on named same = λ regard limit.
+    let m = regarded regard means params in
     let all : List Row = rows (now st) is.table.definition in
-    evaluated_one means params (strict most) st name is.table is.replicated q j one named
-    ∙ answers_by_passing means params (strict most) limit all q j one inner no_on
+    evaluated_one means params regard st name is.table is.replicated q j one named
+    ∙ answers_by_passing means params regard limit all q j one inner no_on
     ∙ (λ i. answer m (query q) (filter (passes means params (sym same i)) all ∷ []))
     ∙ (λ i. answer m (query q) (sym is.are i ∷ []))
 

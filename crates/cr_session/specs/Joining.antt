@@ -18,7 +18,7 @@ use Rattle.cr_term.specs.declared.query.Resolved.TheVariants as r
 use Rattle.cr_scalar.specs.Host.{Host as Means}
 use Rattle.cr_query.specs.Query.{Row, answer}
 use Rattle.cr_meaning.specs.View as view
-use Rattle.cr_meaning.specs.Meaning.{IsLimit, meaning}
+use Rattle.cr_meaning.specs.Meaning.{IsLimit, Regard, regarded}
 use Rattle.cr_exec.specs.Equalities.{OrdersBytes}
 use Rattle.cr_snapshot.specs.Seen.{name_of}
 use Rattle.cr_touched.specs.Parts.{is_key_of, part}
@@ -84,4 +84,4 @@ pub record Finds {T : Type 0} (is : T → Type 0) (old new : State) (result : Re
 -- a query answers over these rows of its tables what it answers over all that shows there
 abbrev pub Suffice : Means → List Value → Query → State → List (List Row) → Type 0
 Suffice means params q st tables =
-    (most : Option ℕ) → IsLimit most → evaluated (meaning most means params) st (sql.view (r.Select q)) ≡ answer (meaning most means params) (view.query q) tables
+    (regard : Regard) → IsLimit regard.most → evaluated (regarded regard means params) st (sql.view (r.Select q)) ≡ answer (regarded regard means params) (view.query q) tables

@@ -19,7 +19,7 @@ use Rattle.cr_term.specs.declared.query.Resolved.TheVariants as r
 use Rattle.cr_term.specs.declared.query.Update.{Update}
 use Rattle.cr_scalar.specs.Host.{Host as Means}
 use Rattle.cr_query.specs.Query.{Row}
-use Rattle.cr_meaning.specs.Meaning.{IsLimit, meaning}
+use Rattle.cr_meaning.specs.Meaning.{IsLimit, Regard, meaning, regarded}
 use Rattle.cr_exec.specs.Answers.{Stage}
 use Rattle.cr_replica.specs.declared.snapshot.Snapshot.{Snapshot}
 use Rattle.cr_snapshot.specs.Seen.{IsNamed, IsSeen}
@@ -118,9 +118,14 @@ pub record Looks (is : Snapshot → Type 0) (old new : State) (result : Result S
 
 -- ---- what suffices for a statement
 
--- a query answers over the snapshot what it answers over all that shows there, without a limit on values and with it
+-- a query answers over the snapshot what it answers over all that shows there, whatever counts as a fault
 abbrev pub ShowsQuery : Means → List Value → Query → State → Snapshot → Type 0
 ShowsQuery means params q st s =
+    (regard : Regard) → IsLimit regard.most → evaluated (regarded regard means params) st (view (r.Select q)) ≡ answer_seen s q (regarded regard means params)
+
+-- where each fault is one, without a limit on values and with it
+abbrev pub ShowsStrictly : Means → List Value → Query → State → Snapshot → Type 0
+ShowsStrictly means params q st s =
     (most : Option ℕ) → IsLimit most → evaluated (meaning most means params) st (view (r.Select q)) ≡ answer_seen s q (meaning most means params)
 
 -- What a write of a table makes over the snapshot, changes or a refusal, it makes over all that shows there.

@@ -1,6 +1,5 @@
 -- What a session makes of a statement that may be carried out. Source: this project's own.
 use Rattle.std.specs.Prelude.{◌≡◌, ◌⊎◌, ◌&&◌, ℕ, Bool, true, false, not, cond, List, [], ◌∷◌, find, unwrap_or, Option, None, is_some, Result, Ok, Err}
-use Rattle.std.specs.List.{list_any}
 use Rattle.cr_value.specs.declared.value.Value.{Value}
 use Rattle.cr_lattice.specs.declared.change.Change.{Change}
 use Rattle.cr_cells.specs.Calls.{StaysClean, is_past_limit}
@@ -17,7 +16,7 @@ use Rattle.cr_term.specs.declared.query.Resolved.{Resolved}
 use Rattle.cr_term.specs.declared.query.Resolved.TheVariants as r
 use Rattle.cr_scalar.specs.Host.{Host as Means}
 use Rattle.cr_meaning.specs.View.{Ordered}
-use Rattle.cr_meaning.specs.Meaning.{exact, sized}
+use Rattle.cr_meaning.specs.Meaning.{exact, regarded, sized}
 use Rattle.cr_query.specs.Query.{Row}
 use Rattle.cr_language.specs.Sql.{view}
 use Rattle.cr_world.specs.declared.command.Reply.{Reply}
@@ -30,7 +29,8 @@ use Rattle.cr_world.specs.Resolved.{Resolved as Viewed, Target}
 use Rattle.cr_world.specs.Resolved as viewed
 use Rattle.cr_world.specs.State.{State, ModuleState, in_transaction, is_module, table_of}
 use Rattle.cr_world.specs.Takings.{taking}
-use Rattle.cr_world.specs.Statement.{Host, ModulesLeave, adding, causes_of, ended, evaluated, is_memory, is_module_target, left_by, reply_to, updates_module}
+use Rattle.cr_world.specs.Statement.{Host, ModulesLeave, adding, causes_of, ended, evaluated, is_memory, left_by, reply_to, touches, updates_module}
+use Rattle.cr_world.specs.Statement as statement
 
 -- passed where nothing holds; else what holds is told, or there is no memory to tell it
 abbrev pub Passes : Cause → Result (Unit {0}) Refusal → Type 0
@@ -92,17 +92,26 @@ module _ (means : Means) (params : List Value) (host : Host) (st : State) (x : V
   abbrev pub against : Cause
   against = first_cause (causes_of host st x without_limit with_limit)
 
+  -- a fault of evaluation that is told is one that remains
+  abbrev pub IsFound : Refusal → Type 0
+  IsFound f = statement.IsFound (λ g. regarded g means params) st x f
+
   -- it is carried out where nothing holds against it; else the first cause is told, or want
+  abbrev pub Says : Result Reply Refusal → State → Type 0
+  Says (Ok reply) new = (against ≡ Free) × ((reply ≡ reply_to x (unwrap_or with_limit [])) × (new ≡ left_by st x (unwrap_or with_limit []) []))
+  Says (Err f) new = (IsWant f ⊎ Tells against f) × (new ≡ refused st x f)
+
+  -- and a fault of evaluation that is told counts
   abbrev pub Performs : Result Reply Refusal → State → Type 0
-  Performs (Ok reply) new = (against ≡ Free) × ((reply ≡ reply_to x (unwrap_or with_limit [])) × (new ≡ left_by st x (unwrap_or with_limit []) []))
-  Performs (Err f) new = (IsWant f ⊎ Tells against f) × (new ≡ refused st x f)
+  Performs (Ok reply) new = Says (Ok reply) new
+  Performs (Err f) new = (IsWant f ⊎ Tells against f) × ((new ≡ refused st x f) × IsFound f)
 
   -- the same where there are modules: one that takes rows shows what its update says, the others stay
   abbrev pub PerformsWith : Result Reply Refusal → State → Type 0
   PerformsWith (Ok reply) new =
       (against ≡ Free) × ((reply ≡ reply_to x (unwrap_or with_limit [])) × (ModulesLeave (updates_module x) (unwrap_or with_limit []) st.modules new.modules
       × (new ≡ left_by st x (unwrap_or with_limit []) new.modules)))
-  PerformsWith (Err f) new = (IsWant f ⊎ Tells against f) × (new ≡ refused st x f)
+  PerformsWith (Err f) new = (IsWant f ⊎ Tells against f) × ((new ≡ refused st x f) × (touches st.modules x ≡ false → IsFound f))
 
 -- A statement whose names are resolved, with these parameters. It holds where the store is clean after it, as it is where it was
 -- clean before, its device is honest, and there was no want.
@@ -123,19 +132,6 @@ placed ms st = record st { modules = ms }
 -- where it stands beside these modules
 abbrev pub beside : {C : Type 0} → List ModuleState → (C → State) → C → State
 beside ms stands c = placed ms (stands c)
-
--- a module is written to, or a name in FROM is one's
-abbrev pub touches : {E : Type 0} → List ModuleState → Viewed E → Bool
-touches ms (viewed.Select names q) = list_any (λ name. is_some (find (is_module name) ms)) names
-touches ms (viewed.Mark t is_ignored) = is_module_target t
-touches ms (viewed.Insert t w) = is_module_target t
-touches ms (viewed.Update t w) = is_module_target t
-touches ms (viewed.Delete t w) = is_module_target t
-touches ms (viewed.Create def is_there) = false
-touches ms (viewed.Alter t col) = is_module_target t
-touches ms viewed.Begin = false
-touches ms viewed.Commit = false
-touches ms viewed.Rollback = false
 
 -- a table that rows are written to is there
 abbrev pub is_held : State → Target → Bool

@@ -1,6 +1,6 @@
 //! Statements that may be carried out, form by form.
 
-ghost use Rattle.std.specs.Prelude.{◌≡◌, IfOk};
+ghost use Rattle.std.specs.Prelude.{◌≡◌, IfErr, IfOk};
 ghost use Rattle.cr_term.specs.declared.query.Resolved.TheVariants as r;
 ghost use Rattle.cr_language.specs.Sql.{target, view};
 ghost use Rattle.cr_world.specs.Resolved as world;
@@ -12,8 +12,8 @@ ghost use Rattle.cr_world.specs.declared.refusal.Refusal.TheVariants.{NoDefault}
 ghost use Rattle.cr_bags.specs.Bags.{single};
 ghost use Rattle.cr_exec.specs.Combinations.{IsOfOneTable};
 ghost use Rattle.cr_session.specs.Joining.{Suffice};
-ghost use Rattle.cr_session.specs.Lookup.{ShowsQuery};
-ghost use Rattle.cr_session.specs.Performing.{Passes, Performs, not_replicated};
+ghost use Rattle.cr_session.specs.Lookup.{ShowsQuery, ShowsStrictly};
+ghost use Rattle.cr_session.specs.Performing.{IsFound, Passes, Performs, Says, not_replicated};
 
 use crate::filtering::Seen;
 use crate::session::Session;
@@ -136,7 +136,8 @@ pub fn answered<F: Functions>(
     params: &[Value],
 ) -> Result<Reply, Refusal>
     requires { F.is_faithful functions.now }
-    ensures { (host : Host) (st : State) → ShowsQuery (⟦<F as Hosted>⟧.means functions.now) params.now query.now st snapshot.now → Performs (⟦<F as Hosted>⟧.means functions.now) params.now host st (view (r.Select query.now)) result st }
+    ensures says { (host : Host) (st : State) → ShowsStrictly (⟦<F as Hosted>⟧.means functions.now) params.now query.now st snapshot.now → Says (⟦<F as Hosted>⟧.means functions.now) params.now host st (view (r.Select query.now)) result st }
+    ensures finds { (host : Host) (st : State) → ShowsQuery (⟦<F as Hosted>⟧.means functions.now) params.now query.now st snapshot.now → IfErr result (IsFound (⟦<F as Hosted>⟧.means functions.now) params.now host st (view (r.Select query.now))) }
 {
     match answer_view(alloc, functions, snapshot, query, params) {
         Ok(shown) => Ok(Reply::Rows(shown)),

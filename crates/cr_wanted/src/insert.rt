@@ -74,7 +74,7 @@ fn tuples_of(insert: &Insert) -> &[Listed<Expr>]
 /// INSERT brings none, and evaluates nothing.
 ///
 /// # Errors
-/// The fault of an expression, where there are no such rows without a limit on values; `TooBig` where there are none with
+/// The fault of an expression, where there are no such rows whatever values stand for other faults; `TooBig` the same with
 /// the limit of 1,000,000 bytes; `Memory`.
 pub fn inserted_rows<F: Functions>(
     alloc: Global,

@@ -115,7 +115,7 @@ fn updated_each<F: Functions, S: Source>(
 /// are wanted one row is held at a time.
 ///
 /// # Errors
-/// `Eval`: the fault of an expression, where there are no such rows without a limit on values; `TooBig` where there are none
+/// `Eval`: the fault of an expression, where there are no such rows whatever values stand for other faults; `TooBig` the same
 /// with the limit of 1,000,000 bytes; `Memory`. `Store` where the source fails; then nothing is said of the rows.
 pub fn wanted_by_update<F: Functions, S: Source>(
     alloc: Global,

@@ -46,6 +46,7 @@ l = record {
   standing = λ q. [];
   exact = λ g. m;
   sized = λ g. m;
+  regarded = λ regard g. m;
 }
 
 abbrev host : Host

@@ -13,6 +13,7 @@ use Rattle.cr_host.specs.declared.meaning.Auth.{Auth}
 use Rattle.cr_query.specs.Queries.{Query, Joining}
 use Rattle.cr_query.specs.Query.{Row, Meaning, Lawful, Refines, answer}
 use Rattle.cr_query.specs.Plans.{QuietIsSafe, seen}
+use Rattle.cr_meaning.specs.Meaning.{Regard}
 use Rattle.cr_world.specs.declared.refusal.Refusal.{Refusal}
 use Rattle.cr_world.specs.Resolved.{Resolved}
 use Rattle.cr_world.specs.Resolved as r
@@ -56,6 +57,8 @@ pub record Language (S E : Type 0) : Type 0 where
   -- with these parameters, without a limit on values, and with it
   pub exact : List Value → Meaning E
   pub sized : List Value → Meaning E
+  -- the same under each regard, which says what counts as a fault
+  pub regarded : Regard → List Value → Meaning E
 
 -- each row has as many values as its table has columns
 abbrev pub AreWide : {E : Type 0} → List (Joining E) → List (List Row) → Type 0

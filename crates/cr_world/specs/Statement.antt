@@ -1,7 +1,7 @@
 -- One statement: why it is refused, what it replies, and what it leaves. Source: this project's own; what a statement does
 -- is SQLite's, what a write changes is cr-sqlite's.
-use Rattle.std.specs.Prelude.{◌≡◌, ℕ, Bool, true, false, not, ◌&&◌, ◌||◌, ◌⊎◌, cond, length, List, [], ◌∷◌, ◌++◌, position, Option, Some, None, is_some, slice_get, unwrap_or, Result, Ok, Err, codes}
-use Rattle.std.specs.List.{filter_map}
+use Rattle.std.specs.Prelude.{◌≡◌, ℕ, Bool, true, false, not, ◌&&◌, ◌||◌, ◌⊎◌, cond, length, List, [], ◌∷◌, ◌++◌, find, position, Option, Some, None, is_some, slice_get, unwrap_or, Result, Ok, Err, codes}
+use Rattle.std.specs.List.{filter_map, list_any}
 use Rattle.std.specs.Option.{option_map, option_map_or, option_and_then}
 use Rattle.cr_value.specs.declared.value.Value.{Value}
 use Rattle.cr_value.specs.declared.value.Value.TheVariants.{Null, Text}
@@ -19,9 +19,14 @@ use Rattle.cr_cells.specs.Calls.{is_past_limit}
 use Rattle.cr_delta.specs.Delta.{delta, passes_limit}
 use Rattle.cr_replica.specs.ChangeRow.{change_with, text_of, blob_of, integer_of, site_of}
 use Rattle.cr_query.specs.Query.{Row, Meaning, answer}
+use Rattle.cr_scalar.specs.declared.fault.EvalFault.{EvalFault}
+use Rattle.cr_scalar.specs.declared.fault.EvalFault.TheVariants as fault
+use Rattle.cr_scalar.specs.Meaning.{byte_limit}
+use Rattle.cr_meaning.specs.Meaning.{Counts, Regard, strict}
 use Rattle.cr_query.specs.Writes.{inserted_rows, wanted_by_insert, wanted_by_update, wanted_by_delete, has_long_key, lacks_value, has_twice, by_key}
 use Rattle.cr_world.specs.declared.refusal.Refusal.{Refusal}
 use Rattle.cr_world.specs.declared.refusal.Refusal.TheVariants as refusal
+use Rattle.cr_world.specs.declared.refusal.EvalFault.TheVariants as eval
 use Rattle.cr_world.specs.declared.command.Reply.{Reply}
 use Rattle.cr_world.specs.declared.command.Reply.TheVariants.{Rows, Done}
 use Rattle.cr_world.specs.Resolved.{Target, Resolved, Select, Mark, Insert, Update, Delete, Create, Alter, Begin, Commit, Rollback}
@@ -283,6 +288,35 @@ ModulesLeave name rows (m ∷ ms) (n ∷ ns) = ModuleLeaves name rows m n × Mod
 ModulesLeave name rows [] (n ∷ ns) = ⊥
 ModulesLeave name rows (m ∷ ms) [] = ⊥
 
+-- a module is written to, or a name in FROM is one's
+abbrev pub touches : {E : Type 0} → List ModuleState → Resolved E → Bool
+touches ms (Select names q) = list_any (λ name. is_some (find (is_module name) ms)) names
+touches ms (Mark t is_ignored) = is_module_target t
+touches ms (Insert t w) = is_module_target t
+touches ms (Update t w) = is_module_target t
+touches ms (Delete t w) = is_module_target t
+touches ms (Create def is_there) = false
+touches ms (Alter t col) = is_module_target t
+touches ms Begin = false
+touches ms Commit = false
+touches ms Rollback = false
+
+-- ---- which fault is told
+
+module _ {E : Type 0} (under : Regard → Meaning E) (st : State) (r : Resolved E) where
+  -- where it evaluates to nothing it does so wherever this fault counts, whatever stands for others
+  abbrev pub Remains : EvalFault → Type 0
+  Remains f = evaluated (under (strict byte_limit)) st r ≡ None → (g : Regard) → Counts g f → evaluated (under g) st r ≡ None
+
+  -- a fault of evaluation that is told is one that remains
+  abbrev pub IsFound : Refusal → Type 0
+  IsFound (refusal.Eval eval.Overflow) = Remains fault.Overflow
+  IsFound (refusal.Eval eval.NotANumber) = Remains fault.NotANumber
+  IsFound (refusal.Eval eval.NotUtf8) = Remains fault.NotUtf8
+  IsFound (refusal.Eval (eval.Host text)) = Remains (fault.Host text)
+  IsFound refusal.TooBig = Remains fault.TooBig
+  IsFound x = Unit {0}
+
 -- ---- a statement as it was read
 
 module _ {S E : Type 0} (l : Language S E) (host : Host) (st : State) (params : List Value) where
@@ -341,10 +375,14 @@ module _ {S E : Type 0} (l : Language S E) (host : Host) (st : State) (params : 
   abbrev pub left_refused : S → Refusal → State
   left_refused s r = cond (is_memory r) st (cond (ends s) (ended st) st)
 
+  -- a fault of evaluation that is told is one that remains, unless a module is touched: the order of its rows is its own
+  abbrev pub IsFoundOf : S → Refusal → Type 0
+  IsFoundOf s x = (r : Resolved E) → allowed_of s ≡ Some r → touches st.modules r ≡ false → IsFound (λ g. l.regarded g params) st r x
+
   -- the reply may be given, where the modules are these then
   abbrev pub Answers : S → Result Reply Refusal → List ModuleState → Type 0
   Answers s (Ok reply) ms = (cause_of s ≡ Free) × (replied s ≡ Some reply) × modules_leave s ms
-  Answers s (Err r) ms = (IsWant r ⊎ Tells (cause_of s) r) × (ms ≡ st.modules)
+  Answers s (Err r) ms = (IsWant r ⊎ Tells (cause_of s) r) × ((ms ≡ st.modules) × IsFoundOf s r)
 
   abbrev pub stepped : S → Result Reply Refusal → List ModuleState → State
   stepped s (Ok reply) ms = left s ms

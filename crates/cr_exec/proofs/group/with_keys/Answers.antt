@@ -4,7 +4,7 @@ use Rattle.cr_scalar.specs.Host.{host}
 use Rattle.cr_bags.specs.Bags.{each, single}
 use Rattle.cr_exec.specs.Answers.{Faults}
 use Rattle.cr_exec.specs.Groups.{keyed_by, pair_of}
-use Rattle.cr_exec.proofs.Loops.{gather_next, gather_fails, one_behind, none_single}
+use Rattle.cr_exec.proofs.Loops.{gather_ends, gather_next, gather_fails, one_behind, none_single}
 use Rattle.cr_exec.proofs.ByClass.{keyed_both, keyed_fault}
 use Rattle.cr_exec.proofs.group.with_keys.Goals as goal
 
@@ -25,3 +25,8 @@ loop-combination-preserved g c =
     (ap (map pair_of) c.in_ok-push.ensures ∙ map-append pair_of c.loop-combination.out.items _)
     (keyed_both h c.args.params.now c.args.exprs.now c.as_slice.result.now c.combination-item.result c.in_ok-key.key c.as_slice.ensures c.in_ok-key.ensures))
     c.loop-combination.invariant
+
+pub returns : goal.returns
+returns g c =
+    let h = host (g.F.Functions.function_of c.args.functions.now) (g.F.Functions.scalar c.args.functions.now) (g.F.Functions.step c.args.functions.now) (g.F.Functions.finish c.args.functions.now) (g.F.Functions.order_of c.args.functions.now) in
+    gather_ends h c.args.params.now (λ m d. option_map single (keyed_by m c.args.exprs.now d)) (λ m. each (keyed_by m c.args.exprs.now) c.args.combinations.now) c.args.combinations.now c.loop-combination.combination-index (map pair_of c.loop-combination.out.items) c.loop-combination-test.false c.loop-combination.invariant

@@ -4,7 +4,7 @@ use Rattle.cr_bags.specs.Bags.{each, single}
 use Rattle.cr_query.specs.Writes as writes
 use Rattle.cr_meaning.specs.View.{plain}
 use Rattle.cr_exec.specs.Answers.{Faults, IsMeant}
-use Rattle.cr_exec.proofs.Loops.{gather_next, gather_fails, one_behind, none_single}
+use Rattle.cr_exec.proofs.Loops.{gather_ends, gather_next, gather_fails, one_behind, none_single}
 use Rattle.cr_wanted.proofs.insert.inserted_each.Goals as goal
 
 pub loop-tuple-preserved : goal.loop-tuple-preserved
@@ -23,3 +23,8 @@ returns-in_err-row g c =
     (none_single h c.args.params.now (λ m. writes.inserted m c.args.columns.now c.args.places.now (map plain c.tuple-item.result)) c.in_err-row.field-0.0
     (subst (λ t. Faults h c.args.params.now (λ m. writes.inserted m c.args.columns.now c.args.places.now (map plain t)) c.in_err-row.field-0.0) c.as_slice.ensures c.in_err-row.ensures)) c.loop-tuple.invariant in
     search rules
+
+pub returns : goal.returns
+returns g c =
+    let h = host (g.F.Functions.function_of c.args.functions.now) (g.F.Functions.scalar c.args.functions.now) (g.F.Functions.step c.args.functions.now) (g.F.Functions.finish c.args.functions.now) (g.F.Functions.order_of c.args.functions.now) in
+    gather_ends h c.args.params.now (λ m t. option_map single (writes.inserted m c.args.columns.now c.args.places.now (map plain t))) (λ m. each (λ t. writes.inserted m c.args.columns.now c.args.places.now (map plain t)) c.args.tuples.now) c.args.tuples.now c.loop-tuple.tuple-index c.loop-tuple.out.items c.loop-tuple-test.false c.loop-tuple.invariant

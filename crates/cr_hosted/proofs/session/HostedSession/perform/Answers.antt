@@ -31,6 +31,9 @@ insert-requires-clause-columns g c = λ x there.
     columns_are c.args.names _ c.in-Insert.insert.relation c.requires.listed (touched _ _ _ _ c.in-Insert.is c.touches-touches.ensures c.if-not-touches.false)
     (subst (Suits (catalog_of c.args.names)) c.in-Insert.is c.requires.suits) x there
 
+pub select-requires-clause-touched : goal.select-requires-clause-touched
+select-requires-clause-touched g c = touched _ _ _ _ c.in-Select.is c.touches-touches.ensures c.if-not-touches.false
+
 pub returns-in-Select-clause-performs : goal.returns-in-Select-clause-performs
 returns-in-Select-clause-performs g c = rw c.in-Select.is (c.select.ensures _)
 

@@ -1,10 +1,13 @@
-use Rattle.std.proofs.Common.{refl, subst, sym}
+use Rattle.std.proofs.Common.{Err, refl, subst, sym}
 use Rattle.cr_term.specs.declared.query.Resolved.TheVariants as r
 use Rattle.cr_fit.specs.Suited.{HasRelation}
+use Rattle.cr_language.specs.Sql.{view}
+use Rattle.cr_script.specs.Speaking.{closures, host_under}
+use Rattle.cr_session.specs.Sessions.{clean, honest, standing}
 use Rattle.cr_session.specs.Lookup.{ShowsDelete}
 use Rattle.cr_session.proofs.Committing.{has_key_there, replicated_there, delete_refused_rows, deletes}
 use Rattle.cr_session.proofs.Looking.{after_look, unseen}
-use Rattle.cr_session.proofs.Making.{passed_is_table}
+use Rattle.cr_session.proofs.Making.{passed_is_table, refuses_module, untouched}
 use Rattle.cr_session.proofs.ByKey.{shows_then}
 use Rattle.cr_session.proofs.Seeing.{catalog_of_names}
 use Rattle.cr_session.proofs.session.Session.delete.Goals as goal
@@ -34,3 +37,8 @@ pub returns-in-Err-look_for_delete-clause-performs : goal.returns-in-Err-look_fo
 returns-in-Err-look_for_delete-clause-performs g c =
     unseen _ c.args.params.now _ g.C.Cells.is_honest g.C.Cells.is_clean g.C.Cells.holding c.args.self.now c.look_for_delete.new.self (r.Delete c.args.delete.now) c.look_for_delete.ensures.device.was_honest c.look_for_delete.ensures.device.was_clean (λ clean. (c.in-Err-look_for_delete.ensures.looks clean).same)
     c.in-Err-look_for_delete.error c.from.result c.from.ensures refl c.in-Err-look_for_delete.ensures.device.stays_clean (λ clean. (c.in-Err-look_for_delete.ensures.looks clean).looks)
+
+pub returns-in-Err-clause-performs : goal.returns-in-Err-clause-performs
+returns-in-Err-clause-performs g c =
+    untouched _ c.args.params.now _ (honest g.C.Cells.is_honest) (clean g.C.Cells.is_clean) (standing g.C.Cells.holding) c.args.self.now (r.Delete c.args.delete.now) (Err c.in-Err.refusal)
+    (λ clean. refuses_module _ c.args.params.now (host_under (closures (g.G.Guarding.allows c.args.guard.now) (g.G.Guarding.refuses c.args.guard.now)) (g.G.Guarding.rules c.args.guard.now)) (standing g.C.Cells.holding c.args.self.now) c.args.delete.now.relation (view (r.Delete c.args.delete.now)) _ c.in-Err.refusal refl refl c.in-Err.ensures)
