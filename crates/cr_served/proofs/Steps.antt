@@ -80,3 +80,7 @@ module _ {S E C : Type 0} (l : Language S E) (k : Closures) (is_honest is_clean 
           keep = (own_keeps l (host_of k w) c r m keeps, tt);
         }),
       ))
+
+  -- and it leaves the rules as they are
+  pub own_ran_under : (s0 s1 : C) (p q : Rules) (c : Command) (r : FleetReply) → q ≡ p → is_own c ≡ true → Does l (host_under k p) is_honest is_clean stands s0 c r s1 → RanAlone l k is_honest is_clean stands (s0, p) (s1, q) (c ∷ []) (r ∷ [])
+  own_ran_under s0 s1 p q c r same own d = subst (λ (x : Rules). RanAlone l k is_honest is_clean stands (s0, p) (s1, x) (c ∷ []) (r ∷ [])) (sym same) (own_ran s0 s1 p c r own d)
