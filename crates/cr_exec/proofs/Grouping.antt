@@ -1,5 +1,5 @@
 -- What groups show: the one without terms, and those under terms.
-use Rattle.std.proofs.Common.{◌≡◌, ◌==◌, ◌∙◌, arith, eqb-true, Bool, true, false, cond, List, [], ◌∷◌, ◌++◌, length, map, Option, Some, None, append-nil, refl, sym, ap}
+use Rattle.std.proofs.Common.{◌≡◌, ◌==◌, ◌∙◌, arith, eqb-true, true, false, cond, List, [], ◌∷◌, ◌++◌, length, map, Option, Some, None, append-nil, refl, sym, ap}
 use Rattle.std.specs.Option.{option_map, option_and_then}
 use Rattle.std.specs.Borrow.{Bor}
 use Rattle.cr_value.specs.declared.value.Value.{Value}

@@ -1,5 +1,5 @@
 -- The rows of one table on which all terms are true are the combinations of a query of it.
-use Rattle.std.proofs.Common.{◌≡◌, ◌∙◌, ℕ, Bool, true, false, cond, List, [], ◌∷◌, ◌++◌, append-nil, map, Option, Some, None, option_map, Result, Ok, Err, sym, ap}
+use Rattle.std.proofs.Common.{◌≡◌, ◌∙◌, Bool, true, false, cond, List, [], ◌∷◌, ◌++◌, append-nil, map, Option, Some, None, option_map, Result, Ok, Err, sym, ap}
 use Rattle.std.specs.Option.{option_and_then}
 use Rattle.cr_value.specs.declared.value.Value.{Value}
 use Rattle.cr_scalar.specs.Host.{Host}

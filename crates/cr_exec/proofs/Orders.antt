@@ -1,5 +1,5 @@
 -- The orders of queries are those under which rows are compared.
-use Rattle.std.proofs.Common.{◌≡◌, ◌∙◌, ℕ, List, [], ◌∷◌, map, drop, cond, Option, Result, Ok, Err, IfOk, refl, sym, ap, Ordering, Less, Equal, Greater}
+use Rattle.std.proofs.Common.{◌≡◌, ◌∙◌, List, [], ◌∷◌, map, drop, cond, Result, Ok, Err, IfOk, refl, sym, ap, Ordering, Less, Equal, Greater}
 use Rattle.std.specs.Ordering.{ordering_then, then_cmp, on, is_eq}
 use Rattle.std.specs.Cmp.{IsTotalOrder}
 use Rattle.std.specs.FinMap.{IsAntisymmetric, slice_cmp-IsAntisymmetric}

@@ -1,5 +1,5 @@
 -- From the stages of a query to its answer.
-use Rattle.std.proofs.Common.{◌≡◌, ◌∙◌, ℕ, true, false, cond, List, [], map, Option, Some, option_map, Result, sym, ap}
+use Rattle.std.proofs.Common.{◌≡◌, ◌∙◌, true, false, cond, List, [], map, Option, Some, option_map, Result, sym, ap}
 use Rattle.std.specs.Option.{option_and_then}
 use Rattle.std.specs.Borrow.{Bor}
 use Rattle.cr_value.specs.declared.value.Value.{Value}

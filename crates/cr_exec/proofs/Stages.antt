@@ -1,11 +1,11 @@
 -- What holds of a part under a regard holds of the whole, under each.
-use Rattle.std.proofs.Common.{◌≡◌, inr, List, Option, Some, None, ◌∙◌, sym}
+use Rattle.std.proofs.Common.{◌≡◌, inr, List, Some, None, ◌∙◌, sym}
 use Rattle.cr_value.specs.declared.value.Value.{Value}
 use Rattle.cr_scalar.specs.Host.{Host}
 use Rattle.cr_scalar.specs.declared.fault.EvalFault.{EvalFault}
 use Rattle.cr_scalar.specs.declared.fault.EvalFault.TheVariants.{Overflow, NotANumber, NotUtf8, Host as Said, TooBig, Memory}
 use Rattle.cr_meaning.specs.Meaning.{Regard, IsLimit, StandsAlone, Counts, regarded}
-use Rattle.cr_exec.specs.Answers.{Stage, Misses, Faults, IsMeant}
+use Rattle.cr_exec.specs.Answers.{Stage, Faults, IsMeant}
 
 -- what is left of a whole gives the whole
 pub record Gives {Y : Type 0} (host : Host) (params : List Value) (rest whole : Stage Y) : Type 0 where

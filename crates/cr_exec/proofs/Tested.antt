@@ -13,7 +13,7 @@ use Rattle.cr_term.specs.declared.query.Joined.{Joined}
 use Rattle.cr_scalar.specs.declared.fault.EvalFault.{EvalFault}
 use Rattle.cr_query.specs.Query.{Row, Meaning, is_true, and_so, all_true}
 use Rattle.cr_meaning.specs.View.{Ordered, plain, inner_terms}
-use Rattle.cr_meaning.specs.Meaning.{Regard, regarded}
+use Rattle.cr_meaning.specs.Meaning.{regarded}
 use Rattle.cr_exec.specs.Answers.{Stage, Faults, IsMeant}
 use Rattle.cr_exec.specs.Scopes.{there}
 use Rattle.cr_exec.specs.Tails.{of_kind, with_quiet_first}

@@ -1,5 +1,5 @@
 -- A statement looks at the rows that pass.
-use Rattle.std.proofs.Common.{◌≡◌, ◌∙◌, inl, inr, ℕ, Bool, true, false, not, cond, List, [], ◌∷◌, ◌++◌, map, Option, Some, None, refl, sym, ap, subst}
+use Rattle.std.proofs.Common.{◌≡◌, ◌∙◌, inr, Bool, true, false, not, cond, List, [], ◌++◌, map, Option, Some, None, refl, sym, ap}
 use Rattle.std.specs.Prelude.{filter}
 use Rattle.std.specs.List.{flat_map}
 use Rattle.std.specs.Option.{option_map, option_and_then}
@@ -15,7 +15,7 @@ use Rattle.cr_scalar.specs.declared.fault.EvalFault.{EvalFault}
 use Rattle.cr_scalar.specs.declared.fault.EvalFault.TheVariants as fault
 use Rattle.cr_scalar.specs.Meaning.{byte_limit}
 use Rattle.cr_bags.specs.Bags.{single}
-use Rattle.cr_query.specs.Query.{Row, all_true, and_so, finished, holds, is_true, quiet_first, shown}
+use Rattle.cr_query.specs.Query.{Row, all_true, finished, holds, shown}
 use Rattle.cr_query.specs.Plans.{is_false}
 use Rattle.cr_query.proofs.PlanLaws.{step, joined_one}
 use Rattle.cr_query.proofs.Refining.{holds_refines}

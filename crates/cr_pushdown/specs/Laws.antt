@@ -1,5 +1,5 @@
 -- A statement looks at the rows that pass. Source: this project's own.
-use Rattle.std.specs.Prelude.{◌≡◌, ℕ, false, List, [], Option, filter, map}
+use Rattle.std.specs.Prelude.{◌≡◌, false, List, [], filter, map}
 use Rattle.cr_value.specs.declared.value.Value.{Value}
 use Rattle.cr_lattice.specs.declared.change.Change.{Change}
 use Rattle.cr_lattice.specs.declared.table.TableDef.{TableDef}

@@ -1,6 +1,5 @@
 -- What a write wants with a limit on values it wants without, whenever the one meaning refines the other.
-use Rattle.std.proofs.Common.{Bool, true, false, not, cond, List, [], ◌++◌, map, Option, Some, option_map, subst}
-use Rattle.cr_value.specs.declared.value.Value.{Value}
+use Rattle.std.proofs.Common.{not, cond, List, [], ◌++◌, map, Some, option_map}
 use Rattle.cr_lattice.specs.declared.table.ColumnDef.{ColumnDef}
 use Rattle.cr_bags.specs.Bags.{each, single}
 use Rattle.cr_query.specs.Queries.{Assignment, Insert, Update, Delete}

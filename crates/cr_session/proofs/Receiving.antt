@@ -138,8 +138,8 @@ module _ (means : Means) (params : List Value) (host : Host) (h : Holding) (pend
 
   faulty : (f : Refusal) (e : EvalFault) → f ≡ of_fault e → Faults means params brought e → Performs means params host here (receiving false) (Err f) here
   faulty f e told faults = (first_told f (subst (λ (y : Refusal). IsWant y ⊎ Tells (evaluation_cause None (brought (exact means params)) (brought (sized means params))) y) (sym told) (fault_told None means params brought brought_gains e faults)), (refl, found)) where
-      found : IsFound means params host here (receiving false) f
-      found = subst (IsFound means params host here (receiving false)) (sym told) (counts means params host here (receiving false) e (misses means params brought e faults))
+    found : IsFound means params host here (receiving false) f
+    found = subst (IsFound means params host here (receiving false)) (sym told) (counts means params host here (receiving false) e (misses means params brought e faults))
 
 -- ---- of a session
 
@@ -174,9 +174,10 @@ module _ {C : Type 0} (means : Means) (params : List Value) (host : Host) (is_ho
       faulty means params host (holding old.0) old.1 (insert i) f fault told (subst (λ (b : Bool). Faults means params (brought_by b) fault) ig faults)
   refused_so clean f ig (inr (inr bad)) = by_first bad.first where
     by_first : IsToldOf (first_bad_in snap.tables bad.rows) f → Does false (Err f) at
-    by_first (b, is, told) =
-        (inr (bad_told means params host (holding old.0) old.1 (insert i) bad.rows (subst (λ (b : Bool). IsMeant means params (brought_by b) bad.rows) ig bad.brought) b f (bad_is clean bad.rows ∙ is) told),
-        (refl, subst (IsFound means params host at (world.Insert world.Changes (record { places = (insert i).places; tuples = (insert i).tuples; is_ignored = false }))) (sym told) tt))
+    by_first (b, is, told) = (
+      inr (bad_told means params host (holding old.0) old.1 (insert i) bad.rows (subst (λ (b : Bool). IsMeant means params (brought_by b) bad.rows) ig bad.brought) b f (bad_is clean bad.rows ∙ is) told),
+      (refl, subst (IsFound means params host at (world.Insert world.Changes (record { places = (insert i).places; tuples = (insert i).tuples; is_ignored = false }))) (sym told) tt),
+    )
 
   pub receive_refused : (f : Refusal) → i.is_ignored ≡ false → (f ≡ refusal.Memory) ⊎ (IsFaulty means params snap.tables i f ⊎ IsBad means params snap.tables i f) → Performed means params host (honest is_honest) (clean is_clean) (standing holding) old (r.Insert i) (Err f) old
   receive_refused f ig l = untouched means params host (honest is_honest) (clean is_clean) (standing holding) old (r.Insert i) (Err f) (λ clean. as_insert false (Err f) at ig (refused_so clean f ig l))

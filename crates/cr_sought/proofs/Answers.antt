@@ -15,7 +15,7 @@ use Rattle.cr_query.specs.Query.{Row, holds, shown, finished}
 use Rattle.cr_query.proofs.PlanLaws.{step, joined_one}
 use Rattle.cr_meaning.specs.View.{Ordered}
 use Rattle.cr_meaning.specs.View as view
-use Rattle.cr_meaning.specs.Meaning.{Regard, regarded}
+use Rattle.cr_meaning.specs.Meaning.{regarded}
 use Rattle.cr_touched.specs.Parts.{is_key_of}
 use Rattle.cr_touched.specs.Touched.{passes}
 use Rattle.cr_sought.specs.Bounds.{AnswersAbove, is_above, is_up_to}

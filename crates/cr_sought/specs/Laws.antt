@@ -1,6 +1,6 @@
 -- A SELECT whose terms leave out the rows of other keys looks at what is kept of these keys, and no more; so do those that tell keys.
 -- Source: this project's own.
-use Rattle.std.specs.Prelude.{◌≡◌, ℕ, true, false, List, [], Option, Some, map}
+use Rattle.std.specs.Prelude.{◌≡◌, ℕ, true, false, List, [], Some, map}
 use Rattle.std.specs.List.{AllByRecursion}
 use Rattle.cr_value.specs.declared.value.Value.{Value}
 use Rattle.cr_lattice.specs.declared.change.Change.{Change}

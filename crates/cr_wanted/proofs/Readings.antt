@@ -1,5 +1,5 @@
 -- Rows of a source that are read one after another, of which a list of their own is made.
-use Rattle.std.proofs.Common.{◌≡◌, ◌∙◌, ℕ, true, List, [], Option, Result, Ok, Err, sym, subst}
+use Rattle.std.proofs.Common.{◌≡◌, ◌∙◌, true, List, [], Option, Result, Ok, Err, sym, subst}
 use Rattle.cr_value.specs.declared.value.Value.{Value}
 use Rattle.cr_scalar.specs.Host.{Host}
 use Rattle.cr_bags.specs.Bags.{gather}

@@ -1,10 +1,9 @@
-use Rattle.std.proofs.Common.{◌∙◌, ◌∷◌, ◌++◌, [], List, Some, ap, map, option_map, subst}
+use Rattle.std.proofs.Common.{◌∙◌, ◌∷◌, [], ap, map, option_map, subst}
 use Rattle.std.proofs.lemmas.List.{map-append}
 use Rattle.cr_scalar.specs.Host.{host}
 use Rattle.cr_query.specs.Query.{has}
 use Rattle.cr_meaning.specs.View.{plain}
 use Rattle.cr_exec.specs.Answers.{IsMeant}
-use Rattle.cr_exec.specs.Groups.{judged_by, shows_by}
 use Rattle.cr_exec.specs.Scopes.{in_scope}
 use Rattle.cr_exec.specs.Shows.{shown_of}
 use Rattle.cr_exec.proofs.Grouping.{judged_shown}

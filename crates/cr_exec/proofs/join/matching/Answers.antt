@@ -2,7 +2,7 @@ use Rattle.std.proofs.Common.{◌∙◌, subst, map, rules, ◌++◌}
 use Rattle.cr_scalar.specs.Host.{host}
 use Rattle.cr_bags.specs.Bags.{those, single}
 use Rattle.cr_query.specs.Query.{all_true, with_rows}
-use Rattle.cr_meaning.specs.Meaning.{Regard, regarded}
+use Rattle.cr_meaning.specs.Meaning.{regarded}
 use Rattle.cr_exec.specs.Answers.{Faults, IsMeant, behind}
 use Rattle.cr_exec.specs.Groups.{row_there}
 use Rattle.cr_exec.specs.Scopes.{there}

@@ -2,7 +2,7 @@ use Rattle.std.proofs.Common.{◌∙◌, ap, sym, map, cond}
 use Rattle.cr_scalar.specs.Host.{host}
 use Rattle.cr_query.specs.Query.{distinct}
 use Rattle.cr_meaning.specs.View.{result_term}
-use Rattle.cr_meaning.specs.Meaning.{Regard, regarded}
+use Rattle.cr_meaning.specs.Meaning.{regarded}
 use Rattle.cr_exec.specs.Shows.{shown_of}
 use Rattle.cr_exec.proofs.Orders.{of_ok}
 use Rattle.cr_exec.proofs.order.distinct_if_asked.Goals as goal

@@ -2,7 +2,7 @@ use Rattle.std.proofs.Common.{◌∙◌, ap, subst, sym, rules, [], ◌∷◌, �
 use Rattle.cr_scalar.specs.Host.{host}
 use Rattle.cr_bags.specs.Bags.{each, single}
 use Rattle.cr_query.proofs.PlanLaws.{gather-map}
-use Rattle.cr_meaning.specs.Meaning.{Regard, regarded}
+use Rattle.cr_meaning.specs.Meaning.{regarded}
 use Rattle.cr_exec.specs.Answers.{Faults, IsMeant}
 use Rattle.cr_exec.specs.Scopes.{in_scope, there}
 use Rattle.cr_exec.proofs.Loops.{starts, gather_ends, gather_next, gather_fails, one_behind, none_single}
