@@ -1,9 +1,8 @@
 -- What is heard of a session that has modules beside it.
-use Rattle.std.proofs.Common.{◌≡◌, inl, inr, List, [], Bool, true, Result, Ok, Err, refl, sym, ap, subst, ◌∙◌}
+use Rattle.std.proofs.Common.{◌≡◌, inr, List, [], true, Result, Ok, Err, refl, ap, subst, ◌∙◌}
 use Rattle.std.specs.Prelude.{unwrap_or}
 use Rattle.std.specs.List.{flat_map}
 use Rattle.cr_value.specs.declared.value.Value.{Value}
-use Rattle.cr_lattice.specs.declared.change.Change.{Change}
 use Rattle.cr_guard.specs.declared.event.Event.{Event}
 use Rattle.cr_meaning.specs.View.{Ordered}
 use Rattle.cr_scalar.specs.Host.{Host as Means}

@@ -7,7 +7,6 @@ use Rattle.cr_lattice.specs.declared.change.Change.{Change}
 use Rattle.cr_cells.specs.Holding.{Holding}
 use Rattle.cr_cells.specs.Tables.{is_named}
 use Rattle.cr_delta.proofs.Among.{Among}
-use Rattle.cr_meaning.specs.View.{query}
 use Rattle.cr_scalar.specs.Host.{Host as Means}
 use Rattle.cr_term.specs.declared.query.Joined.{Joined}
 use Rattle.cr_term.specs.declared.query.Query.{Query}

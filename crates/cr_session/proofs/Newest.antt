@@ -17,7 +17,7 @@ use Rattle.cr_term.specs.declared.query.Query.{Query}
 use Rattle.cr_scalar.specs.Host.{Host as Means}
 use Rattle.cr_query.specs.Query.{answer}
 use Rattle.cr_meaning.specs.View.{query}
-use Rattle.cr_meaning.specs.Meaning.{Regard, regarded}
+use Rattle.cr_meaning.specs.Meaning.{regarded}
 use Rattle.cr_replica.specs.declared.snapshot.Snapshot.{Snapshot}
 use Rattle.cr_snapshot.specs.Seen.{name_of, rows_listed, rows_seen}
 use Rattle.cr_touched.proofs.Sets.{filter_set}

@@ -1,5 +1,5 @@
 -- What a session makes of a statement that may be carried out. Source: this project's own.
-use Rattle.std.specs.Prelude.{◌≡◌, ◌⊎◌, ◌&&◌, ℕ, Bool, true, false, not, cond, List, [], ◌∷◌, find, unwrap_or, Option, None, is_some, Result, Ok, Err}
+use Rattle.std.specs.Prelude.{◌≡◌, ◌⊎◌, ◌&&◌, ℕ, Bool, true, false, not, cond, List, [], ◌∷◌, unwrap_or, Option, None, is_some, Result, Ok, Err}
 use Rattle.cr_value.specs.declared.value.Value.{Value}
 use Rattle.cr_lattice.specs.declared.change.Change.{Change}
 use Rattle.cr_cells.specs.Calls.{StaysClean, is_past_limit}
@@ -27,7 +27,7 @@ use Rattle.cr_world.specs.Refusals.{is_want}
 use Rattle.cr_world.specs.Causes.{Cause, Free, Tells, IsWant, first_cause, where_true}
 use Rattle.cr_world.specs.Resolved.{Resolved as Viewed, Target}
 use Rattle.cr_world.specs.Resolved as viewed
-use Rattle.cr_world.specs.State.{State, ModuleState, in_transaction, is_module, table_of}
+use Rattle.cr_world.specs.State.{State, ModuleState, in_transaction, table_of}
 use Rattle.cr_world.specs.Takings.{taking}
 use Rattle.cr_world.specs.Statement.{Host, ModulesLeave, adding, causes_of, ended, evaluated, is_memory, left_by, reply_to, touches, updates_module}
 use Rattle.cr_world.specs.Statement as statement
