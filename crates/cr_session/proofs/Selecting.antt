@@ -150,7 +150,7 @@ module _ (means : Means) (params : List Value) (host : Host) (st : State) (table
     says_select given result v e = subst (λ (o : Result Reply Refusal). Says means params host st (view (r.Select x)) o st) (sym e) (says_given given v)
 
   module _ (shows : Suffice means params x st tables) where
-    -- the fault that is told counts
+    -- the fault that is told remains
     pub select_finds : (t : Refusal) → Gives means params (answer_over tables x) (Err t) → IsFound means params host st (view (r.Select x)) t
     select_finds t v =
         subst (IsFound means params host st (view (r.Select x))) (sym v.1.0)

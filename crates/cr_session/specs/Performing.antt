@@ -92,7 +92,7 @@ module _ (means : Means) (params : List Value) (host : Host) (st : State) (x : V
   abbrev pub against : Cause
   against = first_cause (causes_of host st x without_limit with_limit)
 
-  -- a fault of evaluation that is told is one that remains
+  -- the fault of evaluation that is told remains, whatever stands for all others
   abbrev pub IsFound : Refusal → Type 0
   IsFound f = statement.IsFound (λ g. regarded g means params) st x f
 
@@ -101,7 +101,7 @@ module _ (means : Means) (params : List Value) (host : Host) (st : State) (x : V
   Says (Ok reply) new = (against ≡ Free) × ((reply ≡ reply_to x (unwrap_or with_limit [])) × (new ≡ left_by st x (unwrap_or with_limit []) []))
   Says (Err f) new = (IsWant f ⊎ Tells against f) × (new ≡ refused st x f)
 
-  -- and a fault of evaluation that is told counts
+  -- and a fault of evaluation that is told is one that remains
   abbrev pub Performs : Result Reply Refusal → State → Type 0
   Performs (Ok reply) new = Says (Ok reply) new
   Performs (Err f) new = (IsWant f ⊎ Tells against f) × ((new ≡ refused st x f) × IsFound f)
