@@ -1,5 +1,5 @@
 -- This project's SQL is a language of sessions.
-use Rattle.std.proofs.Common.{◌≡◌, inl, inr, ◌∙◌, ℕ, suc, Bool, true, false, List, [], ◌∷◌, ◌++◌, map, length, find, Option, Some, None, Ok, Err, refl, ap, sym, subst, slice_get}
+use Rattle.std.proofs.Common.{◌≡◌, inr, ◌∙◌, ℕ, suc, Bool, true, false, List, [], ◌∷◌, ◌++◌, map, length, find, Option, Some, None, Ok, Err, refl, ap, sym, subst, slice_get}
 use Rattle.std.specs.Prelude.{Result, if◌then◌else◌, get_or}
 use Rattle.std.specs.Option.{option_map, option_or, is_none}
 use Rattle.std.specs.List.{AllByRecursion, AllZip}
@@ -25,13 +25,11 @@ use Rattle.cr_term.specs.Parts.{columns}
 use Rattle.cr_expr.specs.Laws.{AgreeOn}
 use Rattle.cr_expr.proofs.ReadsLaw.{reads_law}
 use Rattle.cr_query.specs.Queries.{Query}
-use Rattle.cr_query.specs.Query.{Row, answer}
+use Rattle.cr_query.specs.Query.{Row, Meaning, answer}
 use Rattle.cr_query.specs.Plans.{masked, seen}
 use Rattle.cr_meaning.specs.View.{Ordered, query, joining, inner_terms, plain}
-use Rattle.cr_meaning.specs.Meaning.{value_of, exact, at_row, at_group, limit_of, strict}
-use Rattle.cr_meaning.proofs.Limits.{refines, safe}
+use Rattle.cr_meaning.specs.Meaning.{value_of, meaning, at_row, at_group, limit_of}
 use Rattle.cr_meaning.proofs.BagLaw.{lawful}
-use Rattle.cr_scalar.specs.Meaning.{byte_limit}
 use Rattle.cr_resolve.specs.declared.refusal.Refusal.{Refusal as Unresolved}
 use Rattle.cr_resolve.specs.Known.{Known, table_at, module_at, relation_of}
 use Rattle.cr_questions.specs.Questions.{Name, Answers}
@@ -218,40 +216,40 @@ module _ (e : Engine) where
   rows_agree mask [] cs h = tt
   rows_agree mask (row ∷ rows) cs h = (agrees mask row cs h, rows_agree mask rows cs h)
 
-  row_reads : (params : List Value) (mask : List Bool) (o : Ordered) → Seen places mask o → (c : Row) → (exact e.host params).value o (masked mask c) ≡ (exact e.host params).value o c
-  row_reads params mask o h c =
-      ap value_of (reads_law o.expr (at_row (limit_of None o.expr) e.host params (masked mask c)) (at_row (limit_of None o.expr) e.host params c)
-      (record { most = refl; params = refl; shown = refl; host = refl; row = agrees mask c (columns o.expr) h; group = inr tt }))
+  module _ (most : Option ℕ) (params : List Value) where
+    abbrev m : Meaning Ordered
+    m = meaning most e.host params
 
-  abbrev no_mask : List Bool
-  no_mask = []
+    row_reads : (mask : List Bool) (o : Ordered) → Seen places mask o → (c : Row) → m.value o (masked mask c) ≡ m.value o c
+    row_reads mask o h c =
+        ap value_of (reads_law o.expr (at_row (limit_of most o.expr) e.host params (masked mask c)) (at_row (limit_of most o.expr) e.host params c)
+        (record { most = refl; params = refl; shown = refl; host = refl; row = agrees mask c (columns o.expr) h; group = inr tt }))
 
-  group_reads : (params : List Value) (mask : List Bool) (o : Ordered) → Seen places mask o → (k : Row) (cs : List Row)
-      → (exact e.host params).over o (record { shown = k; members = map (masked mask) cs }) ≡ (exact e.host params).over o (record { shown = k; members = cs })
-  group_reads params mask o h k cs =
-      ap value_of (reads_law o.expr (at_group None e.host params (record { shown = k; members = map (masked mask) cs })) (at_group None e.host params (record { shown = k; members = cs }))
-      (record { most = refl; params = refl; shown = refl; host = refl; row = agrees no_mask [] (columns o.expr) (past (columns o.expr)); group = inr (rows_agree mask cs (columns o.expr) h) })) where
-        past : (fs : List Field) → AllByRecursion (λ p. get_or no_mask p true ≡ true) (map (λ c. c.at) fs)
-        past [] = tt
-        past (f ∷ fs) = (refl, past fs)
+    abbrev no_mask : List Bool
+    no_mask = []
 
-  unseen_ : (q : Query Ordered) (params : List Value) (tables : List (List Row)) → AreWide q.sources tables
-      → answer (exact e.host params) q (seen (standing places q) tables) ≡ answer (exact e.host params) q tables
-  unseen_ q params tables wide =
-      let h = are_seen places q in
-      answer_unseen (exact e.host params) (mask_of places q) (Seen places (mask_of places q)) (row_reads params (mask_of places q)) (group_reads params (mask_of places q)) q tables
-      (record { on = h.on; terms = h.terms; group = h.group; having = h.having; results = h.results; order = h.order }) wide
+    group_reads : (mask : List Bool) (o : Ordered) → Seen places mask o → (k : Row) (cs : List Row)
+        → m.over o (record { shown = k; members = map (masked mask) cs }) ≡ m.over o (record { shown = k; members = cs })
+    group_reads mask o h k cs =
+        ap value_of (reads_law o.expr (at_group most e.host params (record { shown = k; members = map (masked mask) cs })) (at_group most e.host params (record { shown = k; members = cs }))
+        (record { most = refl; params = refl; shown = refl; host = refl; row = agrees no_mask [] (columns o.expr) (past (columns o.expr)); group = inr (rows_agree mask cs (columns o.expr) h) })) where
+          past : (fs : List Field) → AllByRecursion (λ p. get_or no_mask p true ≡ true) (map (λ c. c.at) fs)
+          past [] = tt
+          past (f ∷ fs) = (refl, past fs)
+
+    unseen_ : (q : Query Ordered) (tables : List (List Row)) → AreWide q.sources tables → answer m q (seen (standing places q) tables) ≡ answer m q tables
+    unseen_ q tables wide =
+        let h = are_seen places q in
+        answer_unseen m (mask_of places q) (Seen places (mask_of places q)) (row_reads (mask_of places q)) (group_reads (mask_of places q)) q tables
+        (record { on = h.on; terms = h.terms; group = h.group; having = h.having; results = h.results; order = h.order }) wide
 
   -- ---- the whole
 
   pub is_language : IsLanguage (sql e)
   is_language = record {
-    lawful = λ params. lawful e.host e.order_total None params;
-    lawful_sized = λ params. lawful e.host e.order_total byte_limit params;
-    refines = λ params. refines e.host params (strict None) (inl refl);
-    quiet_safe = λ params. safe (strict None) e.host params;
+    lawful = λ most params. lawful e.host e.order_total most params;
     local = local_;
     reads = reads_;
     selects = selects_;
-    unseen = unseen_;
+    unseen = λ most q params tables wide. unseen_ most params q tables wide;
   }

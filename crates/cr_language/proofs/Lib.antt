@@ -20,3 +20,4 @@ pub mod Allowing
 pub mod Masking
 pub mod Widths
 pub mod Hiding
+pub mod Faulting

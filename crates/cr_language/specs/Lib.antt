@@ -5,3 +5,4 @@ pub mod Sql
 pub mod Engines
 pub mod Reads
 pub mod Readable
+pub mod Faults

@@ -21,7 +21,7 @@ use Rattle.cr_term.specs.declared.query.Resolved.{Resolved}
 use Rattle.cr_term.specs.declared.query.Resolved.TheVariants as r
 use Rattle.cr_scalar.specs.Host.{Host}
 use Rattle.cr_meaning.specs.View.{Ordered, query, insert, update, delete}
-use Rattle.cr_meaning.specs.Meaning.{exact, regarded, sized}
+use Rattle.cr_meaning.specs.Meaning.{regarded}
 use Rattle.cr_questions.specs.Questions.{Name}
 use Rattle.cr_resolve.specs.declared.refusal.Refusal.{Refusal as Unresolved}
 use Rattle.cr_resolve.specs.declared.refusal.Refusal.TheVariants as unresolved
@@ -214,7 +214,5 @@ sql e = record {
   is_select = is_select;
   is_free = asks_no_replica;
   standing = standing places;
-  exact = exact e.host;
-  sized = sized e.host;
   regarded = λ regard params. regarded regard e.host params;
 }

@@ -5,6 +5,7 @@ ghost use Rattle.cr_language.specs.Laws.{SelectsLookAtTheirNames, SelectsReadThe
 ghost use Rattle.cr_language.specs.Reads.{ReadsAreAllowed};
 ghost use Rattle.cr_language.specs.Readable.{OnlyReadableColumnsStand, UnreadableColumnsChangeNoAnswer};
 ghost use Rattle.cr_language.specs.Texts.{TextsHaveTokens};
+ghost use Rattle.cr_language.specs.Faults.{ToldFaultsAreHad};
 ghost use Rattle.cr_language.specs.Sql.{Engine, sql};
 
 /// A select that asks for neither site nor version looks at what its own names stand for, and at nothing else.
@@ -40,4 +41,10 @@ pub fn only_readable_columns_stand()
 /// What stands in columns whose READ is not answered with OK changes no answer to a select.
 pub fn unreadable_columns_change_no_answer()
     ensures { (e : Engine) → UnreadableColumnsChangeNoAnswer e }
+{}
+
+/// Where a statement that touches no module evaluates to nothing within the limit on values, the fault that it is refused for is
+/// one that an expression of it has.
+pub fn told_faults_are_had()
+    ensures { (e : Engine) → ToldFaultsAreHad e }
 {}

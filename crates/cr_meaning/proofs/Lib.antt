@@ -2,3 +2,4 @@ pub mod Limits
 pub mod Ordered
 pub mod Aggregated
 pub mod BagLaw
+pub mod Faulting

@@ -5,3 +5,5 @@ pub mod HiddenColumns
 pub mod Examples
 pub mod Refining
 pub mod RefiningWrites
+pub mod Lacking
+pub mod Having

@@ -1,7 +1,7 @@
 //! Commands to one replica that has no others beside it.
 
 ghost use Rattle.std.specs.Prelude.{◌≡◌, ◌∷◌, [], ℕ, Bool, List};
-ghost use Rattle.cr_session.specs.Sessions.{clean, honest, standing};
+ghost use Rattle.cr_session.specs.Sessions.{clean, honest, is_own, standing};
 ghost use Rattle.cr_world.specs.Answers.{IsReady};
 ghost use Rattle.cr_served.specs.Alone.{RanAlone};
 
@@ -31,19 +31,32 @@ pub(crate) fn step_alone<C: Cells, F: Functions, G: Guarding>(
     ensures noting { G.noting guard.new ≡ G.noting guard.old }
     ensures faithful { G.is_faithful guard.new }
 {
+    if is_own(command) {
+        return session.step(alloc, functions, guard, command);
+    }
     match command {
-        Command::Open(_, _) => FleetReply::Refused(Refusal::NoReplica),
-        Command::Use(_) => FleetReply::Refused(Refusal::NoReplica),
-        Command::Pull(_) => FleetReply::Refused(Refusal::NoReplica),
-        Command::PullSince(_) => FleetReply::Refused(Refusal::NoReplica),
         Command::Policy(rule) => match guard.policy(alloc, rule) {
             Ok(()) => FleetReply::Done,
             Err(AllocError) => FleetReply::Refused(Refusal::Memory),
         },
-        Command::Define(_) => session.step(alloc, functions, guard, command),
-        Command::Take(_) => session.step(alloc, functions, guard, command),
-        Command::Rows(_) => session.step(alloc, functions, guard, command),
-        Command::Changes(_) => session.step(alloc, functions, guard, command),
-        Command::Sql(_) => session.step(alloc, functions, guard, command),
+        _ => FleetReply::Refused(Refusal::NoReplica),
+    }
+}
+
+// Whether a replica carries out a command by itself.
+fn is_own(command: &Command) -> bool
+    ensures { result ≡ is_own command.now }
+{
+    match command {
+        Command::Define(_)
+        | Command::Take(_)
+        | Command::Rows(_)
+        | Command::Changes(_)
+        | Command::Sql(_) => true,
+        Command::Open(_, _)
+        | Command::Use(_)
+        | Command::Pull(_)
+        | Command::PullSince(_)
+        | Command::Policy(_) => false,
     }
 }

@@ -12,9 +12,10 @@ use Rattle.cr_term.specs.declared.query.Resolved.{Resolved as Answered}
 use Rattle.cr_term.specs.declared.query.Resolved.TheVariants as r
 use Rattle.cr_host.specs.declared.function.Definition.{Definition}
 use Rattle.cr_scalar.specs.Host.{Host as Means, host as means_of}
+use Rattle.cr_scalar.specs.Meaning.{byte_limit}
 use Rattle.cr_meaning.specs.View.{Ordered}
 use Rattle.cr_query.specs.Query.{Meaning}
-use Rattle.cr_meaning.specs.Meaning.{Regard, exact, regarded, sized}
+use Rattle.cr_meaning.specs.Meaning.{Regard, regarded, strict}
 use Rattle.cr_resolve.specs.Parameters.{fits}
 use Rattle.cr_resolve.specs.Known.{Known}
 use Rattle.cr_resolve.specs.Resolve.{marked, read, resolved, select_or_mark}
@@ -215,10 +216,10 @@ performed_alone means params host is_honest is_clean holding old y result new d 
 }
 
 module _ (l : Language Statement Ordered) (means : Means) (params : List Value) (host : Host) (st : State) (x : Statement) (y : Answered)
-    (e : l.resolved (catalog st) host.ask x ≡ Ok (view y)) (f : l.fits x (length params) ≡ true) (ex : l.exact params ≡ exact means params) (sz : l.sized params ≡ sized means params)
+    (e : l.resolved (catalog st) host.ask x ≡ Ok (view y)) (f : l.fits x (length params) ≡ true)
     (under : (g : Regard) → l.regarded g params ≡ regarded g means params) where
   against_is : cause_of l host st params x ≡ against means params host st (view y)
-  against_is = cause_is l host st params x (Ok (view y)) true e f ∙ (λ i. first_cause (causes_of host st (view y) (evaluated (ex i) st (view y)) (evaluated (sz i) st (view y))))
+  against_is = cause_is l host st params x (Ok (view y)) true e f ∙ (λ i. first_cause (causes_of host st (view y) (evaluated (under (strict None) i) st (view y)) (evaluated (under (strict byte_limit) i) st (view y))))
 
   -- where it leaves a session that refuses it
   ends_so : (g : Refusal) → statement.left_refused l host st params x g ≡ refused st (view y) g
@@ -233,12 +234,12 @@ module _ (l : Language Statement Ordered) (means : Means) (params : List Value) 
     (
       against_is ∙ p.0,
       ap (λ (o : Result (Resolved Ordered) Refusal). option_map (λ r. reply_to r (rows_of l host st params r)) (result_ok o)) e
-          ∙ (λ i. Some (reply_to (view y) (unwrap_or (evaluated (sz i) st (view y)) []))) ∙ ap Some (sym p.1.0),
+          ∙ (λ i. Some (reply_to (view y) (unwrap_or (evaluated (under (strict byte_limit) i) st (view y)) []))) ∙ ap Some (sym p.1.0),
       subst (λ (o : Result (Resolved Ordered) Refusal). ModulesLeave (option_and_then updates_module (result_ok o)) (option_map_or (rows_of l host st params) (result_ok o) []) st.modules new.modules) (sym e)
-          (subst (λ (m : Meaning Ordered). ModulesLeave (updates_module (view y)) (unwrap_or (evaluated m st (view y)) []) st.modules new.modules) (sym sz) p.1.1.0),
+          (subst (λ (m : Meaning Ordered). ModulesLeave (updates_module (view y)) (unwrap_or (evaluated m st (view y)) []) st.modules new.modules) (sym (under (strict byte_limit))) p.1.1.0),
     ),
     ap (λ (o : Result (Resolved Ordered) Refusal). option_map_or (λ r. left_by st r (rows_of l host st params r) new.modules) (result_ok o) st) e
-        ∙ (λ i. left_by st (view y) (unwrap_or (evaluated (sz i) st (view y)) []) new.modules) ∙ sym p.1.1.1,
+        ∙ (λ i. left_by st (view y) (unwrap_or (evaluated (under (strict byte_limit) i) st (view y)) []) new.modules) ∙ sym p.1.1.1,
   )
   replies_performed (Err g) new p = (
     (subst (λ (c : Cause). IsWant g ⊎ Tells c g) (sym against_is) p.0, (ap (λ (s : State). s.modules) p.1.0 ∙ refused_modules st (view y) g, found)),
@@ -299,14 +300,6 @@ module _ {C : Type 0} (function_of : List ℕ → ℕ → Option Definition) (sc
   counts : (x : Statement) → language.fits x (length params) ≡ fits x (length params)
   unfolding spoken
   counts x = refl
-
-  exactly : language.exact params ≡ exact means params
-  unfolding spoken
-  exactly = refl
-
-  limited : language.sized params ≡ sized means params
-  unfolding spoken
-  limited = refl
 
   regards : (g : Regard) → language.regarded g params ≡ regarded g means params
   unfolding spoken
@@ -377,7 +370,7 @@ module _ {C : Type 0} (function_of : List ℕ → ℕ → Option Definition) (sc
     replied : is_clean new → Replies language under (stands old) params x result (stands new)
     replied clean =
         let first = reads (done.device.was_clean clean) in
-        replies_performed language means params under (stands old) x y (resolves (stands old) snap x first.names ∙ ap viewed allows.0) (counts x ∙ allows.1) exactly limited regards
+        replies_performed language means params under (stands old) x y (resolves (stands old) snap x first.names ∙ ap viewed allows.0) (counts x ∙ allows.1) regards
         result (stands new) (subst (λ (st : State). PerformsWith means params under st (view y) result (stands new)) first.same (done.performs clean))
 
     pub carries_performed : (is_honest middle → is_honest old) → (is_clean middle → is_clean old) → (is_honest middle → is_clean old → is_clean middle) → Does old x result new
@@ -394,7 +387,7 @@ module _ {C : Type 0} (function_of : List ℕ → ℕ → Option Definition) (sc
     transacted permits clean =
         let y : Answered = permits.0 in
         let same : y ≡ z = (judged_left (known_by function_of named order_of snap) under.ask x y permits.1.0).0 ∙ is under.ask (known_by function_of named order_of snap) in
-        replies_performed language means params under (stands old) x z (transacts (stands old) snap x of ∙ ap viewed (permits.1.0 ∙ ap Ok same)) (counts x ∙ permits.1.1) exactly limited regards
+        replies_performed language means params under (stands old) x z (transacts (stands old) snap x of ∙ ap viewed (permits.1.0 ∙ ap Ok same)) (counts x ∙ permits.1.1) regards
         result (stands new) (done.performs clean)
 
     pub carries_transacted : Permits (known_by function_of named order_of snap) under.ask x (length params) (Ok tt) → Does old x result new

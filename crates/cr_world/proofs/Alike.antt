@@ -9,7 +9,8 @@ use Rattle.cr_lattice.specs.declared.table.Table.{Table}
 use Rattle.cr_lattice.specs.Check.{same_bytes}
 use Rattle.cr_query.specs.Queries.{Query}
 use Rattle.cr_query.specs.Query.{Row, answer}
-use Rattle.cr_query.proofs.Refining.{Gains, answer_refines}
+use Rattle.cr_scalar.specs.Meaning.{byte_limit}
+use Rattle.cr_meaning.specs.Meaning.{strict}
 use Rattle.cr_world.specs.declared.refusal.Refusal.{Refusal}
 use Rattle.cr_world.specs.declared.refusal.Refusal.TheVariants as refusal
 use Rattle.cr_world.specs.declared.command.Reply.{Reply}
@@ -18,8 +19,8 @@ use Rattle.cr_world.specs.Resolved.{Resolved, Select}
 use Rattle.cr_world.specs.Language.{Language, IsLanguage, IsOf, definition_in}
 use Rattle.cr_world.specs.State.{State, ModuleState, now, catalog, table_of, table_rows, rows_or, other_rows, rows_named, tables_named}
 use Rattle.cr_world.specs.Causes.{Cause, Free, Is, Evaluation, or_else, of_result, where_true, Tells, IsFault, IsWant}
-use Rattle.cr_world.specs.Statement.{Host, Answers, is_fault, evaluation_cause, later_cause, reply_to, rows_of, resolved_of, result_ok}
-use Rattle.cr_world.specs.Headline.{IsOpen, SayTheSame, HaveTable}
+use Rattle.cr_world.specs.Statement.{Host, Answers, evaluation_cause, later_cause, reply_to, rows_of, resolved_of, result_ok}
+use Rattle.cr_world.specs.Headline.{RefuseAlike, SayTheSame, HaveTable}
 
 pub at_place : {X : Type 0} (P : X → Type 0) (xs : List X) (i : ℕ) (x : X) → AllByRecursion P xs → slice_get xs i ≡ Some x → P x
 at_place P [] i x all e = absurd (let q : ⊥ = cc in q)
@@ -58,74 +59,42 @@ abbrev AnswersBy : Cause → Option Reply → Result Reply Refusal → Type 0
 AnswersBy c o (Ok reply) = (c ≡ Free) × (o ≡ Some reply)
 AnswersBy c o (Err r) = IsWant r ⊎ Tells c r
 
--- what may be told of one cause says the same, or is open
-told_fault : (b : Bool) (r x : Refusal) → IsFault b r → IsFault b x → SayTheSame (Err r) (Err x)
-told_fault true r x (inr h) k = inl (inr h)
-told_fault true r x (inl h) (inr k) = inr (inl (inr k))
-told_fault true r x (inl h) (inl k) = inr (inr (inr (h, k)))
-told_fault false r x h k = inl (inr h)
+-- what may be told of one cause
+told_fault : (b : Bool) (r x : Refusal) → IsFault b r → IsFault b x → RefuseAlike r x
+told_fault true r x h k = inr (h, k)
+told_fault false r x h k = inl (h ∙ sym k)
 
-told_by : (c : Cause) (r x : Refusal) → Tells c r → Tells c x → SayTheSame (Err r) (Err x)
+told_by : (c : Cause) (r x : Refusal) → Tells c r → Tells c x → RefuseAlike r x
 told_by Free r x h k = absurd h
-told_by (Is z) r x h k = inr (inr (inl (h ∙ sym k)))
+told_by (Is z) r x h k = inl (h ∙ sym k)
 told_by (Evaluation b) r x h k = told_fault b r x h k
 
 both_refused : (c : Cause) (r x : Refusal) → IsWant r ⊎ Tells c r → IsWant x ⊎ Tells c x → SayTheSame (Err r) (Err x)
-both_refused c r x (inl h) k = inl (inl h)
-both_refused c r x (inr h) (inl k) = inr (inl (inl k))
-both_refused c r x (inr h) (inr k) = told_by c r x h k
+both_refused c r x (inl h) k = inl h
+both_refused c r x (inr h) (inl k) = inr (inl k)
+both_refused c r x (inr h) (inr k) = inr (inr (told_by c r x h k))
+
+-- what is refused without a cause is refused for want
+only_want : (c : Cause) (x : Refusal) → c ≡ Free → IsWant x ⊎ Tells c x → IsWant x
+only_want c x e (inl h) = h
+only_want c x e (inr h) = absurd (subst (λ (z : Cause). Tells z x) e h)
 
 -- one cause and one reply
 same_cause : (c : Cause) (o : Option Reply) (r t : Result Reply Refusal) → AnswersBy c o r → AnswersBy c o t → SayTheSame r t
 same_cause c o (Ok x) (Ok y) p q = let e : Some x ≡ Some y = sym p.1 ∙ q.1 in cc
-same_cause c o (Ok x) (Err s) p q = only q where
-  only : IsWant s ⊎ Tells c s → IsOpen s
-  only (inl h) = inl h
-  only (inr h) = absurd (subst (λ (z : Cause). Tells z s) p.0 h)
-same_cause c o (Err r) (Ok y) p q = only p where
-  only : IsWant r ⊎ Tells c r → IsOpen r
-  only (inl h) = inl h
-  only (inr h) = absurd (subst (λ (z : Cause). Tells z r) q.0 h)
+same_cause c o (Ok x) (Err s) p q = only_want c s p.0 q
+same_cause c o (Err r) (Ok y) p q = only_want c r q.0 p
 same_cause c o (Err r) (Err s) p q = both_refused c r s p q
 
--- ---- evaluations that are the same without a limit on values
+-- ---- evaluations that are the same, without a limit on values and with it
 
 abbrev Evaluates : Option (List Row) → Option (List Row) → Result Reply Refusal → Type 0
 Evaluates exact sized r = AnswersBy (evaluation_cause None exact sized) (Some (Rows (unwrap_or sized []))) r
 
-not_free : {A : Type 0} (b : Bool) → Evaluation b ≡ Free → A
-not_free b e = absurd (let q : ⊥ = cc in q)
-
--- no answer with the limit where there is one without: a value is over it
-for_the_limit : (exact : Option (List Row)) (rows : List Row) (r : Result Reply Refusal) → exact ≡ Some rows → Evaluates exact None r → (x : Refusal) → r ≡ Err x → IsOpen x
-for_the_limit exact rows (Ok y) e p x f = not_free (is_fault exact) p.0
-for_the_limit exact rows (Err y) e (inl h) x f = let q : y ≡ x = cc in subst IsOpen q (inl h)
-for_the_limit exact rows (Err y) e (inr h) x f =
-    let q : y ≡ x = cc in subst IsOpen q (inr (subst (λ (o : Option (List Row)). IsFault (is_fault o) y) e h))
-
-only_want : (rows : List Row) (exact : Option (List Row)) (x : Refusal) → Evaluates exact (Some rows) (Err x) → IsOpen x
-only_want rows exact x (inl h) = inl h
-only_want rows exact x (inr h) = absurd h
-
-one_side : (exact : Option (List Row)) (rows : List Row) (r t : Result Reply Refusal) (other : Option (List Row)) → exact ≡ Some rows → Evaluates other (Some rows) r → Evaluates exact None t → SayTheSame r t
-one_side exact rows r (Ok y) other e p q = not_free (is_fault exact) q.0
-one_side exact rows (Ok x) (Err s) other e p q = for_the_limit exact rows (Err s) e q s refl
-one_side exact rows (Err x) (Err s) other e p q = inl (only_want rows other x p)
-
-other_side : (exact : Option (List Row)) (rows : List Row) (r t : Result Reply Refusal) (other : Option (List Row)) → exact ≡ Some rows → Evaluates exact None r → Evaluates other (Some rows) t → SayTheSame r t
-other_side exact rows (Ok x) t other e p q = not_free (is_fault exact) p.0
-other_side exact rows (Err x) (Ok y) other e p q = for_the_limit exact rows (Err x) e p x refl
-other_side exact rows (Err x) (Err s) other e p q = inr (inl (only_want rows other s q))
-
-evaluations_same : (ex sz ex' sz' : Option (List Row)) (r t : Result Reply Refusal) → ex ≡ ex' → Gains sz ex → Gains sz' ex' → Evaluates ex sz r → Evaluates ex' sz' t → SayTheSame r t
-evaluations_same ex None ex' None r t e g h p q =
-    same_cause (Evaluation (is_fault ex)) (Some (Rows [])) r t p (subst (λ (o : Option (List Row)). AnswersBy (Evaluation (is_fault o)) (Some (Rows [])) t) (sym e) q)
-evaluations_same ex (Some rows) ex' None r t e g h p q = one_side ex' rows r t ex (sym e ∙ g rows refl) p q
-evaluations_same ex None ex' (Some rows) r t e g h p q = other_side ex rows r t ex' (e ∙ h rows refl) p q
-evaluations_same ex (Some rows) ex' (Some rows') r t e g h p q =
-    let f : Some rows ≡ Some rows' = sym (g rows refl) ∙ e ∙ h rows' refl in
-    let k : rows ≡ rows' = cc in
-    same_cause Free (Some (Rows rows)) r t p (subst (λ (rs : List Row). AnswersBy Free (Some (Rows rs)) t) (sym k) q)
+evaluations_same : (ex sz ex' sz' : Option (List Row)) (r t : Result Reply Refusal) → ex ≡ ex' → sz ≡ sz' → Evaluates ex sz r → Evaluates ex' sz' t → SayTheSame r t
+evaluations_same ex sz ex' sz' r t e f p q =
+    same_cause (evaluation_cause None ex sz) (Some (Rows (unwrap_or sz []))) r t p
+    (subst (λ (o : Option (List Row)). Evaluates ex o t) (sym f) (subst (λ (o : Option (List Row)). Evaluates o sz' t) (sym e) q))
 
 -- ---- selects
 
@@ -147,38 +116,38 @@ module _ {S E : Type 0} (l : Language S E) (law : IsLanguage l) (host : Host) (p
   by_resolved st (Ok x) ms a = (a.0, a.1)
   by_resolved st (Err x) ms a = a.0
 
+  abbrev AnswerAlike : State → State → List (List ℕ) → Query E → Type 0
+  AnswerAlike st new names q = (most : Option ℕ) → answer (l.regarded (strict most) params) q (tables_named st names) ≡ answer (l.regarded (strict most) params) q (tables_named new names)
+
   -- a select whose parameters don't fit, and one whose do
   select_same : (st new : State) (b : Bool) (names : List (List ℕ)) (q : Query E) (r t : Result Reply Refusal)
-      → answer (l.exact params) q (tables_named st names) ≡ answer (l.exact params) q (tables_named new names)
+      → AnswerAlike st new names q
       → AnswersBy (or_else (or_else Free (where_true b refusal.Parameters)) (later_cause l host st params (Some (Select names q)))) (reply_by st (Ok (Select names q))) r
       → AnswersBy (or_else (or_else Free (where_true b refusal.Parameters)) (later_cause l host new params (Some (Select names q)))) (reply_by new (Ok (Select names q))) t
       → SayTheSame r t
   select_same st new true names q (Ok x) t e p k = absurd (let f : Is refusal.Parameters ≡ Free = p.0 in let g : ⊥ = cc in g)
   select_same st new true names q (Err x) (Ok y) e p k = absurd (let f : Is refusal.Parameters ≡ Free = k.0 in let g : ⊥ = cc in g)
   select_same st new true names q (Err x) (Err y) e p k = both_refused (Is refusal.Parameters) x y p k
-  select_same st new false names q r t e p k =
-      let ts = tables_named st names in
-      let us = tables_named new names in
-      evaluations_same (answer (l.exact params) q ts) (answer (l.sized params) q ts) (answer (l.exact params) q us) (answer (l.sized params) q us) r t e
-      (answer_refines (l.sized params) (l.exact params) (law.refines params) q ts)
-      (answer_refines (l.sized params) (l.exact params) (law.refines params) q us)
-      (plain st r p) (plain new t k) where
-        or_free : (c : Cause) → or_else c Free ≡ c
-        or_free Free = refl
-        or_free (Is z) = refl
-        or_free (Evaluation z) = refl
+  select_same st new false names q r t e p k = evaluations_same (exact st) (sized st) (exact new) (sized new) r t (e None) (e byte_limit) (plain st r p) (plain new t k) where
+    or_free : (c : Cause) → or_else c Free ≡ c
+    or_free Free = refl
+    or_free (Is z) = refl
+    or_free (Evaluation z) = refl
 
-        plain : (st : State) (r : Result Reply Refusal)
-            → AnswersBy (later_cause l host st params (Some (Select names q))) (reply_by st (Ok (Select names q))) r
-            → Evaluates (answer (l.exact params) q (tables_named st names)) (answer (l.sized params) q (tables_named st names)) r
-        plain st r p =
-            subst (λ (c : Cause). AnswersBy c (Some (Rows (unwrap_or (answer (l.sized params) q (tables_named st names)) []))) r)
-            (or_free (evaluation_cause None (answer (l.exact params) q (tables_named st names)) (answer (l.sized params) q (tables_named st names)))) p
+    abbrev exact : State → Option (List Row)
+    exact x = answer (l.regarded (strict None) params) q (tables_named x names)
+
+    abbrev sized : State → Option (List Row)
+    sized x = answer (l.regarded (strict byte_limit) params) q (tables_named x names)
+
+    plain : (x : State) (y : Result Reply Refusal)
+        → AnswersBy (later_cause l host x params (Some (Select names q))) (reply_by x (Ok (Select names q))) y
+        → Evaluates (exact x) (sized x) y
+    plain x y p = subst (λ (c : Cause). AnswersBy c (Some (Rows (unwrap_or (sized x) []))) y) (or_free (evaluation_cause None (exact x) (sized x))) p
 
   module _ (st new : State) (sel : l.is_select s ≡ true) (free : l.is_free s ≡ true)
       (same : resolved_of l host st params s ≡ resolved_of l host new params s)
-      (answers : (names : List (List ℕ)) (q : Query E) → resolved_of l host st params s ≡ Ok (Select names q)
-      → answer (l.exact params) q (tables_named st names) ≡ answer (l.exact params) q (tables_named new names)) where
+      (answers : (names : List (List ℕ)) (q : Query E) → resolved_of l host st params s ≡ Ok (Select names q) → AnswerAlike st new names q) where
     by_same : (o : Result (Resolved E) Refusal) (r t : Result Reply Refusal) → resolved_of l host st params s ≡ o → By st o r → By new o t → SayTheSame r t
     by_same (Err z) r t e p q = same_cause (Is z) None r t p q
     by_same (Ok x) r t e p q =
@@ -201,5 +170,5 @@ module _ {S E : Type 0} (l : Language S E) (law : IsLanguage l) (host : Host) (p
   sessions_agree st new r t ms ns sel free shown have a b =
       say_the_same st new sel free
       (law.local s (catalog st) (catalog new) host.ask sel free (all_map (HaveTable st new) (λ n. definition_in (catalog st) n ≡ definition_in (catalog new) n) (definitions_same st new) (l.names s) have))
-      (λ names q e. ap (answer (l.exact params) q) (tables_same st new shown names (of_names st new names (l.names s) (law.reads s (catalog st) host.ask names q sel e) have)))
+      (λ names q e most. ap (answer (l.regarded (strict most) params) q) (tables_same st new shown names (of_names st new names (l.names s) (law.reads s (catalog st) host.ask names q sel e) have)))
       r t ms ns a b

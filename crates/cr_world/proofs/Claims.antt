@@ -17,6 +17,7 @@ use Rattle.cr_world.specs.Headline.{TakingsAreJoins, RefusedChangesNothing, Refu
 use Rattle.cr_query.proofs.QueryLaws.{answer_same}
 use Rattle.cr_query.proofs.HiddenColumns.{seen_alike}
 use Rattle.cr_query.specs.Queries.{Query}
+use Rattle.cr_meaning.specs.Meaning.{strict}
 use Rattle.cr_world.proofs.Alike.{say_the_same}
 
 taken : (h : Holding) (more : List Change) (mark : Option Mark) → IsSound h → kept_of (committed h more mark) ≡ join (kept_of h) more
@@ -80,9 +81,9 @@ pub blind : {S E : Type 0} (l : Language S E) (k : Closures) → IsLanguage l �
 blind {S} {E} l k law host st new params s r t ms ns sel free definitions hidden a b =
     say_the_same l law host params s st new sel free
     (law.local s (catalog st) (catalog new) host.ask sel free definitions)
-    (λ (names : List (List ℕ)) (q : Query E) e.
+    (λ (names : List (List ℕ)) (q : Query E) e most.
     let h = hidden names q e in
-    sym (law.unseen q params (tables_named st names) h.1.2)
-    ∙ answer_same (l.exact params) (law.lawful params) q _ _ (seen_alike (l.standing q) h.0 _ _ h.1.0 h.1.1)
-    ∙ law.unseen q params (tables_named new names) h.1.3)
+    sym (law.unseen most q params (tables_named st names) h.1.2)
+    ∙ answer_same (l.regarded (strict most) params) (law.lawful most params) q _ _ (seen_alike (l.standing q) h.0 _ _ h.1.0 h.1.1)
+    ∙ law.unseen most q params (tables_named new names) h.1.3)
     r t ms ns a b

@@ -44,8 +44,6 @@ l = record {
   is_select = λ s. true;
   is_free = λ s. true;
   standing = λ q. [];
-  exact = λ g. m;
-  sized = λ g. m;
   regarded = λ regard g. m;
 }
 

@@ -18,13 +18,11 @@ use Rattle.cr_world.specs.declared.command.FleetReply.{FleetReply}
 use Rattle.cr_world.specs.declared.command.FleetReply.TheVariants.{Refused}
 use Rattle.cr_world.specs.declared.command.Reply.{Reply}
 use Rattle.cr_world.specs.declared.command.Script.{Script as TheScript}
-use Rattle.cr_world.specs.declared.refusal.EvalFault.{EvalFault}
 use Rattle.cr_world.specs.declared.refusal.Refusal.{Refusal}
-use Rattle.cr_world.specs.declared.refusal.Refusal.TheVariants as refusal
 use Rattle.cr_world.specs.Resolved.{Select}
 use Rattle.cr_world.specs.Language.{Language, AreWide, definition_in}
 use Rattle.cr_world.specs.State.{State, ModuleState, catalog, table_of, now, tables_named}
-use Rattle.cr_world.specs.Causes.{IsWant}
+use Rattle.cr_world.specs.Causes.{IsFault, IsWant}
 use Rattle.cr_world.specs.Statement.{Host, Answers, adding, ended, is_memory, stepped, ends, resolved_of}
 use Rattle.cr_world.specs.Scripts.{Moment}
 use Rattle.cr_world.specs.World.{World, Member, Keeps, Closures, used}
@@ -34,23 +32,16 @@ use Rattle.cr_world.specs.Takings.{taking, pulling, pulling_since}
 
 -- ---- replies that say the same
 
--- no answer: want of memory, a store that refuses, a value over its limit
-abbrev pub IsOpen : Refusal → Type 0
-IsOpen r = IsWant r ⊎ (r ≡ refusal.TooBig)
-
-abbrev pub IsEval : Refusal → Type 0
-IsEval r = (e : EvalFault) × (r ≡ refusal.Eval e)
-
--- the same refusal; or both are for an evaluation, and which of several faults is open
+-- the same refusal; or both are for an evaluation, and which of several faults is told is open
 abbrev pub RefuseAlike : Refusal → Refusal → Type 0
-RefuseAlike r s = (r ≡ s) ⊎ (IsEval r × IsEval s)
+RefuseAlike r s = (r ≡ s) ⊎ (IsFault true r × IsFault true s)
 
--- Where neither reply is open, both show the same list of rows, or both are refused alike.
+-- Unless one of them tells of want, both show the same list of rows, or both are refused alike.
 abbrev pub SayTheSame : Result Reply Refusal → Result Reply Refusal → Type 0
 SayTheSame (Ok x) (Ok y) = x ≡ y
-SayTheSame (Ok x) (Err s) = IsOpen s
-SayTheSame (Err r) (Ok y) = IsOpen r
-SayTheSame (Err r) (Err s) = IsOpen r ⊎ (IsOpen s ⊎ RefuseAlike r s)
+SayTheSame (Ok x) (Err s) = IsWant s
+SayTheSame (Err r) (Ok y) = IsWant r
+SayTheSame (Err r) (Err s) = IsWant r ⊎ (IsWant s ⊎ RefuseAlike r s)
 
 -- ---- what two sessions have in common
 

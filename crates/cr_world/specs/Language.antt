@@ -11,9 +11,9 @@ use Rattle.cr_cells.specs.Tables.{is_named}
 use Rattle.cr_host.specs.declared.meaning.Action.{Action}
 use Rattle.cr_host.specs.declared.meaning.Auth.{Auth}
 use Rattle.cr_query.specs.Queries.{Query, Joining}
-use Rattle.cr_query.specs.Query.{Row, Meaning, Lawful, Refines, answer}
-use Rattle.cr_query.specs.Plans.{QuietIsSafe, seen}
-use Rattle.cr_meaning.specs.Meaning.{Regard}
+use Rattle.cr_query.specs.Query.{Row, Meaning, Lawful, answer}
+use Rattle.cr_query.specs.Plans.{seen}
+use Rattle.cr_meaning.specs.Meaning.{Regard, strict}
 use Rattle.cr_world.specs.declared.refusal.Refusal.{Refusal}
 use Rattle.cr_world.specs.Resolved.{Resolved}
 use Rattle.cr_world.specs.Resolved as r
@@ -54,10 +54,7 @@ pub record Language (S E : Type 0) : Type 0 where
   pub is_free : S → Bool
   -- for each table of a query, which of its columns stand in it
   pub standing : Query E → List (List Bool)
-  -- with these parameters, without a limit on values, and with it
-  pub exact : List Value → Meaning E
-  pub sized : List Value → Meaning E
-  -- the same under each regard, which says what counts as a fault
+  -- what expressions mean with these parameters, as they are regarded
   pub regarded : Regard → List Value → Meaning E
 
 -- each row has as many values as its table has columns
@@ -76,10 +73,7 @@ IsSelect {E} x = (names : List (List ℕ)) × ((q : Query E) × (x ≡ r.Select 
 
 -- what the layers below promise of them
 pub record IsLanguage {S E : Type 0} (l : Language S E) : Type 0 where
-  pub lawful : (params : List Value) → Lawful (l.exact params)
-  pub lawful_sized : (params : List Value) → Lawful (l.sized params)
-  pub refines : (params : List Value) → Refines (l.sized params) (l.exact params)
-  pub quiet_safe : (params : List Value) → QuietIsSafe (l.exact params)
+  pub lawful : (most : Option ℕ) (params : List Value) → Lawful (l.regarded (strict most) params)
   -- a select that asks for neither site nor version looks at what its own names stand for, and at nothing else
   pub local : (s : S) (c d : Catalog) (ask : Asked) → l.is_select s ≡ true → l.is_free s ≡ true → AllByRecursion (λ n. definition_in c n ≡ definition_in d n) (l.names s)
       → l.resolved c ask s ≡ l.resolved d ask s
@@ -89,5 +83,5 @@ pub record IsLanguage {S E : Type 0} (l : Language S E) : Type 0 where
   -- a select stays one, whatever is ignored
   pub selects : (s : S) (c : Catalog) (ask : Asked) (x : Resolved E) → l.is_select s ≡ true → l.resolved c ask s ≡ Ok x → IsSelect x
   -- NULL may stand for every column that doesn't stand in a query
-  pub unseen : (q : Query E) (params : List Value) (tables : List (List Row)) → AreWide q.sources tables
-      → answer (l.exact params) q (seen (l.standing q) tables) ≡ answer (l.exact params) q tables
+  pub unseen : (most : Option ℕ) (q : Query E) (params : List Value) (tables : List (List Row)) → AreWide q.sources tables
+      → answer (l.regarded (strict most) params) q (seen (l.standing q) tables) ≡ answer (l.regarded (strict most) params) q tables

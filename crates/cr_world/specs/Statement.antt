@@ -328,10 +328,10 @@ module _ {S E : Type 0} (l : Language S E) (host : Host) (st : State) (params : 
   allowed_of s = result_ok (resolved_of s)
 
   abbrev pub exact_of : Resolved E → Option (List Row)
-  exact_of r = evaluated (l.exact params) st r
+  exact_of r = evaluated (l.regarded (strict None) params) st r
 
   abbrev pub sized_of : Resolved E → Option (List Row)
-  sized_of r = evaluated (l.sized params) st r
+  sized_of r = evaluated (l.regarded (strict byte_limit) params) st r
 
   -- before a statement is carried out
   abbrev pub early_cause : S → Cause

@@ -22,7 +22,7 @@ loop-combination-preserved g c =
     let h = host (g.F.Functions.function_of c.args.functions.now) (g.F.Functions.scalar c.args.functions.now) (g.F.Functions.step c.args.functions.now) (g.F.Functions.finish c.args.functions.now) (g.F.Functions.order_of c.args.functions.now) in
     gather_next h c.args.params.now (λ m d. option_map single (keyed_by m c.args.exprs.now d)) (λ m. each (keyed_by m c.args.exprs.now) c.args.combinations.now) c.args.combinations.now c.loop-combination.combination-index c.combination-item.result (map pair_of c.loop-combination.out.items) (map pair_of c.push.new.out.items) c.loop-combination-test.true c.combination-item.is
     (one_behind h c.args.params.now (λ m. keyed_by m c.args.exprs.now c.combination-item.result) (c.in_ok-key.key, c.combination-item.result) (map pair_of c.loop-combination.out.items) (map pair_of c.push.new.out.items)
-    (ap (map pair_of) c.in_ok-push.ensures ∙ map-append pair_of c.loop-combination.out.items _)
+    (ap (map pair_of) c.in_ok-push.ensures.puts ∙ map-append pair_of c.loop-combination.out.items _)
     (keyed_both h c.args.params.now c.args.exprs.now c.as_slice.result.now c.combination-item.result c.in_ok-key.key c.as_slice.ensures c.in_ok-key.ensures))
     c.loop-combination.invariant
 

@@ -34,7 +34,7 @@ loop-row-preserved-in-Continue-branch-2 g c =
     let so = subst (λ b. IsMeant h c.args.params.now (λ m. all_true m ts c.in-Some.row) b) c.if-is_kept.true (subst (λ (r : Row). IsMeant h c.args.params.now (λ m. all_true m ts r) c.in_ok-is_kept.is_kept) c.as_slice.ensures c.in_ok-is_kept.ensures) in
     record {
       whole = gone c.loop-row.yielded c.in-Some.row (into_iter_items c.next.new.self) (into_iter_items c.loop-row.row-iterator) c.args.rows.items c.in-Some.ensures.steps.0 c.loop-row.invariant.whole;
-      kept = subst (IsMeant h c.args.params.now (λ m. those (all_true m ts) (c.loop-row.yielded ++ c.in-Some.row ∷ []))) (sym c.in_ok-push.ensures) (both_kept h c.args.params.now ts c.loop-row.yielded c.loop-row.out.items c.in-Some.row c.loop-row.invariant.kept so);
+      kept = subst (IsMeant h c.args.params.now (λ m. those (all_true m ts) (c.loop-row.yielded ++ c.in-Some.row ∷ []))) (sym c.in_ok-push.ensures.puts) (both_kept h c.args.params.now ts c.loop-row.yielded c.loop-row.out.items c.in-Some.row c.loop-row.invariant.kept so);
     }
 
 pub loop-row-preserved : goal.loop-row-preserved

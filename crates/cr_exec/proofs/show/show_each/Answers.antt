@@ -14,7 +14,7 @@ loop-combination-preserved g c =
     let h = host (g.F.Functions.function_of c.args.functions.now) (g.F.Functions.scalar c.args.functions.now) (g.F.Functions.step c.args.functions.now) (g.F.Functions.finish c.args.functions.now) (g.F.Functions.order_of c.args.functions.now) in
     gather_next h c.args.params.now (λ m d. option_map single (pair (each (λ e. m.value e d) (map there c.args.results.now)) (each (λ e. m.value e d) (map there c.args.keys.now)))) (λ m. each (λ d. pair (each (λ e. m.value e d) (map there c.args.results.now)) (each (λ e. m.value e d) (map there c.args.keys.now))) c.args.combinations.now) c.args.combinations.now c.loop-combination.combination-index c.combination-item.result (map shown_of c.loop-combination.out.items) (map shown_of c.push.new.out.items) c.loop-combination-test.true c.combination-item.is
     (one_behind h c.args.params.now (λ m. pair (each (λ e. m.value e c.combination-item.result) (map there c.args.results.now)) (each (λ e. m.value e c.combination-item.result) (map there c.args.keys.now))) (shown_of c.in_ok-shown.shown) (map shown_of c.loop-combination.out.items) (map shown_of c.push.new.out.items)
-    (ap (map shown_of) c.in_ok-push.ensures ∙ map-append shown_of c.loop-combination.out.items (c.in_ok-shown.shown ∷ []))
+    (ap (map shown_of) c.in_ok-push.ensures.puts ∙ map-append shown_of c.loop-combination.out.items (c.in_ok-shown.shown ∷ []))
     (subst (λ d. IsMeant h c.args.params.now (λ m. pair (each (λ e. m.value e d) (map there c.args.results.now)) (each (λ e. m.value e d) (map there c.args.keys.now))) (shown_of c.in_ok-shown.shown)) c.as_slice.ensures c.in_ok-shown.ensures))
     c.loop-combination.invariant
 

@@ -18,7 +18,7 @@ pub loop-expr-preserved : goal.loop-expr-preserved
 loop-expr-preserved g c =
     let h = host (g.F.Functions.function_of c.args.functions.now) (g.F.Functions.scalar c.args.functions.now) (g.F.Functions.step c.args.functions.now) (g.F.Functions.finish c.args.functions.now) (g.F.Functions.order_of c.args.functions.now) in
     gather_next h c.args.params.now (λ m e. option_map single (in_scope m c.args.scope (there e))) (λ m. each (in_scope m c.args.scope) (map there c.args.exprs.now)) c.args.exprs.now c.loop-expr.expr-index c.expr-item.result c.loop-expr.values.items c.push.new.out.items c.loop-expr-test.true c.expr-item.is
-    (one_behind h c.args.params.now (λ m. in_scope m c.args.scope (there c.expr-item.result)) c.in_ok-value.value c.loop-expr.values.items c.push.new.out.items (c.in_ok-push.ensures ∙ ap (λ v. c.loop-expr.values.items ++ v ∷ []) c.in_ok-value-2.ensures) c.in_ok-value.ensures)
+    (one_behind h c.args.params.now (λ m. in_scope m c.args.scope (there c.expr-item.result)) c.in_ok-value.value c.loop-expr.values.items c.push.new.out.items (c.in_ok-push.ensures.puts ∙ ap (λ v. c.loop-expr.values.items ++ v ∷ []) c.in_ok-value-2.ensures) c.in_ok-value.ensures)
     c.loop-expr.invariant
 
 pub returns-in_err-value : goal.returns-in_err-value

@@ -28,4 +28,4 @@ returns g c =
     let own = c.args.functions.now in
     let h = host (f.function_of own) (f.scalar own) (f.step own) (f.finish own) (f.order_of own) in
     stays h c.args.params.now c.args.terms.now c.args.row c.as_slice.result.now c.as_slice.ensures c.in_ok-is_meant.is_meant c.args.out.now.items
-    c.push.new.out.items c.if-is_meant.false c.in_ok-push.ensures c.in_ok-is_meant.ensures
+    c.push.new.out.items c.if-is_meant.false c.in_ok-push.ensures.puts c.in_ok-is_meant.ensures

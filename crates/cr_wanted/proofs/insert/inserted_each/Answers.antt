@@ -11,7 +11,7 @@ pub loop-tuple-preserved : goal.loop-tuple-preserved
 loop-tuple-preserved g c =
     let h = host (g.F.Functions.function_of c.args.functions.now) (g.F.Functions.scalar c.args.functions.now) (g.F.Functions.step c.args.functions.now) (g.F.Functions.finish c.args.functions.now) (g.F.Functions.order_of c.args.functions.now) in
     gather_next h c.args.params.now (λ m t. option_map single (writes.inserted m c.args.columns.now c.args.places.now (map plain t))) (λ m. each (λ t. writes.inserted m c.args.columns.now c.args.places.now (map plain t)) c.args.tuples.now) c.args.tuples.now c.loop-tuple.tuple-index c.tuple-item.result c.loop-tuple.out.items c.push.new.out.items c.loop-tuple-test.true c.tuple-item.is
-    (one_behind h c.args.params.now (λ m. writes.inserted m c.args.columns.now c.args.places.now (map plain c.tuple-item.result)) c.in_ok-row.row c.loop-tuple.out.items c.push.new.out.items c.in_ok-push.ensures
+    (one_behind h c.args.params.now (λ m. writes.inserted m c.args.columns.now c.args.places.now (map plain c.tuple-item.result)) c.in_ok-row.row c.loop-tuple.out.items c.push.new.out.items c.in_ok-push.ensures.puts
     (subst (λ t. IsMeant h c.args.params.now (λ m. writes.inserted m c.args.columns.now c.args.places.now (map plain t)) c.in_ok-row.row) c.as_slice.ensures c.in_ok-row.ensures))
     c.loop-tuple.invariant
 

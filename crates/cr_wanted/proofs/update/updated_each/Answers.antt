@@ -56,7 +56,7 @@ loop-alloc-preserved g c =
       read_next h c.args.params.now one all [] left _ c.in_ok-row.row c.loop-alloc.out.items c.push.new.out.items some c.in_ok-row.ensures.row
           (c.in_ok-next.ensures.goes_on ∙ ap rest_of c.in_ok-row.ensures.stays)
           (one_behind h c.args.params.now (λ m. updated_by m a.columns.now a.terms.now a.places.now a.exprs.now c.in_ok-row.row) c.in_ok-new.new
-          c.loop-alloc.out.items c.push.new.out.items c.in_ok-push.ensures c.in_ok-new.ensures) c.loop-alloc.invariant.0,
+          c.loop-alloc.out.items c.push.new.out.items c.in_ok-push.ensures.puts c.in_ok-new.ensures) c.loop-alloc.invariant.0,
       search rules,
       search rules,
     )
