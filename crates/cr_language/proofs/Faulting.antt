@@ -1,5 +1,5 @@
 -- The fault that is told of a statement is one that an expression of it has.
-use Rattle.std.proofs.Common.{◌≡◌, inl, inr, ℕ, Bool, true, false, cond, List, [], Option, Some, None, Err, refl, sym, ap, subst, ◌∙◌}
+use Rattle.std.proofs.Common.{◌≡◌, inr, ℕ, Bool, true, false, cond, List, Some, None, refl, ap, subst}
 use Rattle.std.specs.Str.{bytes_eq}
 use Rattle.std.proofs.lemmas.Slice.Eq.{bytes_eq-Decides}
 use Rattle.cr_value.specs.declared.value.Value.{Value}
@@ -11,10 +11,8 @@ use Rattle.cr_scalar.specs.Meaning.{byte_limit}
 use Rattle.cr_scalar.specs.Host.{Host as Functions}
 use Rattle.cr_query.proofs.Lacking.{answer_lacks, rows_lack, insert_lacks, update_lacks, delete_lacks}
 use Rattle.cr_query.proofs.Having.{query_has, insert_has, update_has, delete_has}
-use Rattle.cr_query.specs.Queries as written
-use Rattle.cr_query.specs.Query.{Row}
 use Rattle.cr_meaning.specs.View.{Ordered}
-use Rattle.cr_meaning.specs.Meaning.{Regard, Counts, regarded, strict}
+use Rattle.cr_meaning.specs.Meaning.{Counts, regarded, strict}
 use Rattle.cr_meaning.specs.Faults.{alone}
 use Rattle.cr_meaning.proofs.Faulting.{m, on_row, over, true_on_row, true_over}
 use Rattle.cr_world.specs.declared.refusal.Refusal.{Refusal}
@@ -22,8 +20,8 @@ use Rattle.cr_world.specs.declared.refusal.Refusal.TheVariants as refusal
 use Rattle.cr_world.specs.declared.refusal.EvalFault.TheVariants as eval
 use Rattle.cr_world.specs.Resolved.{Target, Resolved, Select, Mark, Insert, Update, Delete, Create, Alter, Begin, Commit, Rollback}
 use Rattle.cr_world.specs.Resolved as target
-use Rattle.cr_world.specs.State.{State, ModuleState, columns_of, rows_named, tables_named}
-use Rattle.cr_world.specs.Statement.{Host, Answers, IsFoundOf, Remains, allowed_of, evaluated, touches}
+use Rattle.cr_world.specs.State.{State, columns_of, rows_named, tables_named}
+use Rattle.cr_world.specs.Statement.{Host, IsFoundOf, allowed_of, evaluated, touches}
 use Rattle.cr_language.specs.Sql.{Engine, sql}
 use Rattle.cr_language.specs.Faults.{told, HasFault, ToldFaultsAreHad}
 
@@ -66,7 +64,7 @@ said_alone text = (inr refl, (ap (λ (b : Bool). cond b None (Some Null)) same, 
   same = (bytes_eq-Decides text text).1 refl
 
 module _ (e : Engine) (host : Host) (st : State) (params : List Value) (x : Statement) where
-  Found : Refusal → Type 0
+  abbrev Found : Refusal → Type 0
   Found r = IsFoundOf (sql e) host st params x r
 
   by_fault : (f : EvalFault) (r : Refusal) (y : Resolved Ordered) → told f ≡ Some r → Found r → allowed_of (sql e) host st params x ≡ Some y → touches st.modules y ≡ false

@@ -1,5 +1,5 @@
 -- Which fault of evaluation is told of a statement. Source: this project's own.
-use Rattle.std.specs.Prelude.{◌≡◌, Bool, false, List, Option, Some, None, Err}
+use Rattle.std.specs.Prelude.{◌≡◌, false, List, Option, Some, None, Err}
 use Rattle.cr_value.specs.declared.value.Value.{Value}
 use Rattle.cr_lattice.specs.declared.table.TableDef.{TableDef}
 use Rattle.cr_scalar.specs.declared.fault.EvalFault.{EvalFault}

@@ -119,6 +119,13 @@ module _ {S E : Type 0} (l : Language S E) (law : IsLanguage l) (host : Host) (p
   abbrev AnswerAlike : State → State → List (List ℕ) → Query E → Type 0
   AnswerAlike st new names q = (most : Option ℕ) → answer (l.regarded (strict most) params) q (tables_named st names) ≡ answer (l.regarded (strict most) params) q (tables_named new names)
 
+  -- without a limit on values, and with it
+  abbrev exact : List (List ℕ) → Query E → State → Option (List Row)
+  exact names q x = answer (l.regarded (strict None) params) q (tables_named x names)
+
+  abbrev sized : List (List ℕ) → Query E → State → Option (List Row)
+  sized names q x = answer (l.regarded (strict byte_limit) params) q (tables_named x names)
+
   -- a select whose parameters don't fit, and one whose do
   select_same : (st new : State) (b : Bool) (names : List (List ℕ)) (q : Query E) (r t : Result Reply Refusal)
       → AnswerAlike st new names q
@@ -128,22 +135,16 @@ module _ {S E : Type 0} (l : Language S E) (law : IsLanguage l) (host : Host) (p
   select_same st new true names q (Ok x) t e p k = absurd (let f : Is refusal.Parameters ≡ Free = p.0 in let g : ⊥ = cc in g)
   select_same st new true names q (Err x) (Ok y) e p k = absurd (let f : Is refusal.Parameters ≡ Free = k.0 in let g : ⊥ = cc in g)
   select_same st new true names q (Err x) (Err y) e p k = both_refused (Is refusal.Parameters) x y p k
-  select_same st new false names q r t e p k = evaluations_same (exact st) (sized st) (exact new) (sized new) r t (e None) (e byte_limit) (plain st r p) (plain new t k) where
+  select_same st new false names q r t e p k = evaluations_same (exact names q st) (sized names q st) (exact names q new) (sized names q new) r t (e None) (e byte_limit) (plain st r p) (plain new t k) where
     or_free : (c : Cause) → or_else c Free ≡ c
     or_free Free = refl
     or_free (Is z) = refl
     or_free (Evaluation z) = refl
 
-    abbrev exact : State → Option (List Row)
-    exact x = answer (l.regarded (strict None) params) q (tables_named x names)
-
-    abbrev sized : State → Option (List Row)
-    sized x = answer (l.regarded (strict byte_limit) params) q (tables_named x names)
-
     plain : (x : State) (y : Result Reply Refusal)
         → AnswersBy (later_cause l host x params (Some (Select names q))) (reply_by x (Ok (Select names q))) y
-        → Evaluates (exact x) (sized x) y
-    plain x y p = subst (λ (c : Cause). AnswersBy c (Some (Rows (unwrap_or (sized x) []))) y) (or_free (evaluation_cause None (exact x) (sized x))) p
+        → Evaluates (exact names q x) (sized names q x) y
+    plain x y p = subst (λ (c : Cause). AnswersBy c (Some (Rows (unwrap_or (sized names q x) []))) y) (or_free (evaluation_cause None (exact names q x) (sized names q x))) p
 
   module _ (st new : State) (sel : l.is_select s ≡ true) (free : l.is_free s ≡ true)
       (same : resolved_of l host st params s ≡ resolved_of l host new params s)
