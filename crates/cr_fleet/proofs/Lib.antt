@@ -9,3 +9,4 @@ pub mod Pulling
 pub mod PullingSince
 pub mod Running
 pub mod Converging
+pub mod Using

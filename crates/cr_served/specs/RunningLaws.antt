@@ -1,7 +1,9 @@
 -- Runs of a fleet, one after another.
-use Rattle.std.proofs.Common.{◌≡◌, refl, false, List, [], ◌∷◌, ◌++◌, inl}
+use Rattle.std.proofs.Common.{◌≡◌, refl, sym, subst, false, List, [], ◌∷◌, ◌++◌, inl}
 use Rattle.std.specs.List.{AllByRecursion}
 use Rattle.cr_guard.specs.Policy.{Rules}
+use Rattle.cr_guard.specs.declared.event.Event.{Event}
+use Rattle.cr_tree.specs.declared.statement.Statement.{Statement}
 use Rattle.cr_world.specs.declared.command.Command.{Command}
 use Rattle.cr_world.specs.declared.command.FleetReply.{FleetReply}
 use Rattle.cr_world.specs.Language.{Language}
@@ -11,6 +13,7 @@ use Rattle.cr_world.specs.Answers.{after, tells_want, AreAnswered}
 use Rattle.cr_world.specs.Run.{Run, world_after}
 use Rattle.cr_world.proofs.Running.{rows_converge, run_converges}
 use Rattle.cr_fleet.specs.Fleets.{FleetOf, AreClean, Shows, Steps}
+use Rattle.cr_fleet.specs.Hearing.{HearsRun, HearsStep}
 use Rattle.cr_fleet.proofs.Running.{clean_after_run}
 use Rattle.cr_served.specs.Running.{Ran}
 
@@ -26,32 +29,49 @@ module _ {S E : Type 0} (l : Language S E) (k : Closures) where
   run_both w (c ∷ cs) [] ds ss p q = absurd p
   run_both w (c ∷ cs) (r ∷ rs) ds ss p q = let t = run_both (after l k w c r) cs rs ds ss p.2 q in ((p.0, p.1, t.0), t.1)
 
-module _ {S E C : Type 0} (l : Language S E) (k : Closures) (is_clean : C → Type 0) (stands : C → State) where
-  -- what it takes to say where the fleet then stands
-  abbrev Leaves : FleetOf C × Rules → FleetOf C × Rules → List Command → List FleetReply → Type 0
-  Leaves s0 s1 cs rs = AreClean is_clean s1.0 → (w : World) → Shows stands w s0.1 s0.0 → Run l k w cs rs × Shows stands (world_after l k w cs rs) s1.1 s1.0
+-- what is heard of one list, and then of another
+pub hears_both : {E G : Type 0} (l : Language Statement E) (k : Closures) (hears : G → G → List Event → Type 0) (g mid h : G) (w : World) (cs : List Command) (rs : List FleetReply) (ds : List Command) (ss : List FleetReply)
+    → HearsRun l k hears g w cs rs mid → HearsRun l k hears mid (world_after l k w cs rs) ds ss h → HearsRun l k hears g w (cs ++ ds) (rs ++ ss) h
+hears_both l k hears g mid h w [] [] ds ss p q = subst (λ x. HearsRun l k hears x w ds ss h) p q
+hears_both l k hears g mid h w [] (r ∷ rs) ds ss p q = absurd p
+hears_both l k hears g mid h w (c ∷ cs) [] ds ss p q = absurd p
+hears_both l k hears g mid h w (c ∷ cs) (r ∷ rs) ds ss p q = (p.0, p.1, hears_both l k hears p.0 mid h (after l k w c r) cs rs ds ss p.2 q)
 
-  ran_where : (s0 s1 : FleetOf C × Rules) (cs : List Command) (rs : List FleetReply) → (AreClean is_clean s1.0 → AreClean is_clean s0.0) → (AreClean is_clean s0.0 → AreAnswered rs → AreClean is_clean s1.0) → Leaves s0 s1 cs rs → Ran l k is_clean stands s0 s1 cs rs
+module _ {E C G : Type 0} (rules : G → Rules) (hears : G → G → List Event → Type 0) (l : Language Statement E) (k : Closures) (is_clean : C → Type 0) (stands : C → State) where
+  abbrev Becomes : FleetOf C × G → FleetOf C × G → List Command → List FleetReply → Type 0
+  Becomes = Ran rules hears l k is_clean stands
+
+  -- what it takes to say where the fleet then stands, and what was heard
+  abbrev Leaves : FleetOf C × G → FleetOf C × G → List Command → List FleetReply → Type 0
+  Leaves s0 s1 cs rs = AreClean is_clean s1.0 → (w : World) → Shows stands w (rules s0.1) s0.0
+      → Run l k w cs rs × Shows stands (world_after l k w cs rs) (rules s1.1) s1.0 × HearsRun l k hears s0.1 w cs rs s1.1
+
+  ran_where : (s0 s1 : FleetOf C × G) (cs : List Command) (rs : List FleetReply) → (AreClean is_clean s1.0 → AreClean is_clean s0.0) → (AreClean is_clean s0.0 → AreAnswered rs → AreClean is_clean s1.0) → Leaves s0 s1 cs rs → Becomes s0 s1 cs rs
   ran_where s0 s1 cs rs was stays leaves = record {
     was_clean = was;
     stays_clean = stays;
-    ran = λ harm w s. leaves (clean_after_run is_clean s0.0 s1.0 rs stays harm) w s;
+    ran = λ harm w s. let t = leaves (clean_after_run is_clean s0.0 s1.0 rs stays harm) w s in (t.0, t.1);
+    heard = λ harm w s. (leaves (clean_after_run is_clean s0.0 s1.0 rs stays harm) w s).2;
     rows_converge = λ harm w s. rows_converge l k w cs rs (leaves (clean_after_run is_clean s0.0 s1.0 rs stays harm) w s).0;
     converges = λ is harm w s. run_converges l k is w cs rs (leaves (clean_after_run is_clean s0.0 s1.0 rs stays harm) w s).0;
   }
 
-  pub fleet_ran_none : (s : FleetOf C × Rules) → Ran l k is_clean stands s s [] []
-  fleet_ran_none s = ran_where s s [] [] (λ clean. clean) (λ clean answered. clean) (λ clean w h. (h.keep, h))
+  pub fleet_ran_none : (s : FleetOf C × G) → Becomes s s [] []
+  fleet_ran_none s = ran_where s s [] [] (λ clean. clean) (λ clean answered. clean) (λ clean w h. (h.keep, h, refl))
 
-  pub fleet_ran_one : (f0 f1 : FleetOf C) (p0 p1 : Rules) (c : Command) (r : FleetReply) → Steps l k is_clean stands p0 f0 c r p1 f1 → Ran l k is_clean stands (f0, p0) (f1, p1) (c ∷ []) (r ∷ [])
-  fleet_ran_one f0 f1 p0 p1 c r s = ran_where (f0, p0) (f1, p1) (c ∷ []) (r ∷ []) s.was_clean (λ clean answered. s.stays_clean clean answered.0)
-      (λ clean w h. let t = s.steps clean w h in ((h.keep, t.0, t.1.keep), t.1))
+  pub fleet_ran_one : (f0 f1 : FleetOf C) (g h : G) (c : Command) (r : FleetReply) → Steps l k is_clean stands (rules g) f0 c r (rules h) f1 → HearsStep l k hears is_clean stands g (rules g) f0 c r f1 h
+      → Becomes (f0, g) (f1, h) (c ∷ []) (r ∷ [])
+  fleet_ran_one f0 f1 g h c r s heard = ran_where (f0, g) (f1, h) (c ∷ []) (r ∷ []) s.was_clean (λ clean answered. s.stays_clean clean answered.0)
+      (λ clean w shows. let t = s.steps clean w shows in ((shows.keep, t.0, t.1.keep), t.1, (h, heard clean w shows, refl)))
 
-  pub fleet_ran_more : (s0 s1 s2 : FleetOf C × Rules) (cs ds : List Command) (rs ss : List FleetReply) → Ran l k is_clean stands s0 s1 cs rs → Ran l k is_clean stands s1 s2 ds ss → Ran l k is_clean stands s0 s2 (cs ++ ds) (rs ++ ss)
+  pub fleet_ran_more : (s0 s1 s2 : FleetOf C × G) (cs ds : List Command) (rs ss : List FleetReply) → Becomes s0 s1 cs rs → Becomes s1 s2 ds ss → Becomes s0 s2 (cs ++ ds) (rs ++ ss)
   fleet_ran_more s0 s1 s2 cs ds rs ss p q = ran_where s0 s2 (cs ++ ds) (rs ++ ss) (λ clean. p.was_clean (q.was_clean clean))
       (λ clean answered. let both = all_both (λ r. tells_want r ≡ false) rs ss answered in q.stays_clean (p.stays_clean clean both.0) both.1)
       (λ clean w s.
       let a = p.ran (inl (q.was_clean clean)) w s in
       let b = q.ran (inl clean) (world_after l k w cs rs) a.1 in
-      let t = run_both l k w cs rs ds ss a.0 b.0 in
-      rw t.1 (t.0, b.1))
+      let t = run_both l k w cs rs ds ss a.0 b.0 in (
+        t.0,
+        subst (λ (v : World). Shows stands v (rules s2.1) s2.0) (sym t.1) b.1,
+        hears_both l k hears s0.1 s1.1 s2.1 w cs rs ds ss (p.heard (inl (q.was_clean clean)) w s) (q.heard (inl clean) (world_after l k w cs rs) a.1),
+      ))

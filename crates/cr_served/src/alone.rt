@@ -26,7 +26,7 @@ pub(crate) fn step_alone<C: Cells, F: Functions, G: Guarding>(
     requires guard { G.is_faithful guard.old }
     requires ready { IsReady command.now }
     ensures ran { (has : List ℕ → Bool) → ⟦<F as Speaking>⟧.are_names functions.now has
-        → RanAlone (⟦<F as Speaking>⟧.language functions.now has) (⟦<G as Watching>⟧.closures guard.old) (honest C.is_honest) (clean C.is_clean) (standing C.holding) (session.old, G.rules guard.old) (session.new, G.rules guard.new) (command.now ∷ []) (result ∷ []) }
+        → RanAlone G.rules (⟦<G as Watching>⟧.hears) (⟦<F as Speaking>⟧.language functions.now has) (⟦<G as Watching>⟧.closures guard.old) (honest C.is_honest) (clean C.is_clean) (standing C.holding) (session.old, guard.old) (session.new, guard.new) (command.now ∷ []) (result ∷ []) }
     ensures closures { ⟦<G as Watching>⟧.closures guard.new ≡ ⟦<G as Watching>⟧.closures guard.old }
     ensures noting { G.noting guard.new ≡ G.noting guard.old }
     ensures faithful { G.is_faithful guard.new }

@@ -18,15 +18,16 @@ pub trait Served {
     ghost use Rattle.cr_tree.specs.declared.statement.Statement.{Statement};
     ghost use Rattle.cr_meaning.specs.View.{Ordered};
     ghost use Rattle.cr_guard.specs.Policy.{Rules};
+    ghost use Rattle.cr_guard.specs.declared.event.Event.{Event};
     ghost use Rattle.cr_world.specs.declared.command.Command.{Command};
     ghost use Rattle.cr_world.specs.declared.command.FleetReply.{FleetReply};
     ghost use Rattle.cr_world.specs.Answers.{IsReady};
     ghost use Rattle.cr_world.specs.Language.{Language};
     ghost use Rattle.cr_world.specs.World.{Closures};
 
-    /// These commands ran with these replies, from a state and a policy to others, where statements are in this language,
-    /// and authorizer and commit hook answer so.
-    ghost ran: { Language Statement Ordered → Closures → Self × Rules → Self × Rules → List Command → List FleetReply → Type 0 };
+    /// These commands ran with these replies, from a state and what it is under to others, where statements are in this
+    /// language, authorizer and commit hook answer so, and what they are under has this policy and hears so.
+    ghost ran: { {G : Type 0} → (G → Rules) → (G → G → List Event → Type 0) → Language Statement Ordered → Closures → Self × G → Self × G → List Command → List FleetReply → Type 0 };
 
     /// Carries out one command.
     fn carry_out<F: Functions, G: Guarding>(
@@ -40,17 +41,17 @@ pub trait Served {
         requires guard { G.is_faithful guard.old }
         requires ready { IsReady command.now }
         ensures ran { (has : List ℕ → Bool) → ⟦<F as Speaking>⟧.are_names functions.now has
-            → ran (⟦<F as Speaking>⟧.language functions.now has) (⟦<G as Watching>⟧.closures guard.old) (self.old, G.rules guard.old) (self.new, G.rules guard.new) (command.now ∷ []) (result ∷ []) }
+            → ran G.rules (⟦<G as Watching>⟧.hears) (⟦<F as Speaking>⟧.language functions.now has) (⟦<G as Watching>⟧.closures guard.old) (self.old, guard.old) (self.new, guard.new) (command.now ∷ []) (result ∷ []) }
         ensures closures { ⟦<G as Watching>⟧.closures guard.new ≡ ⟦<G as Watching>⟧.closures guard.old }
         ensures noting { G.noting guard.new ≡ G.noting guard.old }
         ensures faithful { G.is_faithful guard.new };
 
     /// None ran.
-    ghost ran_none: { (l : Language Statement Ordered) (k : Closures) (s : Self × Rules) → ran l k s s [] [] };
+    ghost ran_none: { {G : Type 0} (rules : G → Rules) (hears : G → G → List Event → Type 0) (l : Language Statement Ordered) (k : Closures) (s : Self × G) → ran rules hears l k s s [] [] };
 
     /// One list ran after the other.
-    ghost ran_more: { (l : Language Statement Ordered) (k : Closures) (s0 s1 s2 : Self × Rules) (cs ds : List Command) (rs ss : List FleetReply)
-        → ran l k s0 s1 cs rs → ran l k s1 s2 ds ss → ran l k s0 s2 (cs ++ ds) (rs ++ ss) };
+    ghost ran_more: { {G : Type 0} (rules : G → Rules) (hears : G → G → List Event → Type 0) (l : Language Statement Ordered) (k : Closures) (s0 s1 s2 : Self × G) (cs ds : List Command) (rs ss : List FleetReply)
+        → ran rules hears l k s0 s1 cs rs → ran rules hears l k s1 s2 ds ss → ran rules hears l k s0 s2 (cs ++ ds) (rs ++ ss) };
 }
 
 impl<C: NewCells> Served for Fleet<C> {
@@ -58,7 +59,7 @@ impl<C: NewCells> Served for Fleet<C> {
     ghost use Rattle.cr_served.specs.Running.{Ran};
     ghost use Rattle.cr_served.specs.RunningLaws.{fleet_ran_none, fleet_ran_more};
 
-    ghost ran = { λ l k s0 s1 cs rs. Ran l k (clean C.is_clean) (standing C.holding) s0 s1 cs rs };
+    ghost ran = { λ rules hears l k s0 s1 cs rs. Ran rules hears l k (clean C.is_clean) (standing C.holding) s0 s1 cs rs };
 
     fn carry_out<F: Functions, G: Guarding>(
         &mut self,
@@ -70,9 +71,9 @@ impl<C: NewCells> Served for Fleet<C> {
         self.step(alloc, functions, guard, command)
     }
 
-    ghost ran_none = { λ l k s. fleet_ran_none l k (clean C.is_clean) (standing C.holding) s };
+    ghost ran_none = { λ rules hears l k s. fleet_ran_none rules hears l k (clean C.is_clean) (standing C.holding) s };
 
-    ghost ran_more = { λ l k s0 s1 s2 cs ds rs ss p q. fleet_ran_more l k (clean C.is_clean) (standing C.holding) s0 s1 s2 cs ds rs ss p q };
+    ghost ran_more = { λ rules hears l k s0 s1 s2 cs ds rs ss p q. fleet_ran_more rules hears l k (clean C.is_clean) (standing C.holding) s0 s1 s2 cs ds rs ss p q };
 }
 
 impl<C: Cells> Served for Session<C> {
@@ -80,7 +81,7 @@ impl<C: Cells> Served for Session<C> {
     ghost use Rattle.cr_served.specs.Alone.{RanAlone};
     ghost use Rattle.cr_served.specs.AloneLaws.{alone_ran_none, alone_ran_more};
 
-    ghost ran = { λ l k s0 s1 cs rs. RanAlone l k (honest C.is_honest) (clean C.is_clean) (standing C.holding) s0 s1 cs rs };
+    ghost ran = { λ rules hears l k s0 s1 cs rs. RanAlone rules hears l k (honest C.is_honest) (clean C.is_clean) (standing C.holding) s0 s1 cs rs };
 
     fn carry_out<F: Functions, G: Guarding>(
         &mut self,
@@ -92,7 +93,7 @@ impl<C: Cells> Served for Session<C> {
         step_alone(alloc, self, functions, guard, command)
     }
 
-    ghost ran_none = { λ l k s. alone_ran_none l k (honest C.is_honest) (clean C.is_clean) (standing C.holding) s };
+    ghost ran_none = { λ rules hears l k s. alone_ran_none rules hears l k (honest C.is_honest) (clean C.is_clean) (standing C.holding) s };
 
-    ghost ran_more = { λ l k s0 s1 s2 cs ds rs ss p q. alone_ran_more l k (honest C.is_honest) (clean C.is_clean) (standing C.holding) s0 s1 s2 cs ds rs ss p q };
+    ghost ran_more = { λ rules hears l k s0 s1 s2 cs ds rs ss p q. alone_ran_more rules hears l k (honest C.is_honest) (clean C.is_clean) (standing C.holding) s0 s1 s2 cs ds rs ss p q };
 }

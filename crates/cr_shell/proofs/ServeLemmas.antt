@@ -5,7 +5,6 @@ use Rattle.std.specs.List.{flat_map, list_all, AllByRecursion}
 use Rattle.std.proofs.lemmas.Bool.{ne_eqb}
 use Rattle.std.proofs.lemmas.Grind.{flat_map-append}
 use Rattle.std.specs.Io.KnownBytes.{Consumes, IsAtEnd}
-use Rattle.cr_guard.specs.Policy.{Rules}
 use Rattle.cr_world.specs.declared.command.Command.{Command}
 use Rattle.cr_world.specs.declared.command.Command.TheVariants.{Sql}
 use Rattle.cr_world.specs.declared.command.FleetReply.{FleetReply}
@@ -24,7 +23,7 @@ use Rattle.cr_shell.specs.Asking.{asked, has_token}
 use Rattle.cr_shell.specs.declared.printing.Answer.{Answer}
 use Rattle.cr_shell.specs.declared.printing.Answer.TheVariants.{Reply, Help}
 use Rattle.cr_shell.specs.Printing.{Prints, answer_printed}
-use Rattle.cr_shell.specs.Running.{Ruled, Standing, ruled}
+use Rattle.cr_shell.specs.Running.{Guarded, Standing, guarded}
 use Rattle.cr_shell.specs.Serving.{Entry, AtLine, AtEnd, asks, Turn, own_answer, AreTurns, with_command, with_reply, commands, replies, Heard, IsKept, IsPushed, last_line, Replies, Hears, HearsLine, HearsUnfinished, Takes, FailsAtEnd, Ends, Serves, IsAllOf, ended, IsLine, input_limit}
 use Rattle.cr_shell.proofs.BytesLemmas.{consumes_none, consumes_more}
 use Rattle.cr_shell.proofs.PrintLemmas.{prints_none, prints_more}
@@ -111,31 +110,31 @@ asked_of_kept (Err x) line b before after kept e = tt
 
 -- ---- lines
 
-module _ {T : Type 0} (runs : Ruled T → Ruled T → List Command → List FleetReply → Type 0) (laws : RanLaws runs) where
+module _ {T G : Type 0} (runs : Guarded T G → Guarded T G → List Command → List FleetReply → Type 0) (laws : RanLaws runs) where
   -- it ends the run
-  pub quit_asked : (f0 : T) (p0 : Rules) (before gathered : List ℕ) (entry : Entry) → Told Quit gathered before entry → Replies runs (f0, p0, before) entry None (f0, p0, gathered)
+  pub quit_asked : (f0 : T) (p0 : G) (before gathered : List ℕ) (entry : Entry) → Told Quit gathered before entry → Replies runs (f0, p0, before) entry None (f0, p0, gathered)
   quit_asked f0 p0 before gathered entry e = (asked_is Quit gathered before entry e, refl, refl)
 
   -- a command that is asked for
-  pub stepped : (f0 f1 : T) (p0 p1 : Rules) (before gathered : List ℕ) (entry : Entry) (c : Command) (r : FleetReply) → Told (Asks c) gathered before entry
+  pub stepped : (f0 f1 : T) (p0 p1 : G) (before gathered : List ℕ) (entry : Entry) (c : Command) (r : FleetReply) → Told (Asks c) gathered before entry
       → runs (f0, p0) (f1, p1) (c ∷ []) (r ∷ []) → Replies runs (f0, p0, before) entry (Some (Reply r)) (f1, p1, gathered)
   stepped f0 f1 p0 p1 before gathered entry c r e s = (Some c, (asked_is (Asks c) gathered before entry e, left_is (Asks c) gathered before entry e), s)
 
   -- none is asked for
-  pub unasked : (f : T) (p : Rules) (before gathered : List ℕ) (entry : Entry) (it : Asked) (x : Answer) → own_answer it ≡ Some x → Told it gathered before entry
+  pub unasked : (f : T) (p : G) (before gathered : List ℕ) (entry : Entry) (it : Asked) (x : Answer) → own_answer it ≡ Some x → Told it gathered before entry
       → Replies runs (f, p, before) entry (Some x) (f, p, gathered)
   unasked f p before gathered entry it x own e =
       (None, inr (ap own_answer (asked_is it gathered before entry e) ∙ own, left_is it gathered before entry e), laws.none (f, p))
 
   -- there is no memory to know what is asked
-  pub forgotten : (f : T) (p : Rules) (before gathered : List ℕ) (entry : Entry) → gathered ≡ [] → Replies runs (f, p, before) entry (Some (Reply (Refused refusal.Memory))) (f, p, gathered)
+  pub forgotten : (f : T) (p : G) (before gathered : List ℕ) (entry : Entry) → gathered ≡ [] → Replies runs (f, p, before) entry (Some (Reply (Refused refusal.Memory))) (f, p, gathered)
   forgotten f p before gathered entry e = (None, inl (refl, e), laws.none (f, p))
 
-module _ {T W : Type 0} (contents : W → Option (List ℕ)) (runs : Ruled T → Ruled T → List Command → List FleetReply → Type 0) (laws : RanLaws runs) where
-  abbrev Hear : W × Bool → W × Bool → Standing T → Standing T → List Entry → Type 0
+module _ {T G W : Type 0} (contents : W → Option (List ℕ)) (runs : Guarded T G → Guarded T G → List Command → List FleetReply → Type 0) (laws : RanLaws runs) where
+  abbrev Hear : W × Bool → W × Bool → Standing T G → Standing T G → List Entry → Type 0
   Hear w0 w1 s0 s1 entries = Heard contents runs w0 w1 s0 s1 entries
 
-  pub heard_none : (w : W × Bool) (f : T) (p : Rules) (g : List ℕ) → Hear w w (f, p, g) (f, p, g) []
+  pub heard_none : (w : W × Bool) (f : T) (p : G) (g : List ℕ) → Hear w w (f, p, g) (f, p, g) []
   heard_none w f p g = record {
     turns = [];
     entries_are = refl;
@@ -144,7 +143,7 @@ module _ {T W : Type 0} (contents : W → Option (List ℕ)) (runs : Ruled T →
     written = prints_none contents w;
   }
 
-  pub heard_one : (w0 w1 : W × Bool) (s0 s1 : Standing T) (entry : Entry) (x : Answer) → Replies runs s0 entry (Some x) s1 → Prints contents w0 w1 (answer_printed x) → Hear w0 w1 s0 s1 (entry ∷ [])
+  pub heard_one : (w0 w1 : W × Bool) (s0 s1 : Standing T G) (entry : Entry) (x : Answer) → Replies runs s0 entry (Some x) s1 → Prints contents w0 w1 (answer_printed x) → Hear w0 w1 s0 s1 (entry ∷ [])
   heard_one w0 w1 s0 s1 entry x p q = record {
     turns = record { entry = entry; command = p.0; answer = x; gathered = s1.2 } ∷ [];
     entries_are = refl;
@@ -153,12 +152,12 @@ module _ {T W : Type 0} (contents : W → Option (List ℕ)) (runs : Ruled T →
     written = subst (Prints contents w0 w1) (sym (append-nil (answer_printed x))) q;
   }
 
-  pub heard_more : (w0 w1 w2 : W × Bool) (s0 s1 s2 : Standing T) (xs ys : List Entry) → Hear w0 w1 s0 s1 xs → Hear w1 w2 s1 s2 ys → Hear w0 w2 s0 s2 (xs ++ ys)
+  pub heard_more : (w0 w1 w2 : W × Bool) (s0 s1 s2 : Standing T G) (xs ys : List Entry) → Hear w0 w1 s0 s1 xs → Hear w1 w2 s1 s2 ys → Hear w0 w2 s0 s2 (xs ++ ys)
   heard_more w0 w1 w2 s0 s1 s2 xs ys p q = record {
     turns = p.turns ++ q.turns;
     entries_are = map_more (λ t. t.entry) p.turns q.turns ∙ ap (λ l. l ++ map (λ t. t.entry) q.turns) p.entries_are ∙ ap (λ l. xs ++ l) q.entries_are;
     are_for = turns_more s0.2 s1.2 s2.2 p.turns q.turns p.are_for q.are_for;
-    ran = rw (commands_more p.turns q.turns, replies_more p.turns q.turns) (laws.more (ruled s0) (ruled s1) (ruled s2) (commands p.turns) (commands q.turns) (replies p.turns) (replies q.turns) p.ran q.ran);
+    ran = rw (commands_more p.turns q.turns, replies_more p.turns q.turns) (laws.more (guarded s0) (guarded s1) (guarded s2) (commands p.turns) (commands q.turns) (replies p.turns) (replies q.turns) p.ran q.ran);
     written = subst (Prints contents w0 w2) (sym (ap (flat_map answer_printed) (map_more (λ t. t.answer) p.turns q.turns) ∙ flat_map-append answer_printed (map (λ t. t.answer) p.turns) (map (λ t. t.answer) q.turns)))
         (prints_more contents w0 w1 w2 _ _ p.written q.written);
   }
@@ -194,23 +193,23 @@ last_is : (b : List ℕ) → b ≢ [] → last_line b ≡ b ∷ []
 last_is [] n = absurd (n refl)
 last_is (c ∷ b) n = refl
 
-module _ {T R W : Type 0} (remaining : R → Option (List ℕ)) (contents : W → Option (List ℕ)) (runs : Ruled T → Ruled T → List Command → List FleetReply → Type 0) where
+module _ {T G R W : Type 0} (remaining : R → Option (List ℕ)) (contents : W → Option (List ℕ)) (runs : Guarded T G → Guarded T G → List Command → List FleetReply → Type 0) where
   -- the lines so far were heard, and the unfinished one is kept
-  abbrev pub Going : R × Bool → R × Bool → W × Bool → W × Bool → Standing T → Standing T → Line → ℕ → Type 0
+  abbrev pub Going : R × Bool → R × Bool → W × Bool → W × Bool → Standing T G → Standing T G → Line → ℕ → Type 0
   Going r0 r1 w0 w1 s0 s1 line n =
       (lines : List (List ℕ)) × (b : List ℕ) × Consumes (remaining r0.0) (remaining r1.0) (ended lines ++ b) × AllByRecursion IsLine lines × IsLine b × IsKept line b × Heard contents runs w0 w1 s0 s1 (map AtLine lines) × (length (ended lines ++ b) ≡ n)
 
-module _ {T R W : Type 0} (remaining : R → Option (List ℕ)) (contents : W → Option (List ℕ)) (runs : Ruled T → Ruled T → List Command → List FleetReply → Type 0) (laws : RanLaws runs) where
-  abbrev HearR : W × Bool → W × Bool → Standing T → Standing T → List Entry → Type 0
+module _ {T G R W : Type 0} (remaining : R → Option (List ℕ)) (contents : W → Option (List ℕ)) (runs : Guarded T G → Guarded T G → List Command → List FleetReply → Type 0) (laws : RanLaws runs) where
+  abbrev HearR : W × Bool → W × Bool → Standing T G → Standing T G → List Entry → Type 0
   HearR w0 w1 s0 s1 entries = Heard contents runs w0 w1 s0 s1 entries
 
-  abbrev Goes : R × Bool → R × Bool → W × Bool → W × Bool → Standing T → Standing T → Line → ℕ → Type 0
+  abbrev Goes : R × Bool → R × Bool → W × Bool → W × Bool → Standing T G → Standing T G → Line → ℕ → Type 0
   Goes r0 r1 w0 w1 s0 s1 line n = Going remaining contents runs r0 r1 w0 w1 s0 s1 line n
 
-  pub going_start : (r : R × Bool) (w : W × Bool) (f : T) (p : Rules) (g : List ℕ) (line : Line) → g ≡ [] → (line.bytes.items ≡ []) × (line.is_lost ≡ false) → Goes r r w w (f, p, []) (f, p, g) line 0
+  pub going_start : (r : R × Bool) (w : W × Bool) (f : T) (p : G) (g : List ℕ) (line : Line) → g ≡ [] → (line.bytes.items ≡ []) × (line.is_lost ≡ false) → Goes r r w w (f, p, []) (f, p, g) line 0
   going_start r w f p g line empty e = ([], [], consumes_none (remaining r.0), tt, refl, inr (e.1, e.0), subst (λ (x : List ℕ). HearR w w (f, p, []) (f, p, x) []) (sym empty) (heard_none contents runs laws w f p []), refl)
 
-  going_byte : (r0 r1 r2 : R × Bool) (w0 w1 : W × Bool) (s0 s1 : Standing T) (old new : Line) (n x : ℕ) → Goes r0 r1 w0 w1 s0 s1 old n → Consumes (remaining r1.0) (remaining r2.0) (x ∷ []) → (x ≡ 10 → ⊥)
+  going_byte : (r0 r1 r2 : R × Bool) (w0 w1 : W × Bool) (s0 s1 : Standing T G) (old new : Line) (n x : ℕ) → Goes r0 r1 w0 w1 s0 s1 old n → Consumes (remaining r1.0) (remaining r2.0) (x ∷ []) → (x ≡ 10 → ⊥)
       → IsPushed old new x → Goes r0 r2 w0 w1 s0 s1 new (n + 1)
   going_byte r0 r1 r2 w0 w1 s0 s1 old new n x g c other push =
       let e : ended g.0 ++ (g.1 ++ x ∷ []) ≡ (ended g.0 ++ g.1) ++ x ∷ [] = sym (append_assoc (ended g.0) g.1 (x ∷ [])) in (
@@ -225,10 +224,10 @@ module _ {T R W : Type 0} (remaining : R → Option (List ℕ)) (contents : W �
       )
 
   -- one line more
-  heard_line : (w0 w1 w2 : W × Bool) (s0 s1 s2 : Standing T) (lines : List (List ℕ)) (b : List ℕ) → HearR w0 w1 s0 s1 (map AtLine lines) → HearR w1 w2 s1 s2 (AtLine b ∷ []) → HearR w0 w2 s0 s2 (map AtLine (lines ++ b ∷ []))
+  heard_line : (w0 w1 w2 : W × Bool) (s0 s1 s2 : Standing T G) (lines : List (List ℕ)) (b : List ℕ) → HearR w0 w1 s0 s1 (map AtLine lines) → HearR w1 w2 s1 s2 (AtLine b ∷ []) → HearR w0 w2 s0 s2 (map AtLine (lines ++ b ∷ []))
   heard_line w0 w1 w2 s0 s1 s2 lines b p q = subst (HearR w0 w2 s0 s2) (sym (map_more AtLine lines (b ∷ []))) (heard_more contents runs laws w0 w1 w2 s0 s1 s2 (map AtLine lines) (AtLine b ∷ []) p q)
 
-  going_line : (r0 r1 r2 : R × Bool) (w0 w1 w2 : W × Bool) (s0 s1 s2 : Standing T) (old new : Line) (n : ℕ) → Goes r0 r1 w0 w1 s0 s1 old n → Consumes (remaining r1.0) (remaining r2.0) (10 ∷ [])
+  going_line : (r0 r1 r2 : R × Bool) (w0 w1 w2 : W × Bool) (s0 s1 s2 : Standing T G) (old new : Line) (n : ℕ) → Goes r0 r1 w0 w1 s0 s1 old n → Consumes (remaining r1.0) (remaining r2.0) (10 ∷ [])
       → ((b : List ℕ) → IsKept old b → HearR w1 w2 s1 s2 (AtLine b ∷ [])) → (new.bytes.items ≡ []) × (new.is_lost ≡ false) → Goes r0 r2 w0 w2 s0 s2 new (n + 1)
   going_line r0 r1 r2 w0 w1 w2 s0 s1 s2 old new n g c h empty =
       let e : ended (g.0 ++ g.1 ∷ []) ++ [] ≡ (ended g.0 ++ g.1) ++ 10 ∷ [] = append-nil (ended (g.0 ++ g.1 ∷ [])) ∙ ended_more g.0 g.1 in (
@@ -242,24 +241,24 @@ module _ {T R W : Type 0} (remaining : R → Option (List ℕ)) (contents : W �
         ap length e ∙ length-append (ended g.0 ++ g.1) (10 ∷ []) ∙ ap (λ m. m + 1) g.7,
       )
 
-  pub goes : (r0 r1 r2 : R × Bool) (w0 w1 w2 : W × Bool) (s0 s1 s2 : Standing T) (old new : Line) (n x : ℕ) → Goes r0 r1 w0 w1 s0 s1 old n → Consumes (remaining r1.0) (remaining r2.0) (x ∷ []) → w1.1 ≡ false
+  pub goes : (r0 r1 r2 : R × Bool) (w0 w1 w2 : W × Bool) (s0 s1 s2 : Standing T G) (old new : Line) (n x : ℕ) → Goes r0 r1 w0 w1 s0 s1 old n → Consumes (remaining r1.0) (remaining r2.0) (x ∷ []) → w1.1 ≡ false
       → Takes contents runs w1 w2 s1 s2 old new x next.Goes → Goes r0 r2 w0 w2 s0 s2 new (n + 1) × (w2.1 ≡ false)
   goes r0 r1 r2 w0 w1 w2 s0 s1 s2 old new n x g c ok (inl p) =
-      (subst (λ (w : W × Bool). Goes r0 r2 w0 w s0 s2 new (n + 1)) (sym p.2) (subst (λ (s : Standing T). Goes r0 r2 w0 w1 s0 s new (n + 1)) (sym p.3) (going_byte r0 r1 r2 w0 w1 s0 s1 old new n x g c p.1 p.4)), ap (λ (w : W × Bool). w.1) p.2 ∙ ok)
+      (subst (λ (w : W × Bool). Goes r0 r2 w0 w s0 s2 new (n + 1)) (sym p.2) (subst (λ (s : Standing T G). Goes r0 r2 w0 w1 s0 s new (n + 1)) (sym p.3) (going_byte r0 r1 r2 w0 w1 s0 s1 old new n x g c p.1 p.4)), ap (λ (w : W × Bool). w.1) p.2 ∙ ok)
   goes r0 r1 r2 w0 w1 w2 s0 s1 s2 old new n x g c ok (inr p) =
       let heard : (b : List ℕ) → IsKept old b → HearR w1 w2 s1 s2 (AtLine b ∷ []) = λ b kept. (p.2 b kept).0 in
       (going_line r0 r1 r2 w0 w1 w2 s0 s1 s2 old new n g (subst (λ (y : ℕ). Consumes (remaining r1.0) (remaining r2.0) (y ∷ [])) p.0 c) heard p.1, (p.2 g.1 g.5).1)
 
   -- nothing is left of the line where the fleet stands as it did
-  same_heard : (w0 w1 w2 : W × Bool) (s0 : Standing T) (f1 f2 : T) (p1 p2 : Rules) (g : List ℕ) (xs : List Entry) → w2 ≡ w1 → f2 ≡ f1 → p2 ≡ p1 → HearR w0 w1 s0 (f1, p1, g) xs → HearR w0 w2 s0 (f2, p2, g) xs
+  same_heard : (w0 w1 w2 : W × Bool) (s0 : Standing T G) (f1 f2 : T) (p1 p2 : G) (g : List ℕ) (xs : List Entry) → w2 ≡ w1 → f2 ≡ f1 → p2 ≡ p1 → HearR w0 w1 s0 (f1, p1, g) xs → HearR w0 w2 s0 (f2, p2, g) xs
   same_heard w0 w1 w2 s0 f1 f2 p1 p2 g xs e d b h =
-      subst (λ (w : W × Bool). HearR w0 w s0 (f2, p2, g) xs) (sym e) (subst (λ (f : T). HearR w0 w1 s0 (f, p2, g) xs) (sym d) (subst (λ (p : Rules). HearR w0 w1 s0 (f1, p, g) xs) (sym b) h))
+      subst (λ (w : W × Bool). HearR w0 w s0 (f2, p2, g) xs) (sym e) (subst (λ (f : T). HearR w0 w1 s0 (f, p2, g) xs) (sym d) (subst (λ (p : G). HearR w0 w1 s0 (f1, p, g) xs) (sym b) h))
 
-  abbrev Serve : Result End ServeFault → R × Bool → R × Bool → W × Bool → W × Bool → Ruled T → Ruled T → Type 0
+  abbrev Serve : Result End ServeFault → R × Bool → R × Bool → W × Bool → W × Bool → Guarded T G → Guarded T G → Type 0
   Serve result r0 r1 w0 w1 f0 f1 = Serves contents runs remaining result r0 r1 w0 w1 f0 f1
 
   -- `.quit` before a line feed
-  pub serves_quit : (r0 r1 r2 : R × Bool) (w0 w1 w2 : W × Bool) (f0 f1 f2 : T) (p0 p1 p2 : Rules) (g1 g2 : List ℕ) (old new : Line) (n : ℕ) → Goes r0 r1 w0 w1 (f0, p0, []) (f1, p1, g1) old n → (x : ℕ) → Consumes (remaining r1.0) (remaining r2.0) (x ∷ []) → w1.1 ≡ false
+  pub serves_quit : (r0 r1 r2 : R × Bool) (w0 w1 w2 : W × Bool) (f0 f1 f2 : T) (p0 p1 p2 : G) (g1 g2 : List ℕ) (old new : Line) (n : ℕ) → Goes r0 r1 w0 w1 (f0, p0, []) (f1, p1, g1) old n → (x : ℕ) → Consumes (remaining r1.0) (remaining r2.0) (x ∷ []) → w1.1 ≡ false
       → n < input_limit → r2.1 ≡ false → Takes contents runs w1 w2 (f1, p1, g1) (f2, p2, g2) old new x next.Quits → Serve (Ok end.Quit) r0 r2 w0 w2 (f0, p0) (f2, p2)
   serves_quit r0 r1 r2 w0 w1 w2 f0 f1 f2 p0 p1 p2 g1 g2 old new n g x cx ok few read_ok (inl q) = absurd (let e : next.Quits ≡ next.Goes = q.0 in cc)
   serves_quit r0 r1 r2 w0 w1 w2 f0 f1 f2 p0 p1 p2 g1 g2 old new n g x cx ok few read_ok (inr q) =
@@ -279,7 +278,7 @@ module _ {T R W : Type 0} (remaining : R → Option (List ℕ)) (contents : W �
       }
 
   -- the writer failed at a line
-  pub serves_write : (r0 r1 r2 : R × Bool) (w0 w1 w2 : W × Bool) (f0 f1 f2 : T) (p0 p1 p2 : Rules) (g1 g2 : List ℕ) (old new : Line) (n : ℕ) → Goes r0 r1 w0 w1 (f0, p0, []) (f1, p1, g1) old n → (x : ℕ) → Consumes (remaining r1.0) (remaining r2.0) (x ∷ []) → w1.1 ≡ false
+  pub serves_write : (r0 r1 r2 : R × Bool) (w0 w1 w2 : W × Bool) (f0 f1 f2 : T) (p0 p1 p2 : G) (g1 g2 : List ℕ) (old new : Line) (n : ℕ) → Goes r0 r1 w0 w1 (f0, p0, []) (f1, p1, g1) old n → (x : ℕ) → Consumes (remaining r1.0) (remaining r2.0) (x ∷ []) → w1.1 ≡ false
       → n < input_limit → r2.1 ≡ false → Takes contents runs w1 w2 (f1, p1, g1) (f2, p2, g2) old new x next.Fails → Serve (Err fault.Write) r0 r2 w0 w2 (f0, p0) (f2, p2)
   serves_write r0 r1 r2 w0 w1 w2 f0 f1 f2 p0 p1 p2 g1 g2 old new n g x cx ok few read_ok (inl q) = absurd (let e : next.Fails ≡ next.Goes = q.0 in cc)
   serves_write r0 r1 r2 w0 w1 w2 f0 f1 f2 p0 p1 p2 g1 g2 old new n g x cx ok few read_ok (inr q) =
@@ -299,7 +298,7 @@ module _ {T R W : Type 0} (remaining : R → Option (List ℕ)) (contents : W �
       }
 
   -- the reader failed, or its limit is reached
-  pub serves_read : (r0 r1 r2 : R × Bool) (w0 w1 : W × Bool) (f0 f1 : T) (p0 p1 : Rules) (g1 : List ℕ) (line : Line) (n : ℕ) → Goes r0 r1 w0 w1 (f0, p0, []) (f1, p1, g1) line n → Consumes (remaining r1.0) (remaining r2.0) [] → w1.1 ≡ false
+  pub serves_read : (r0 r1 r2 : R × Bool) (w0 w1 : W × Bool) (f0 f1 : T) (p0 p1 : G) (g1 : List ℕ) (line : Line) (n : ℕ) → Goes r0 r1 w0 w1 (f0, p0, []) (f1, p1, g1) line n → Consumes (remaining r1.0) (remaining r2.0) [] → w1.1 ≡ false
       → (r2.1 ≡ true) ⊎ (n ≡ input_limit) → Serve (Err fault.Read) r0 r2 w0 w1 (f0, p0) (f1, p1)
   serves_read r0 r1 r2 w0 w1 f0 f1 p0 p1 g1 line n g c ok why = record {
     input = ended g.0 ++ g.1;
@@ -330,7 +329,7 @@ module _ {T R W : Type 0} (remaining : R → Option (List ℕ)) (contents : W �
   read_all r0 r1 r2 bytes p q = subst (Consumes (remaining r0.0) (remaining r2.0)) (append-nil bytes) (consumes_more (remaining r0.0) (remaining r1.0) (remaining r2.0) bytes [] p q)
 
   -- the writer failed at the end
-  fails_at_end : (r0 r1 r2 : R × Bool) (w0 w1 w2 : W × Bool) (f0 f1 f2 : T) (p0 p1 p2 : Rules) (g1 g2 : List ℕ) (line : Line) (n : ℕ) (g : Goes r0 r1 w0 w1 (f0, p0, []) (f1, p1, g1) line n) → Consumes (remaining r1.0) (remaining r2.0) [] × IsAtEnd (remaining r2.0) → w1.1 ≡ false → n < input_limit → r2.1 ≡ false
+  fails_at_end : (r0 r1 r2 : R × Bool) (w0 w1 w2 : W × Bool) (f0 f1 f2 : T) (p0 p1 p2 : G) (g1 g2 : List ℕ) (line : Line) (n : ℕ) (g : Goes r0 r1 w0 w1 (f0, p0, []) (f1, p1, g1) line n) → Consumes (remaining r1.0) (remaining r2.0) [] × IsAtEnd (remaining r2.0) → w1.1 ≡ false → n < input_limit → r2.1 ≡ false
       → FailsAtEnd contents runs w1 w2 (f1, p1, g1) (f2, p2, g2) g.1 → w2.1 ≡ true → Serve (Err fault.Write) r0 r2 w0 w2 (f0, p0) (f2, p2)
   fails_at_end r0 r1 r2 w0 w1 w2 f0 f1 f2 p0 p1 p2 g1 g2 line n g c ok few read_ok (inl q) failed = record {
     input = ended g.0 ++ g.1;
@@ -360,7 +359,7 @@ module _ {T R W : Type 0} (remaining : R → Option (List ℕ)) (contents : W �
       }
 
   -- the end of the input
-  pub serves_end : (result : Result End ServeFault) (r0 r1 r2 : R × Bool) (w0 w1 w2 : W × Bool) (f0 f1 f2 : T) (p0 p1 p2 : Rules) (g1 g2 : List ℕ) (line : Line) (n : ℕ) → Goes r0 r1 w0 w1 (f0, p0, []) (f1, p1, g1) line n → Consumes (remaining r1.0) (remaining r2.0) [] × IsAtEnd (remaining r2.0) → w1.1 ≡ false → n < input_limit → r2.1 ≡ false
+  pub serves_end : (result : Result End ServeFault) (r0 r1 r2 : R × Bool) (w0 w1 w2 : W × Bool) (f0 f1 f2 : T) (p0 p1 p2 : G) (g1 g2 : List ℕ) (line : Line) (n : ℕ) → Goes r0 r1 w0 w1 (f0, p0, []) (f1, p1, g1) line n → Consumes (remaining r1.0) (remaining r2.0) [] × IsAtEnd (remaining r2.0) → w1.1 ≡ false → n < input_limit → r2.1 ≡ false
       → ((b : List ℕ) → IsKept line b → Ends contents runs w1 w2 (f1, p1, g1) (f2, p2, g2) b result) → Serve result r0 r2 w0 w2 (f0, p0) (f2, p2)
   serves_end (Ok end.Quit) r0 r1 r2 w0 w1 w2 f0 f1 f2 p0 p1 p2 g1 g2 line n g c ok few read_ok q =
       let t = q g.1 g.5 in
@@ -396,41 +395,41 @@ module _ {T R W : Type 0} (remaining : R → Option (List ℕ)) (contents : W �
 
 -- ---- the end
 
-module _ {T W : Type 0} (contents : W → Option (List ℕ)) (runs : Ruled T → Ruled T → List Command → List FleetReply → Type 0) (laws : RanLaws runs) where
-  abbrev HearE : W × Bool → W × Bool → Standing T → Standing T → List Entry → Type 0
+module _ {T G W : Type 0} (contents : W → Option (List ℕ)) (runs : Guarded T G → Guarded T G → List Command → List FleetReply → Type 0) (laws : RanLaws runs) where
+  abbrev HearE : W × Bool → W × Bool → Standing T G → Standing T G → List Entry → Type 0
   HearE w0 w1 s0 s1 entries = Heard contents runs w0 w1 s0 s1 entries
 
   -- the end doesn't end the run by `.quit`, so it was heard
-  pub end_heard : (w0 w1 : W × Bool) (s0 s1 : Standing T) (b : Bool) → Hears contents runs w0 w1 s0 s1 AtEnd b → HearE w0 w1 s0 s1 (AtEnd ∷ [])
+  pub end_heard : (w0 w1 : W × Bool) (s0 s1 : Standing T G) (b : Bool) → Hears contents runs w0 w1 s0 s1 AtEnd b → HearE w0 w1 s0 s1 (AtEnd ∷ [])
   end_heard w0 w1 s0 s1 true h = h
   end_heard w0 w1 s0 s1 false h = absurd (never_quits s0.2 h.0.0)
 
   -- a line was heard, as the writer then is
-  pub line_quits : (w0 w1 : W × Bool) (s0 s1 : Standing T) (b : List ℕ) (r : Bool) → Hears contents runs w0 w1 s0 s1 (AtLine b) r → r ≡ false → HearsLine contents runs w0 w1 s0 s1 b next.Quits
+  pub line_quits : (w0 w1 : W × Bool) (s0 s1 : Standing T G) (b : List ℕ) (r : Bool) → Hears contents runs w0 w1 s0 s1 (AtLine b) r → r ≡ false → HearsLine contents runs w0 w1 s0 s1 b next.Quits
   line_quits w0 w1 s0 s1 b r h e = subst (λ (x : Bool). Hears contents runs w0 w1 s0 s1 (AtLine b) x) e h
 
-  pub line_heard : (w0 w1 : W × Bool) (s0 s1 : Standing T) (b : List ℕ) (r : Bool) → Hears contents runs w0 w1 s0 s1 (AtLine b) r → r ≡ true → HearE w0 w1 s0 s1 (AtLine b ∷ [])
+  pub line_heard : (w0 w1 : W × Bool) (s0 s1 : Standing T G) (b : List ℕ) (r : Bool) → Hears contents runs w0 w1 s0 s1 (AtLine b) r → r ≡ true → HearE w0 w1 s0 s1 (AtLine b ∷ [])
   line_heard w0 w1 s0 s1 b r h e = subst (λ (x : Bool). Hears contents runs w0 w1 s0 s1 (AtLine b) x) e h
 
   -- the unfinished line was heard
-  pub unfinished_heard : (w0 w1 : W × Bool) (s0 s1 : Standing T) (b : List ℕ) (n : Next) → b ≢ [] → HearsLine contents runs w0 w1 s0 s1 b n → HearsUnfinished contents runs w0 w1 s0 s1 b n
+  pub unfinished_heard : (w0 w1 : W × Bool) (s0 s1 : Standing T G) (b : List ℕ) (n : Next) → b ≢ [] → HearsLine contents runs w0 w1 s0 s1 b n → HearsUnfinished contents runs w0 w1 s0 s1 b n
   unfinished_heard w0 w1 s0 s1 b next.Goes n h = (subst (λ (l : List (List ℕ)). HearE w0 w1 s0 s1 (map AtLine l)) (sym (last_is b n)) h.0, h.1)
   unfinished_heard w0 w1 s0 s1 b next.Fails n h = (n, h)
   unfinished_heard w0 w1 s0 s1 b next.Quits n h = (n, h)
 
   -- there is none
-  pub none_unfinished : (w : W × Bool) (f : T) (p : Rules) (g : List ℕ) (b : List ℕ) → b ≡ [] → w.1 ≡ false → HearsUnfinished contents runs w w (f, p, g) (f, p, g) b next.Goes
+  pub none_unfinished : (w : W × Bool) (f : T) (p : G) (g : List ℕ) (b : List ℕ) → b ≡ [] → w.1 ≡ false → HearsUnfinished contents runs w w (f, p, g) (f, p, g) b next.Goes
   none_unfinished w f p g b e ok = (subst (λ (l : List ℕ). HearE w w (f, p, g) (f, p, g) (map AtLine (last_line l))) (sym e) (heard_none contents runs laws w f p g), ok)
 
   -- the end was heard behind it
-  pub ends_input : (w0 w1 w2 : W × Bool) (s0 s1 s2 : Standing T) (b : List ℕ) → HearsUnfinished contents runs w0 w1 s0 s1 b next.Goes → HearE w1 w2 s1 s2 (AtEnd ∷ []) → w2.1 ≡ false → Ends contents runs w0 w2 s0 s2 b (Ok end.Input)
+  pub ends_input : (w0 w1 w2 : W × Bool) (s0 s1 s2 : Standing T G) (b : List ℕ) → HearsUnfinished contents runs w0 w1 s0 s1 b next.Goes → HearE w1 w2 s1 s2 (AtEnd ∷ []) → w2.1 ≡ false → Ends contents runs w0 w2 s0 s2 b (Ok end.Input)
   ends_input w0 w1 w2 s0 s1 s2 b h e ok = (heard_more contents runs laws w0 w1 w2 s0 s1 s2 (map AtLine (last_line b)) (AtEnd ∷ []) h.0 e, ok)
 
-  pub ends_failed : (w0 w1 w2 : W × Bool) (s0 s1 s2 : Standing T) (b : List ℕ) → HearsUnfinished contents runs w0 w1 s0 s1 b next.Goes → HearE w1 w2 s1 s2 (AtEnd ∷ []) → w2.1 ≡ true → Ends contents runs w0 w2 s0 s2 b (Err fault.Write)
+  pub ends_failed : (w0 w1 w2 : W × Bool) (s0 s1 s2 : Standing T G) (b : List ℕ) → HearsUnfinished contents runs w0 w1 s0 s1 b next.Goes → HearE w1 w2 s1 s2 (AtEnd ∷ []) → w2.1 ≡ true → Ends contents runs w0 w2 s0 s2 b (Err fault.Write)
   ends_failed w0 w1 w2 s0 s1 s2 b h e failed = (inr (w1, s1, h.0, h.1, e), failed)
 
-  pub ends_at_line : (w0 w1 : W × Bool) (s0 s1 : Standing T) (b : List ℕ) → HearsUnfinished contents runs w0 w1 s0 s1 b next.Fails → Ends contents runs w0 w1 s0 s1 b (Err fault.Write)
+  pub ends_at_line : (w0 w1 : W × Bool) (s0 s1 : Standing T G) (b : List ℕ) → HearsUnfinished contents runs w0 w1 s0 s1 b next.Fails → Ends contents runs w0 w1 s0 s1 b (Err fault.Write)
   ends_at_line w0 w1 s0 s1 b h = (inl (h.0, h.1.0), h.1.1)
 
-  pub ends_by_quit : (w0 w1 : W × Bool) (s0 s1 : Standing T) (b : List ℕ) → HearsUnfinished contents runs w0 w1 s0 s1 b next.Quits → Ends contents runs w0 w1 s0 s1 b (Ok end.Quit)
+  pub ends_by_quit : (w0 w1 : W × Bool) (s0 s1 : Standing T G) (b : List ℕ) → HearsUnfinished contents runs w0 w1 s0 s1 b next.Quits → Ends contents runs w0 w1 s0 s1 b (Ok end.Quit)
   ends_by_quit w0 w1 s0 s1 b h = (h.0, h.1.0, h.1.1)

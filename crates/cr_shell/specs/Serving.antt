@@ -7,7 +7,7 @@ use Rattle.cr_world.specs.declared.command.FleetReply.{FleetReply}
 use Rattle.cr_world.specs.declared.command.FleetReply.TheVariants.{Done, Refused}
 use Rattle.cr_world.specs.declared.refusal.Refusal.TheVariants as refusal
 use Rattle.cr_world.specs.declared.refusal.Limit.TheVariants as limit
-use Rattle.cr_shell.specs.Running.{Standing, Ruled, ruled}
+use Rattle.cr_shell.specs.Running.{Standing, Guarded, guarded}
 use Rattle.cr_shell.specs.declared.serving.Line.{Line}
 use Rattle.cr_shell.specs.declared.serving.Next.{Next}
 use Rattle.cr_shell.specs.declared.serving.Next.TheVariants as next
@@ -146,12 +146,12 @@ Stops (Err fault.Write) failed_last = failed_last
 -- ---- what is heard, by what runs the commands, over a writer
 
 -- what is heard ends the run
-abbrev pub Quits : {T : Type 0} → Standing T → Standing T → Entry → Type 0
+abbrev pub Quits : {T G : Type 0} → Standing T G → Standing T G → Entry → Type 0
 Quits s0 s1 entry = ((asks s0.2 entry).0 ≡ Quit) × (s1.0 ≡ s0.0) × (s1.1 ≡ s0.1)
 
-module _ {T : Type 0} (runs : Ruled T → Ruled T → List Command → List FleetReply → Type 0) where
+module _ {T G : Type 0} (runs : Guarded T G → Guarded T G → List Command → List FleetReply → Type 0) where
   -- what is known to be asked is answered: by what the command replied that it asks for, or else without running one
-  abbrev pub Answers : Ruled T → Ruled T → Asked → Option Answer → Type 0
+  abbrev pub Answers : Guarded T G → Guarded T G → Asked → Option Answer → Type 0
   Answers f0 f1 (Asks c) x = (r : FleetReply) × (x ≡ Some (answer.Reply r)) × runs f0 f1 (c ∷ []) (r ∷ [])
   Answers f0 f1 Nothing x = (x ≡ own_answer Nothing) × (f1 ≡ f0)
   Answers f0 f1 Help x = (x ≡ own_answer Help) × (f1 ≡ f0)
@@ -160,69 +160,69 @@ module _ {T : Type 0} (runs : Ruled T → Ruled T → List Command → List Flee
   Answers f0 f1 TooLong x = (x ≡ own_answer TooLong) × (f1 ≡ f0)
 
   -- it was answered, or ends the run
-  abbrev pub Replies : Standing T → Entry → Option Answer → Standing T → Type 0
+  abbrev pub Replies : Standing T G → Entry → Option Answer → Standing T G → Type 0
   Replies s0 entry None s1 = Quits s0 s1 entry
-  Replies s0 entry (Some x) s1 = (command : Option Command) × IsFor (asks s0.2 entry) command x s1.2 × runs (ruled s0) (ruled s1) (with_command command []) (with_reply command x [])
+  Replies s0 entry (Some x) s1 = (command : Option Command) × IsFor (asks s0.2 entry) command x s1.2 × runs (guarded s0) (guarded s1) (with_command command []) (with_reply command x [])
 
-module _ {T W : Type 0} (contents : W → Option (List ℕ)) (runs : Ruled T → Ruled T → List Command → List FleetReply → Type 0) where
+module _ {T G W : Type 0} (contents : W → Option (List ℕ)) (runs : Guarded T G → Guarded T G → List Command → List FleetReply → Type 0) where
   -- Lines were heard, and maybe the end: each has its turn, the commands ran with these replies, and what is written is what
   -- the answers are printed as.
-  pub record Heard (w0 w1 : W × Bool) (s0 s1 : Standing T) (entries : List Entry) : Type 0 where
+  pub record Heard (w0 w1 : W × Bool) (s0 s1 : Standing T G) (entries : List Entry) : Type 0 where
     pub turns : List Turn
     pub entries_are : map (λ t. t.entry) turns ≡ entries
     pub are_for : AreTurns s0.2 turns s1.2
-    pub ran : runs (ruled s0) (ruled s1) (commands turns) (replies turns)
+    pub ran : runs (guarded s0) (guarded s1) (commands turns) (replies turns)
     pub written : Prints contents w0 w1 (output_of (map (λ t. t.answer) turns))
 
   -- it was heard, or ends the run
-  abbrev pub Hears : W × Bool → W × Bool → Standing T → Standing T → Entry → Bool → Type 0
+  abbrev pub Hears : W × Bool → W × Bool → Standing T G → Standing T G → Entry → Bool → Type 0
   Hears w0 w1 s0 s1 entry true = Heard w0 w1 s0 s1 (entry ∷ [])
   Hears w0 w1 s0 s1 entry false = Quits s0 s1 entry × (w1 ≡ w0)
 
   -- A line was heard, at which the writer may have failed, or ends the run.
-  abbrev pub HearsLine : W × Bool → W × Bool → Standing T → Standing T → List ℕ → Next → Type 0
+  abbrev pub HearsLine : W × Bool → W × Bool → Standing T G → Standing T G → List ℕ → Next → Type 0
   HearsLine w0 w1 s0 s1 line next.Goes = Heard w0 w1 s0 s1 (AtLine line ∷ []) × (w1.1 ≡ false)
   HearsLine w0 w1 s0 s1 line next.Fails = Heard w0 w1 s0 s1 (AtLine line ∷ []) × (w1.1 ≡ true)
   HearsLine w0 w1 s0 s1 line next.Quits = Quits s0 s1 (AtLine line) × (w1 ≡ w0)
 
   -- the same of the unfinished line at the end of the input, unless it is empty
-  abbrev pub HearsUnfinished : W × Bool → W × Bool → Standing T → Standing T → List ℕ → Next → Type 0
+  abbrev pub HearsUnfinished : W × Bool → W × Bool → Standing T G → Standing T G → List ℕ → Next → Type 0
   HearsUnfinished w0 w1 s0 s1 line next.Goes = Heard w0 w1 s0 s1 (map AtLine (last_line line)) × (w1.1 ≡ false)
   HearsUnfinished w0 w1 s0 s1 line next.Fails = (line ≢ []) × HearsLine w0 w1 s0 s1 line next.Fails
   HearsUnfinished w0 w1 s0 s1 line next.Quits = (line ≢ []) × HearsLine w0 w1 s0 s1 line next.Quits
 
   -- A byte was taken: it belongs to the line; or, a line feed, it ends the line.
-  abbrev pub Takes : W × Bool → W × Bool → Standing T → Standing T → Line → Line → ℕ → Next → Type 0
+  abbrev pub Takes : W × Bool → W × Bool → Standing T G → Standing T G → Line → Line → ℕ → Next → Type 0
   Takes w0 w1 s0 s1 old new byte result =
       ((result ≡ next.Goes) × (byte ≢ 10) × (w1 ≡ w0) × (s1 ≡ s0) × IsPushed old new byte)
       ⊎ ((byte ≡ 10) × IsNewLine new × ((b : List ℕ) → IsKept old b → HearsLine w0 w1 s0 s1 b result))
 
   -- the last that was heard is what the writer failed at
-  pub record FailedLast (w0 w1 : W × Bool) (s0 s1 : Standing T) (entries : List Entry) : Type 0 where
+  pub record FailedLast (w0 w1 : W × Bool) (s0 s1 : Standing T G) (entries : List Entry) : Type 0 where
     pub before : List Entry
     pub last : Entry
     pub entries_are : entries ≡ before ++ last ∷ []
     pub writer : W × Bool
-    pub standing : Standing T
+    pub standing : Standing T G
     pub heard_before : Heard w0 writer s0 standing before
     pub had_not_failed : writer.1 ≡ false
     pub heard_last : Heard writer w1 standing s1 (last ∷ [])
 
   -- What was heard at the end, and that the writer failed there: at the unfinished line, or at what was gathered.
-  abbrev pub FailsAtEnd : W × Bool → W × Bool → Standing T → Standing T → List ℕ → Type 0
+  abbrev pub FailsAtEnd : W × Bool → W × Bool → Standing T G → Standing T G → List ℕ → Type 0
   FailsAtEnd w0 w1 s0 s1 line =
       ((line ≢ []) × Heard w0 w1 s0 s1 (AtLine line ∷ []))
-      ⊎ ((writer : W × Bool) × (standing : Standing T) × Heard w0 writer s0 standing (map AtLine (last_line line)) × (writer.1 ≡ false) × Heard writer w1 standing s1 (AtEnd ∷ []))
+      ⊎ ((writer : W × Bool) × (standing : Standing T G) × Heard w0 writer s0 standing (map AtLine (last_line line)) × (writer.1 ≡ false) × Heard writer w1 standing s1 (AtEnd ∷ []))
 
   -- How a run ends with the unfinished line, which is heard unless it is empty; then the end is heard.
-  abbrev pub Ends : W × Bool → W × Bool → Standing T → Standing T → List ℕ → Result End ServeFault → Type 0
+  abbrev pub Ends : W × Bool → W × Bool → Standing T G → Standing T G → List ℕ → Result End ServeFault → Type 0
   Ends w0 w1 s0 s1 line (Ok end.Quit) = (line ≢ []) × Quits s0 s1 (AtLine line) × (w1 ≡ w0)
   Ends w0 w1 s0 s1 line (Ok end.Input) = Heard w0 w1 s0 s1 (map AtLine (last_line line) ++ AtEnd ∷ []) × (w1.1 ≡ false)
   Ends w0 w1 s0 s1 line (Err fault.Read) = ⊥
   Ends w0 w1 s0 s1 line (Err fault.Write) = FailsAtEnd w0 w1 s0 s1 line × (w1.1 ≡ true)
 
   -- nothing is gathered before
-  pub record Serves {R : Type 0} (remaining : R → Option (List ℕ)) (result : Result End ServeFault) (r0 r1 : R × Bool) (w0 w1 : W × Bool) (f0 f1 : Ruled T) : Type 0 where
+  pub record Serves {R : Type 0} (remaining : R → Option (List ℕ)) (result : Result End ServeFault) (r0 r1 : R × Bool) (w0 w1 : W × Bool) (f0 f1 : Guarded T G) : Type 0 where
     pub input : List ℕ
     pub lines : List (List ℕ)
     pub entries : List Entry
