@@ -1,5 +1,5 @@
 -- What a command of the replica in use means for its fleet, and what is heard of it.
-use Rattle.std.proofs.Common.{◌≡◌, ℕ, true, List, map, Option, Some, refl, sym, subst, ◌∙◌, slice_get, slice_set}
+use Rattle.std.proofs.Common.{◌≡◌, ℕ, true, List, map, Option, Some, refl, sym, subst, slice_get, slice_set}
 use Rattle.cr_guard.specs.declared.event.Event.{Event}
 use Rattle.cr_guard.specs.Policy.{Rules}
 use Rattle.cr_tree.specs.declared.statement.Statement.{Statement}
@@ -38,11 +38,11 @@ module _ {E C G : Type 0} (l : Language Statement E) (k : Closures) (hears : G �
               c reply g h own step (heard (all_set (λ x. is_clean x.1) (map pair items) i (pair n) (pair n') clean paired)) clean w s,
         )
 
-    -- under the rules, and as the fleet, that the call leaves
-    pub steps_and_tells : (in_use : Option ℕ) (rules' : Rules) (new : FleetOf (SessionOf C)) → in_use ≡ Some i → rules' ≡ rules → new ≡ (map pair (slice_set items i n'), in_use)
-        → StepsAndTells rules (map pair items, in_use) c reply rules' new g h
-    steps_and_tells in_use rules' new used same view =
-        let as_set : new ≡ (slice_set (map pair items) i (pair n'), Some i) = view ∙ (λ j. (map_set pair items i n' j, used j)) in
-        subst (λ (o : Option ℕ). StepsAndTells rules (map pair items, o) c reply rules' new g h) (sym used)
-        (subst (λ (x : Rules). StepsAndTells rules (map pair items, Some i) c reply x new g h) (sym same)
-        (subst (λ (x : FleetOf (SessionOf C)). StepsAndTells rules (map pair items, Some i) c reply rules x g h) (sym as_set) stepped))
+    -- of the fleet, under the rules that the call leaves
+    pub steps_and_tells : (in_use : Option ℕ) (old : FleetOf (SessionOf C)) (rules' : Rules) → in_use ≡ Some i → (map pair items, in_use) ≡ old → rules' ≡ rules
+        → StepsAndTells rules old c reply rules' (map pair (slice_set items i n'), in_use) g h
+    steps_and_tells in_use old rules' used view same =
+        subst (λ (o : FleetOf (SessionOf C)). StepsAndTells rules o c reply rules' (map pair (slice_set items i n'), in_use) g h) view
+        (subst (λ (o : Option ℕ). StepsAndTells rules (map pair items, o) c reply rules' (map pair (slice_set items i n'), o) g h) (sym used)
+        (subst (λ (x : Rules). StepsAndTells rules (map pair items, Some i) c reply x (map pair (slice_set items i n'), Some i) g h) (sym same)
+        (subst (λ (xs : List (List ℕ × SessionOf C)). StepsAndTells rules (map pair items, Some i) c reply rules (xs, Some i) g h) (sym (map_set pair items i n')) stepped)))

@@ -1,5 +1,5 @@
 -- What becomes of a fleet and its policy over commands, and what is heard of them. Source: this project's own.
-use Rattle.std.specs.Prelude.{List}
+use Rattle.std.specs.Prelude.{List, Option}
 use Rattle.cr_guard.specs.Policy.{Rules}
 use Rattle.cr_guard.specs.declared.event.Event.{Event}
 use Rattle.cr_tree.specs.declared.statement.Statement.{Statement}
@@ -11,8 +11,23 @@ use Rattle.cr_world.specs.World.{World, Closures}
 use Rattle.cr_world.specs.Answers.{AreAnswered}
 use Rattle.cr_world.specs.Run.{Run, world_after}
 use Rattle.cr_world.specs.Headline.{Converges, RowsConverge}
+use Rattle.cr_script.specs.Speaking.{HasHeard, Noting}
 use Rattle.cr_fleet.specs.Fleets.{FleetOf, AreClean, IsUnharmed, Shows}
 use Rattle.cr_fleet.specs.Hearing.{HearsRun}
+
+-- what a guard is known by: its policy, what its listener has noted, where there is one, and how that one notes
+abbrev pub Watch : Type 0
+Watch = Rules × Option (List Event) × Noting
+
+abbrev pub watch : {G : Type 0} → (G → Rules) → (G → Option (List Event)) → (G → Noting) → G → Watch
+watch rules noted noting g = (rules g, noted g, noting g)
+
+abbrev pub policy_of : Watch → Rules
+policy_of w = w.0
+
+-- its listener, where there is one, has heard these events since
+abbrev pub hears : Watch → Watch → List Event → Type 0
+hears old new events = HasHeard (λ (w : Watch). w.1) (λ (w : Watch). w.2) old new events
 
 -- The commands ran as a run of the fleet with these replies, whatever its replicas ever held, what there is to hear of them was
 -- heard, and it converges. This holds where each store is clean after it, as it is where each was clean before and no reply tells

@@ -3,6 +3,7 @@
 ghost use Rattle.std.specs.Prelude.{◌≡◌, ◌∷◌, [], ℕ, Bool, List};
 ghost use Rattle.cr_session.specs.Sessions.{clean, honest, is_own, standing};
 ghost use Rattle.cr_world.specs.Answers.{IsReady};
+ghost use Rattle.cr_served.specs.Running.{policy_of, hears, watch};
 ghost use Rattle.cr_served.specs.Alone.{RanAlone};
 
 use cr_cells::store::Cells;
@@ -26,7 +27,7 @@ pub(crate) fn step_alone<C: Cells, F: Functions, G: Guarding>(
     requires guard { G.is_faithful guard.old }
     requires ready { IsReady command.now }
     ensures ran { (has : List ℕ → Bool) → ⟦<F as Speaking>⟧.are_names functions.now has
-        → RanAlone G.rules (⟦<G as Watching>⟧.hears) (⟦<F as Speaking>⟧.language functions.now has) (⟦<G as Watching>⟧.closures guard.old) (honest C.is_honest) (clean C.is_clean) (standing C.holding) (session.old, guard.old) (session.new, guard.new) (command.now ∷ []) (result ∷ []) }
+        → RanAlone policy_of hears (⟦<F as Speaking>⟧.language functions.now has) (⟦<G as Watching>⟧.closures guard.old) (honest C.is_honest) (clean C.is_clean) (standing C.holding) (session.old, watch G.rules G.noted G.noting guard.old) (session.new, watch G.rules G.noted G.noting guard.new) (command.now ∷ []) (result ∷ []) }
     ensures closures { ⟦<G as Watching>⟧.closures guard.new ≡ ⟦<G as Watching>⟧.closures guard.old }
     ensures noting { G.noting guard.new ≡ G.noting guard.old }
     ensures faithful { G.is_faithful guard.new }

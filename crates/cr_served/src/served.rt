@@ -17,8 +17,7 @@ pub trait Served {
     ghost use Rattle.std.specs.Prelude.{List, [], ◌∷◌, ◌++◌};
     ghost use Rattle.cr_tree.specs.declared.statement.Statement.{Statement};
     ghost use Rattle.cr_meaning.specs.View.{Ordered};
-    ghost use Rattle.cr_guard.specs.Policy.{Rules};
-    ghost use Rattle.cr_guard.specs.declared.event.Event.{Event};
+    ghost use Rattle.cr_served.specs.Running.{Watch, watch};
     ghost use Rattle.cr_world.specs.declared.command.Command.{Command};
     ghost use Rattle.cr_world.specs.declared.command.FleetReply.{FleetReply};
     ghost use Rattle.cr_world.specs.Answers.{IsReady};
@@ -26,8 +25,8 @@ pub trait Served {
     ghost use Rattle.cr_world.specs.World.{Closures};
 
     /// These commands ran with these replies, from a state and what it is under to others, where statements are in this
-    /// language, authorizer and commit hook answer so, and what they are under has this policy and hears so.
-    ghost ran: { {G : Type 0} → (G → Rules) → (G → G → List Event → Type 0) → Language Statement Ordered → Closures → Self × G → Self × G → List Command → List FleetReply → Type 0 };
+    /// language, and authorizer and commit hook answer so.
+    ghost ran: { Language Statement Ordered → Closures → Self × Watch → Self × Watch → List Command → List FleetReply → Type 0 };
 
     /// Carries out one command.
     fn carry_out<F: Functions, G: Guarding>(
@@ -41,25 +40,25 @@ pub trait Served {
         requires guard { G.is_faithful guard.old }
         requires ready { IsReady command.now }
         ensures ran { (has : List ℕ → Bool) → ⟦<F as Speaking>⟧.are_names functions.now has
-            → ran G.rules (⟦<G as Watching>⟧.hears) (⟦<F as Speaking>⟧.language functions.now has) (⟦<G as Watching>⟧.closures guard.old) (self.old, guard.old) (self.new, guard.new) (command.now ∷ []) (result ∷ []) }
+            → ran (⟦<F as Speaking>⟧.language functions.now has) (⟦<G as Watching>⟧.closures guard.old) (self.old, watch G.rules G.noted G.noting guard.old) (self.new, watch G.rules G.noted G.noting guard.new) (command.now ∷ []) (result ∷ []) }
         ensures closures { ⟦<G as Watching>⟧.closures guard.new ≡ ⟦<G as Watching>⟧.closures guard.old }
         ensures noting { G.noting guard.new ≡ G.noting guard.old }
         ensures faithful { G.is_faithful guard.new };
 
     /// None ran.
-    ghost ran_none: { {G : Type 0} (rules : G → Rules) (hears : G → G → List Event → Type 0) (l : Language Statement Ordered) (k : Closures) (s : Self × G) → ran rules hears l k s s [] [] };
+    ghost ran_none: { (l : Language Statement Ordered) (k : Closures) (s : Self × Watch) → ran l k s s [] [] };
 
     /// One list ran after the other.
-    ghost ran_more: { {G : Type 0} (rules : G → Rules) (hears : G → G → List Event → Type 0) (l : Language Statement Ordered) (k : Closures) (s0 s1 s2 : Self × G) (cs ds : List Command) (rs ss : List FleetReply)
-        → ran rules hears l k s0 s1 cs rs → ran rules hears l k s1 s2 ds ss → ran rules hears l k s0 s2 (cs ++ ds) (rs ++ ss) };
+    ghost ran_more: { (l : Language Statement Ordered) (k : Closures) (s0 s1 s2 : Self × Watch) (cs ds : List Command) (rs ss : List FleetReply)
+        → ran l k s0 s1 cs rs → ran l k s1 s2 ds ss → ran l k s0 s2 (cs ++ ds) (rs ++ ss) };
 }
 
 impl<C: NewCells> Served for Fleet<C> {
     ghost use Rattle.cr_session.specs.Sessions.{clean, standing};
-    ghost use Rattle.cr_served.specs.Running.{Ran};
+    ghost use Rattle.cr_served.specs.Running.{Ran, policy_of, hears};
     ghost use Rattle.cr_served.specs.RunningLaws.{fleet_ran_none, fleet_ran_more};
 
-    ghost ran = { λ rules hears l k s0 s1 cs rs. Ran rules hears l k (clean C.is_clean) (standing C.holding) s0 s1 cs rs };
+    ghost ran = { λ l k s0 s1 cs rs. Ran policy_of hears l k (clean C.is_clean) (standing C.holding) s0 s1 cs rs };
 
     fn carry_out<F: Functions, G: Guarding>(
         &mut self,
@@ -71,17 +70,18 @@ impl<C: NewCells> Served for Fleet<C> {
         self.step(alloc, functions, guard, command)
     }
 
-    ghost ran_none = { λ rules hears l k s. fleet_ran_none rules hears l k (clean C.is_clean) (standing C.holding) s };
+    ghost ran_none = { λ l k s. fleet_ran_none policy_of hears l k (clean C.is_clean) (standing C.holding) s };
 
-    ghost ran_more = { λ rules hears l k s0 s1 s2 cs ds rs ss p q. fleet_ran_more rules hears l k (clean C.is_clean) (standing C.holding) s0 s1 s2 cs ds rs ss p q };
+    ghost ran_more = { λ l k s0 s1 s2 cs ds rs ss p q. fleet_ran_more policy_of hears l k (clean C.is_clean) (standing C.holding) s0 s1 s2 cs ds rs ss p q };
 }
 
 impl<C: Cells> Served for Session<C> {
     ghost use Rattle.cr_session.specs.Sessions.{clean, honest, standing};
+    ghost use Rattle.cr_served.specs.Running.{policy_of, hears};
     ghost use Rattle.cr_served.specs.Alone.{RanAlone};
     ghost use Rattle.cr_served.specs.AloneLaws.{alone_ran_none, alone_ran_more};
 
-    ghost ran = { λ rules hears l k s0 s1 cs rs. RanAlone rules hears l k (honest C.is_honest) (clean C.is_clean) (standing C.holding) s0 s1 cs rs };
+    ghost ran = { λ l k s0 s1 cs rs. RanAlone policy_of hears l k (honest C.is_honest) (clean C.is_clean) (standing C.holding) s0 s1 cs rs };
 
     fn carry_out<F: Functions, G: Guarding>(
         &mut self,
@@ -93,7 +93,7 @@ impl<C: Cells> Served for Session<C> {
         step_alone(alloc, self, functions, guard, command)
     }
 
-    ghost ran_none = { λ rules hears l k s. alone_ran_none rules hears l k (honest C.is_honest) (clean C.is_clean) (standing C.holding) s };
+    ghost ran_none = { λ l k s. alone_ran_none policy_of hears l k (honest C.is_honest) (clean C.is_clean) (standing C.holding) s };
 
-    ghost ran_more = { λ rules hears l k s0 s1 s2 cs ds rs ss p q. alone_ran_more rules hears l k (honest C.is_honest) (clean C.is_clean) (standing C.holding) s0 s1 s2 cs ds rs ss p q };
+    ghost ran_more = { λ l k s0 s1 s2 cs ds rs ss p q. alone_ran_more policy_of hears l k (honest C.is_honest) (clean C.is_clean) (standing C.holding) s0 s1 s2 cs ds rs ss p q };
 }

@@ -2,6 +2,7 @@
 
 ghost use Rattle.std.specs.Prelude.{◌≡◌, ℕ, List, [], true, false, IfOk};
 ghost use Rattle.cr_shell.specs.Asking.{asked, AsksReady};
+ghost use Rattle.cr_served.specs.Running.{watch};
 ghost use Rattle.cr_shell.specs.Running.{RanAs};
 ghost use Rattle.cr_shell.specs.Serving.{Entry, asks, IsKept, IsNewLine, IsPushed, IsEmpty, Answers, Replies, Hears, HearsLine, HearsUnfinished, Takes, Ends, Serves};
 
@@ -136,8 +137,8 @@ fn answer<T: Served, F: Functions, G: Guarding>(
     requires guard { G.is_faithful guard.old }
     requires ready { IfOk request AsksReady }
     ensures replies { (entry : Entry) (before : List ℕ) → IfOk request (λ it. (it, gathered.old) ≡ asks before entry)
-        → Replies (RanAs (T.ran G.rules (⟦<G as Watching>⟧.hears)) (⟦<F as Speaking>⟧.are_names functions.now) (⟦<F as Speaking>⟧.language functions.now) (⟦<G as Watching>⟧.closures guard.old)) (served.old, guard.old, before) entry result (served.new, guard.new, gathered.new) }
-    ensures answers { IfOk request (λ it. Answers (RanAs (T.ran G.rules (⟦<G as Watching>⟧.hears)) (⟦<F as Speaking>⟧.are_names functions.now) (⟦<F as Speaking>⟧.language functions.now) (⟦<G as Watching>⟧.closures guard.old)) (served.old, guard.old) (served.new, guard.new) it result) }
+        → Replies (RanAs T.ran (⟦<F as Speaking>⟧.are_names functions.now) (⟦<F as Speaking>⟧.language functions.now) (⟦<G as Watching>⟧.closures guard.old)) (served.old, watch G.rules G.noted G.noting guard.old, before) entry result (served.new, watch G.rules G.noted G.noting guard.new, gathered.new) }
+    ensures answers { IfOk request (λ it. Answers (RanAs T.ran (⟦<F as Speaking>⟧.are_names functions.now) (⟦<F as Speaking>⟧.language functions.now) (⟦<G as Watching>⟧.closures guard.old)) (served.old, watch G.rules G.noted G.noting guard.old) (served.new, watch G.rules G.noted G.noting guard.new) it result) }
     ensures gathered { IfOk request (λ it. gathered.new ≡ gathered.old) }
     ensures closures { ⟦<G as Watching>⟧.closures guard.new ≡ ⟦<G as Watching>⟧.closures guard.old }
     ensures noting { G.noting guard.new ≡ G.noting guard.old }
@@ -176,7 +177,7 @@ fn hear<W: Write, T: Served, F: Functions, G: Guarding>(
     requires guard { G.is_faithful guard.old }
     requires ready { IfOk request AsksReady }
     ensures hears { (entry : Entry) (before : List ℕ) → IfOk request (λ it. (it, gathered.old) ≡ asks before entry)
-        → Hears W.contents (RanAs (T.ran G.rules (⟦<G as Watching>⟧.hears)) (⟦<F as Speaking>⟧.are_names functions.now) (⟦<F as Speaking>⟧.language functions.now) (⟦<G as Watching>⟧.closures guard.old)) writer.old writer.new (served.old, guard.old, before) (served.new, guard.new, gathered.new) entry result }
+        → Hears W.contents (RanAs T.ran (⟦<F as Speaking>⟧.are_names functions.now) (⟦<F as Speaking>⟧.language functions.now) (⟦<G as Watching>⟧.closures guard.old)) writer.old writer.new (served.old, watch G.rules G.noted G.noting guard.old, before) (served.new, watch G.rules G.noted G.noting guard.new, gathered.new) entry result }
     ensures closures { ⟦<G as Watching>⟧.closures guard.new ≡ ⟦<G as Watching>⟧.closures guard.old }
     ensures noting { G.noting guard.new ≡ G.noting guard.old }
     ensures faithful { G.is_faithful guard.new }
@@ -202,7 +203,7 @@ fn hear_line<W: Write, T: Served, F: Functions, G: Guarding>(
     requires functions { F.is_faithful functions.now }
     requires guard { G.is_faithful guard.old }
     ensures hears { (bytes : List ℕ) → IsKept input.old.line bytes
-        → HearsLine W.contents (RanAs (T.ran G.rules (⟦<G as Watching>⟧.hears)) (⟦<F as Speaking>⟧.are_names functions.now) (⟦<F as Speaking>⟧.language functions.now) (⟦<G as Watching>⟧.closures guard.old)) writer.old writer.new (served.old, guard.old, input.old.gathered) (served.new, guard.new, input.new.gathered) bytes result }
+        → HearsLine W.contents (RanAs T.ran (⟦<F as Speaking>⟧.are_names functions.now) (⟦<F as Speaking>⟧.language functions.now) (⟦<G as Watching>⟧.closures guard.old)) writer.old writer.new (served.old, watch G.rules G.noted G.noting guard.old, input.old.gathered) (served.new, watch G.rules G.noted G.noting guard.new, input.new.gathered) bytes result }
     ensures line { IsNewLine input.new.line }
     ensures closures { ⟦<G as Watching>⟧.closures guard.new ≡ ⟦<G as Watching>⟧.closures guard.old }
     ensures noting { G.noting guard.new ≡ G.noting guard.old }
@@ -238,7 +239,7 @@ fn take_byte<W: Write, T: Served, F: Functions, G: Guarding>(
 ) -> Next
     requires functions { F.is_faithful functions.now }
     requires guard { G.is_faithful guard.old }
-    ensures takes { Takes W.contents (RanAs (T.ran G.rules (⟦<G as Watching>⟧.hears)) (⟦<F as Speaking>⟧.are_names functions.now) (⟦<F as Speaking>⟧.language functions.now) (⟦<G as Watching>⟧.closures guard.old)) writer.old writer.new (served.old, guard.old, input.old.gathered) (served.new, guard.new, input.new.gathered) input.old.line input.new.line byte result }
+    ensures takes { Takes W.contents (RanAs T.ran (⟦<F as Speaking>⟧.are_names functions.now) (⟦<F as Speaking>⟧.language functions.now) (⟦<G as Watching>⟧.closures guard.old)) writer.old writer.new (served.old, watch G.rules G.noted G.noting guard.old, input.old.gathered) (served.new, watch G.rules G.noted G.noting guard.new, input.new.gathered) input.old.line input.new.line byte result }
     ensures closures { ⟦<G as Watching>⟧.closures guard.new ≡ ⟦<G as Watching>⟧.closures guard.old }
     ensures noting { G.noting guard.new ≡ G.noting guard.old }
     ensures faithful { G.is_faithful guard.new }
@@ -263,7 +264,7 @@ fn hear_unfinished<W: Write, T: Served, F: Functions, G: Guarding>(
     requires guard { G.is_faithful guard.old }
     requires writer { writer.old.1 ≡ false }
     ensures hears { (bytes : List ℕ) → IsKept input.old.line bytes
-        → HearsUnfinished W.contents (RanAs (T.ran G.rules (⟦<G as Watching>⟧.hears)) (⟦<F as Speaking>⟧.are_names functions.now) (⟦<F as Speaking>⟧.language functions.now) (⟦<G as Watching>⟧.closures guard.old)) writer.old writer.new (served.old, guard.old, input.old.gathered) (served.new, guard.new, input.new.gathered) bytes result }
+        → HearsUnfinished W.contents (RanAs T.ran (⟦<F as Speaking>⟧.are_names functions.now) (⟦<F as Speaking>⟧.language functions.now) (⟦<G as Watching>⟧.closures guard.old)) writer.old writer.new (served.old, watch G.rules G.noted G.noting guard.old, input.old.gathered) (served.new, watch G.rules G.noted G.noting guard.new, input.new.gathered) bytes result }
     ensures closures { ⟦<G as Watching>⟧.closures guard.new ≡ ⟦<G as Watching>⟧.closures guard.old }
     ensures noting { G.noting guard.new ≡ G.noting guard.old }
     ensures faithful { G.is_faithful guard.new }
@@ -287,7 +288,7 @@ fn hear_last<W: Write, T: Served, F: Functions, G: Guarding>(
     requires guard { G.is_faithful guard.old }
     requires writer { writer.old.1 ≡ false }
     ensures ends { (bytes : List ℕ) → IsKept input.old.line bytes
-        → Ends W.contents (RanAs (T.ran G.rules (⟦<G as Watching>⟧.hears)) (⟦<F as Speaking>⟧.are_names functions.now) (⟦<F as Speaking>⟧.language functions.now) (⟦<G as Watching>⟧.closures guard.old)) writer.old writer.new (served.old, guard.old, input.old.gathered) (served.new, guard.new, input.new.gathered) bytes result }
+        → Ends W.contents (RanAs T.ran (⟦<F as Speaking>⟧.are_names functions.now) (⟦<F as Speaking>⟧.language functions.now) (⟦<G as Watching>⟧.closures guard.old)) writer.old writer.new (served.old, watch G.rules G.noted G.noting guard.old, input.old.gathered) (served.new, watch G.rules G.noted G.noting guard.new, input.new.gathered) bytes result }
     ensures closures { ⟦<G as Watching>⟧.closures guard.new ≡ ⟦<G as Watching>⟧.closures guard.old }
     ensures noting { G.noting guard.new ≡ G.noting guard.old }
     ensures faithful { G.is_faithful guard.new }
@@ -334,7 +335,7 @@ pub fn serve<R: Read, W: Write, T: Served, F: Functions, G: Guarding>(
     requires writer { writer.old.1 ≡ false }
     requires functions { F.is_faithful functions.now }
     requires guard { G.is_faithful guard.old }
-    ensures serves { Serves W.contents (RanAs (T.ran G.rules (⟦<G as Watching>⟧.hears)) (⟦<F as Speaking>⟧.are_names functions.now) (⟦<F as Speaking>⟧.language functions.now) (⟦<G as Watching>⟧.closures guard.old)) R.remaining result reader.old reader.new writer.old writer.new (served.old, guard.old) (served.new, guard.new) }
+    ensures serves { Serves W.contents (RanAs T.ran (⟦<F as Speaking>⟧.are_names functions.now) (⟦<F as Speaking>⟧.language functions.now) (⟦<G as Watching>⟧.closures guard.old)) R.remaining result reader.old reader.new writer.old writer.new (served.old, watch G.rules G.noted G.noting guard.old) (served.new, watch G.rules G.noted G.noting guard.new) }
     ensures closures { ⟦<G as Watching>⟧.closures guard.new ≡ ⟦<G as Watching>⟧.closures guard.old }
     ensures noting { G.noting guard.new ≡ G.noting guard.old }
     ensures faithful { G.is_faithful guard.new }

@@ -29,7 +29,7 @@ loop-joined-preserved g c =
           c.deref.result.now c.loop-joined.partners.items c.in-Ok.rows (c.loop-joined.invariant.same was) (c.requires.named (c.loop-joined.invariant.was_clean was)) c.deref.ensures.value (c.in-Ok.ensures.finds clean).finds)
           _ _ _ c.in_ok-base.ensures
           (c.in_ok-push_partner.ensures ∙ ap (λ (rows : List _). c.loop-joined.partners.items ++ partner c.loop-joined.base j rows) c.as_slice.ensures)
-          c.in_ok-push.ensures;
+          c.in_ok-push.ensures.puts;
     }
 
 pub returns-clause-finds : goal.returns-clause-finds
