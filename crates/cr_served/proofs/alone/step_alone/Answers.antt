@@ -15,7 +15,7 @@ returns-then-is_own-clause-ran g c = λ has names.
     own_ran policy_of hears language k (honest g.C.Cells.is_honest) (clean g.C.Cells.is_clean) (standing g.C.Cells.holding) c.args.session.now c.step.new.self
     (watch g.G.Guarding.rules g.G.Guarding.noted g.G.Guarding.noting c.args.guard.now) (watch g.G.Guarding.rules g.G.Guarding.noted g.G.Guarding.noting c.step.new.guard) c.args.command.now c.step.result c.step.ensures.guard.same_rules own (c.step.ensures.does has names)
     (λ clean. own_over language (watch g.G.Guarding.rules g.G.Guarding.noted g.G.Guarding.noting) (HasHeard g.G.Guarding.noted g.G.Guarding.noting) hears (λ from to events heard. heard) (host_under k (g.G.Guarding.rules c.args.guard.now)) c.args.guard.now (standing g.C.Cells.holding c.args.session.now) c.args.command.now c.step.result (standing g.C.Cells.holding c.step.new.self) c.step.new.guard
-        (c.step.ensures.heard has names clean))
+    (c.step.ensures.heard has names clean))
 
 pub returns-then-is_own-clause-closures : goal.returns-then-is_own-clause-closures
 returns-then-is_own-clause-closures g c = same_closures g.G.Guarding.is_faithful g.G.Guarding.rules g.G.Guarding.allows g.G.Guarding.refuses g.G.Guarding.noting _ _ c.step.ensures.guard

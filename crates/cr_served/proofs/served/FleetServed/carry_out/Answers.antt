@@ -12,4 +12,4 @@ returns-clause-ran g c = λ has names.
     fleet_ran_one policy_of hears language k (clean g.C.Cells.is_clean) (standing g.C.Cells.holding) c.args.self.now c.step.new.self
     (watch g.G.Guarding.rules g.G.Guarding.noted g.G.Guarding.noting c.args.guard.now) (watch g.G.Guarding.rules g.G.Guarding.noted g.G.Guarding.noting c.step.new.guard) c.args.command.now c.step.result (c.step.ensures.steps has names)
     (λ clean w shows. command_over language (watch g.G.Guarding.rules g.G.Guarding.noted g.G.Guarding.noting) (HasHeard g.G.Guarding.noted g.G.Guarding.noting) hears (λ from to events heard. heard) k c.args.guard.now w c.args.command.now c.step.result c.step.new.guard
-        (c.step.ensures.heard has names clean w shows))
+    (c.step.ensures.heard has names clean w shows))
