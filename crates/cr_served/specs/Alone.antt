@@ -1,5 +1,5 @@
--- What becomes of one replica alone and its policy over commands, and what is heard of them: it is a fleet of one, which no command opens, chooses or
--- pulls from. Source: this project's own.
+-- What becomes of one replica alone and its policy over commands, and what is heard of them: it is a fleet of one, which no
+-- command opens, chooses or pulls from. Source: this project's own.
 use Rattle.std.specs.Prelude.{◌≡◌, Bool, true, false, List, [], ◌∷◌, map, Some}
 use Rattle.cr_guard.specs.Policy.{Rules}
 use Rattle.cr_guard.specs.declared.event.Event.{Event}
