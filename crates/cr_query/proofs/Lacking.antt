@@ -166,7 +166,7 @@ module _ {E : Type 0} (m : Meaning E) where
     by (inr k) = one_kept (Untold c) (λ e. not (m.quiet e)) es k
 
   abbrev Partner : Joining E → List Row → Row → Type 0
-  Partner j rows r = OfOne (λ row. r ≡ row) rows ⊎ (r ≡ nulls j.width)
+  Partner j rows r = OfOne (λ row. r ≡ row) rows ⊎ ((j.left ≡ true) × (r ≡ nulls j.width))
 
   -- the rows of one more table, none of which may be joined
   with_lacks : (j : Joining E) (rows : List Row) (c : Row) → joined_with m j rows c ≡ None → (r : Row) × (Partner j rows r × OfOne (Untold (c ++ r)) j.on)
@@ -179,22 +179,22 @@ module _ {E : Type 0} (m : Meaning E) where
 
   -- a combination with one more table is made of one without
   with_from : (Q : Row → Type 0) (j : Joining E) (rows : List Row) (c : Row) (ds : List Row) → joined_with m j rows c ≡ Some ds → OfOne Q ds → (r : Row) × (Partner j rows r × Q (c ++ r))
-  with_from Q j rows c ds e h = by j.left e where
+  with_from Q j rows c ds e h = by j.left refl e where
     of_rows : OfOne Q (with_rows c rows) → (r : Row) × (Partner j rows r × Q (c ++ r))
     of_rows k = let found = one_is (λ r. Q (c ++ r)) rows (one_mapped Q (λ r. c ++ r) rows k) in (found.0, (inl found.1.0, found.1.1))
 
-    of_padded : (ws : List Row) → those (holds m j.on) (with_rows c rows) ≡ Some ws → OfOne Q (or_padded (nulls j.width) c ws) → (r : Row) × (Partner j rows r × Q (c ++ r))
-    of_padded [] f (inl k) = (nulls j.width, (inr refl, k))
-    of_padded [] f (inr k) = absurd k
-    of_padded (w ∷ ws) f k = of_rows (one_those Q (holds m j.on) (with_rows c rows) (w ∷ ws) f k)
+    of_padded : j.left ≡ true → (ws : List Row) → those (holds m j.on) (with_rows c rows) ≡ Some ws → OfOne Q (or_padded (nulls j.width) c ws) → (r : Row) × (Partner j rows r × Q (c ++ r))
+    of_padded left [] f (inl k) = (nulls j.width, (inr (left, refl), k))
+    of_padded left [] f (inr k) = absurd k
+    of_padded left (w ∷ ws) f k = of_rows (one_those Q (holds m j.on) (with_rows c rows) (w ∷ ws) f k)
 
-    of_those : (o : Option (List Row)) → those (holds m j.on) (with_rows c rows) ≡ o → option_map (or_padded (nulls j.width) c) o ≡ Some ds → (r : Row) × (Partner j rows r × Q (c ++ r))
-    of_those None f k = absurd (let q : ⊥ = cc in q)
-    of_those (Some ws) f k = of_padded ws f (subst (OfOne Q) (let is : ds ≡ or_padded (nulls j.width) c ws = cc in is) h)
+    of_those : j.left ≡ true → (o : Option (List Row)) → those (holds m j.on) (with_rows c rows) ≡ o → option_map (or_padded (nulls j.width) c) o ≡ Some ds → (r : Row) × (Partner j rows r × Q (c ++ r))
+    of_those left None f k = absurd (let q : ⊥ = cc in q)
+    of_those left (Some ws) f k = of_padded left ws f (subst (OfOne Q) (let is : ds ≡ or_padded (nulls j.width) c ws = cc in is) h)
 
-    by : (b : Bool) → cond b (option_map (or_padded (nulls j.width) c) (those (holds m j.on) (with_rows c rows))) (Some (with_rows c rows)) ≡ Some ds → (r : Row) × (Partner j rows r × Q (c ++ r))
-    by true k = of_those (those (holds m j.on) (with_rows c rows)) refl k
-    by false k = of_rows (subst (OfOne Q) (let is : ds ≡ with_rows c rows = cc in is) h)
+    by : (b : Bool) → j.left ≡ b → cond b (option_map (or_padded (nulls j.width) c) (those (holds m j.on) (with_rows c rows))) (Some (with_rows c rows)) ≡ Some ds → (r : Row) × (Partner j rows r × Q (c ++ r))
+    by true left k = of_those left (those (holds m j.on) (with_rows c rows)) refl k
+    by false _ k = of_rows (subst (OfOne Q) (let is : ds ≡ with_rows c rows = cc in is) h)
 
   -- so is one with all
   combined_from : (Q : Row → Type 0) (js : List (Joining E)) (tables : List (List Row)) (cs ds : List Row) → combined m js tables cs ≡ Some ds → OfOne Q ds

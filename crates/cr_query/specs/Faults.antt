@@ -1,5 +1,5 @@
 -- Where an expression of a query or of a write has something, as a fault. Source: this project's own.
-use Rattle.std.specs.Prelude.{◌≡◌, ◌⊎◌, List, [], ◌∷◌, ◌++◌, map, None}
+use Rattle.std.specs.Prelude.{◌≡◌, ◌⊎◌, true, List, [], ◌∷◌, ◌++◌, map, None}
 use Rattle.std.specs.List.{AllByRecursion, flat_map}
 use Rattle.std.specs.Option.{option_and_then, option_to_list}
 use Rattle.cr_query.specs.Query.{Row, Group, Meaning, nulls, is_true}
@@ -16,7 +16,7 @@ OfOne P (x ∷ xs) = P x ⊎ OfOne P xs
 abbrev pub Reaches : {E : Type 0} → List (Joining E) → List (List Row) → Row → Row → Type 0
 Reaches [] tables c d = d ≡ c
 Reaches (j ∷ js) [] c d = d ≡ c
-Reaches (j ∷ js) (rows ∷ tables) c d = (d ≡ c) ⊎ ((r : Row) × ((OfOne (λ row. r ≡ row) rows ⊎ (r ≡ nulls j.width)) × Reaches js tables (c ++ r) d))
+Reaches (j ∷ js) (rows ∷ tables) c d = (d ≡ c) ⊎ ((r : Row) × ((OfOne (λ row. r ≡ row) rows ⊎ ((j.left ≡ true) × (r ≡ nulls j.width))) × Reaches js tables (c ++ r) d))
 
 -- a combination of rows of the query's tables, or of the first of them
 abbrev pub IsCombination : {E : Type 0} → Query E → List (List Row) → Row → Type 0
