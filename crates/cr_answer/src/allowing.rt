@@ -51,8 +51,8 @@ fn fitting<T: Drop>(statement: T, is_fit: bool) -> Result<T, Refusal>
     }
 }
 
-/// A statement as it is carried out with so many parameters: its names are resolved over the replica's tables and the table of
-/// changes, the authorizer and the policy are asked, and what they ignore is gone from it.
+/// A statement as it is carried out with so many parameters: its names are resolved over the replica's tables, the table of
+/// changes and the host's modules, the authorizer and the policy are asked, and what they ignore is gone from it.
 ///
 /// # Errors
 /// The first that stands against its definition or its CASTs, then against its names, then `Denied`, in the order of

@@ -55,7 +55,7 @@ fn check_names<K: Naming>(
 ///
 /// # Errors
 /// The first that stands against it: `OutOfProfile`, then `Limit`, then of its names `BadName`, `TableExists`,
-/// `AmbiguousColumn`, `NoSuchColumn`, `NoSuchCollation`; `Memory`.
+/// `AmbiguousColumn` for a column, `NoSuchColumn` and then `AmbiguousColumn` for those of the key, `NoSuchCollation`; `Memory`.
 #[tactic(auto, using(crate::proofs::Defined::columns_fail, crate::proofs::Defined::names_fail, crate::proofs::Defined::created))]
 pub fn create<K: Naming>(alloc: Global, known: &K, create: &Tree) -> Result<Create, Refusal>
     ensures { Finds (meant (K.known known.now) create.now) result }

@@ -53,13 +53,13 @@ first_took m name rows true n o c e leaves here later = here refl
 first_took m name rows false n o c e leaves here later = later
 
 abbrev answered : List Row → Option ModuleState → Cause
-answered rows o = option_map_or (λ (md : ModuleState). elim (md.update rows) as (λ _. Cause) [ Ok more ↦ Free | Err f ↦ Is f ]) o Free
+answered rows o = option_map_or (λ (md : ModuleState). elim (md.updated (rows ∷ [])) as (λ _. Cause) [ Ok more ↦ Free | Err f ↦ Is f ]) o Free
 
-takes : (m n : ModuleState) (rows : List Row) → m.update rows ≡ Ok n.rows → answered rows (Some m) ≡ Free
+takes : (m n : ModuleState) (rows : List Row) → m.updated (rows ∷ []) ≡ Ok n.rows → answered rows (Some m) ≡ Free
 takes m n rows e = ap (λ (o : Result (List Row) Refusal). elim o as (λ _. Cause) [ Ok more ↦ Free | Err f ↦ Is f ]) e
 
 left_so : (m n : ModuleState) (name : List ℕ) (rows : List Row) (b : Bool) → is_module name m ≡ b
-    → (elim b as (λ _. Type 0) [ true ↦ (n.name ≡ m.name) × (n.columns ≡ m.columns) × (m.update rows ≡ Ok n.rows) | false ↦ n ≡ m ]) → b ≡ true → m.update rows ≡ Ok n.rows
+    → (elim b as (λ _. Type 0) [ true ↦ (n.name ≡ m.name) × (n.columns ≡ m.columns) × (m.updated (rows ∷ []) ≡ Ok n.rows) × (n.updated ≡ (λ more. m.updated (rows ∷ more))) | false ↦ n ≡ m ]) → b ≡ true → m.updated (rows ∷ []) ≡ Ok n.rows
 left_so m n name rows true e l so = l.2
 left_so m n name rows false e l so = absurd (let z : ⊥ = cc in z)
 
@@ -71,7 +71,7 @@ took name rows (m ∷ ms) (n ∷ ns) all =
     first_took m name rows (is_module name m) n (module_in ms name) (answered rows) refl all.0
     (λ so. takes m n rows (left_so m n name rows (is_module name m) refl all.0 so)) (took name rows ms ns all.1)
 
-refuses : (o : Option ModuleState) (m : ModuleState) (rows : List Row) (f : Refusal) → o ≡ Some m → m.update rows ≡ Err f → Tells (answered rows o) f
+refuses : (o : Option ModuleState) (m : ModuleState) (rows : List Row) (f : Refusal) → o ≡ Some m → m.updated (rows ∷ []) ≡ Err f → Tells (answered rows o) f
 refuses o m rows f e is =
     subst (λ (x : Option ModuleState). Tells (answered rows x) f) (sym e)
     (subst (λ (x : Result (List Row) Refusal). Tells (elim x as (λ _. Cause) [ Ok more ↦ Free | Err f ↦ Is f ]) f) (sym is) refl)

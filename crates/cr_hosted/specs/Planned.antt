@@ -34,7 +34,7 @@ pub record MayOffer (means : Means) (tables : List Table) (ms : List ModuleState
   pub bytes : OrdersBytes means
   pub wide : list_all (is_as_wide tables ms) q.joined ≡ true
 
--- each module, read by what the query offers it exactly where it may, else all its rows
+-- each module that the query names, read by what the query offers it exactly where it may, else all its rows
 pub record ShowsModules (means : Means) (params : List Value) (tables : List Table) (bests : List Best) (ms : List ModuleState) (q : Query) (ls : List Listing) : Type 0 where
   pub may_offer : Bool
   pub may : may_offer ≡ true → MayOffer means tables ms q

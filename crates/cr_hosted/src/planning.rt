@@ -49,7 +49,8 @@ impl<C: Cells, M: Module> HostedSession<C, M> {
         joined.iter().all(|table| self.is_as_wide(tables, table))
     }
 
-    /// What a query sees of modules. Where texts are compared byte by byte a module is offered what it is told.
+    /// What a query sees of modules. Where texts are compared byte by byte, and each table is as wide as the query takes it to be, a
+    /// module is offered what it is told.
     ///
     /// # Errors
     /// Want of memory, of a module or for the rows.

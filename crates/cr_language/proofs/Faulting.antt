@@ -29,24 +29,24 @@ module _ (functions : Functions) (params : List Value) (f : EvalFault) (st : Sta
   -- what evaluates to nothing where the fault alone counts
   has_it : (y : Resolved Ordered) → evaluated (m functions params f) st y ≡ None → HasFault functions params f st y
   has_it (Select names q) e =
-      query_has _ _ _ _ _ _ _ _ (on_row functions params f) (over functions params f) (true_on_row functions params f) (true_over functions params f) q (tables_named st names)
+      query_has (m functions params f) _ _ _ _ _ _ _ _ (on_row functions params f) (over functions params f) (true_on_row functions params f) (true_over functions params f) q (tables_named st names)
       (answer_lacks (m functions params f) q (tables_named st names) e)
   has_it (Insert (target.Table def) w) e =
-      insert_has _ _ _ _ _ _ _ _ (on_row functions params f) (over functions params f) (true_on_row functions params f) (true_over functions params f) w
+      insert_has (m functions params f) _ _ _ _ _ _ _ _ (on_row functions params f) (over functions params f) (true_on_row functions params f) (true_over functions params f) w
       (insert_lacks (m functions params f) def.columns w (rows_named st def.name) e)
   has_it (Insert target.Changes w) e =
-      insert_has _ _ _ _ _ _ _ _ (on_row functions params f) (over functions params f) (true_on_row functions params f) (true_over functions params f) w
+      insert_has (m functions params f) _ _ _ _ _ _ _ _ (on_row functions params f) (over functions params f) (true_on_row functions params f) (true_over functions params f) w
       (rows_lack (m functions params f) (columns_of target.Changes) w e)
   has_it (Insert (target.Module name columns) w) e =
-      insert_has _ _ _ _ _ _ _ _ (on_row functions params f) (over functions params f) (true_on_row functions params f) (true_over functions params f) w
+      insert_has (m functions params f) _ _ _ _ _ _ _ _ (on_row functions params f) (over functions params f) (true_on_row functions params f) (true_over functions params f) w
       (rows_lack (m functions params f) (columns_of (target.Module name columns)) w e)
   has_it (Update (target.Table def) w) e =
-      update_has _ _ _ _ _ _ _ _ (on_row functions params f) (over functions params f) (true_on_row functions params f) (true_over functions params f) w (rows_named st def.name)
+      update_has (m functions params f) _ _ _ _ _ _ _ _ (on_row functions params f) (over functions params f) (true_on_row functions params f) (true_over functions params f) w (rows_named st def.name)
       (update_lacks (m functions params f) def.columns w (rows_named st def.name) e)
   has_it (Update target.Changes w) e = absurd (let z : ⊥ = cc in z)
   has_it (Update (target.Module name columns) w) e = absurd (let z : ⊥ = cc in z)
   has_it (Delete (target.Table def) w) e =
-      delete_has _ _ _ _ _ _ _ _ (on_row functions params f) (over functions params f) (true_on_row functions params f) (true_over functions params f) w (rows_named st def.name)
+      delete_has (m functions params f) _ _ _ _ _ _ _ _ (on_row functions params f) (over functions params f) (true_on_row functions params f) (true_over functions params f) w (rows_named st def.name)
       (delete_lacks (m functions params f) w (rows_named st def.name) e)
   has_it (Delete target.Changes w) e = absurd (let z : ⊥ = cc in z)
   has_it (Delete (target.Module name columns) w) e = absurd (let z : ⊥ = cc in z)

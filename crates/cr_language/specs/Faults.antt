@@ -33,7 +33,8 @@ OfTable (target.Table def) P = P def
 OfTable target.Changes P = ⊥
 OfTable (target.Module name columns) P = ⊥
 
--- an expression of the statement has the fault, on a row of what the session shows or over a group of such rows
+-- An expression of the statement has the fault where evaluation over what the session shows comes to it, each other fault being
+-- passed over.
 abbrev pub HasFault : Functions → List Value → EvalFault → State → Resolved Ordered → Type 0
 HasFault functions params f st (Select names q) = QueryFaults functions params f q (tables_named st names)
 HasFault functions params f st (Insert t w) = InsertFaults functions params f w

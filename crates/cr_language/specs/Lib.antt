@@ -6,3 +6,4 @@ pub mod Engines
 pub mod Reads
 pub mod Readable
 pub mod Faults
+pub mod Limits

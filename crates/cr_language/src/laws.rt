@@ -4,6 +4,7 @@ ghost use Rattle.cr_world.specs.Language.{IsLanguage};
 ghost use Rattle.cr_language.specs.Laws.{SelectsLookAtTheirNames, SelectsReadTheirTables};
 ghost use Rattle.cr_language.specs.Reads.{ReadsAreAllowed};
 ghost use Rattle.cr_language.specs.Readable.{OnlyReadableColumnsStand, UnreadableColumnsChangeNoAnswer};
+ghost use Rattle.cr_language.specs.Limits.{StatementsHaveLimits};
 ghost use Rattle.cr_language.specs.Texts.{TextsHaveTokens};
 ghost use Rattle.cr_language.specs.Faults.{ToldFaultsAreHad};
 ghost use Rattle.cr_language.specs.Sql.{Engine, sql};
@@ -28,6 +29,11 @@ pub fn texts_have_tokens()
     ensures { TextsHaveTokens }
 {}
 
+/// How deep an expression may be, how many parentheses may be open in it, how many arguments a call may have, and a FROM tables.
+pub fn statements_have_limits()
+    ensures { StatementsHaveLimits }
+{}
+
 /// Each column that stands in an accepted statement is one whose READ the authorizer answers with OK.
 pub fn reads_are_allowed()
     ensures { ReadsAreAllowed }
@@ -38,13 +44,14 @@ pub fn only_readable_columns_stand()
     ensures { (e : Engine) → OnlyReadableColumnsStand e }
 {}
 
-/// What stands in columns whose READ is not answered with OK changes no answer to a select.
+/// What stands in columns whose READ is not answered with OK changes no answer to a select that asks for neither site nor version,
+/// where its tables are defined alike and modules give rows of their width.
 pub fn unreadable_columns_change_no_answer()
     ensures { (e : Engine) → UnreadableColumnsChangeNoAnswer e }
 {}
 
 /// Where a statement that touches no module evaluates to nothing within the limit on values, the fault that it is refused for is
-/// one that an expression of it has.
+/// one that an expression of it has where its evaluation comes to it.
 pub fn told_faults_are_had()
     ensures { (e : Engine) → ToldFaultsAreHad e }
 {}

@@ -13,7 +13,7 @@ use Rattle.cr_query.specs.Query.{Row, Group}
 use Rattle.cr_query.specs.Queries.{Query, Insert, Update, Delete}
 use Rattle.cr_query.specs.Faults.{QueryHas, InsertHas, UpdateHas, DeleteHas}
 use Rattle.cr_meaning.specs.View.{Ordered}
-use Rattle.cr_meaning.specs.Meaning.{Regard, at_row, at_group, limit_of}
+use Rattle.cr_meaning.specs.Meaning.{Regard, at_row, at_group, limit_of, regarded}
 
 abbrev pub same_fault : EvalFault → EvalFault → Bool
 same_fault Overflow Overflow = true
@@ -47,16 +47,16 @@ module _ (host : Host) (params : List Value) (f : EvalFault) where
   abbrev pub TrueOver : Ordered → Group → Type 0
   TrueOver e k = HasInTruth f (eval_of (at_group byte_limit host params k) e.expr)
 
-  -- an expression of a query has it on a combination of the rows of its tables, or over a group
+  -- Of a query an expression has it on a combination, or over a group, to which evaluation comes; each other fault is passed over.
   abbrev pub QueryFaults : Query Ordered → List (List Row) → Type 0
-  QueryFaults = QueryHas OnRow Over TrueOnRow TrueOver
+  QueryFaults = QueryHas (regarded (alone f) host params) OnRow Over TrueOnRow TrueOver
 
   -- one of a write has it on a row of its table
   abbrev pub InsertFaults : Insert Ordered → Type 0
-  InsertFaults = InsertHas OnRow Over TrueOnRow TrueOver
+  InsertFaults = InsertHas (regarded (alone f) host params) OnRow Over TrueOnRow TrueOver
 
   abbrev pub UpdateFaults : Update Ordered → List Row → Type 0
-  UpdateFaults = UpdateHas OnRow Over TrueOnRow TrueOver
+  UpdateFaults = UpdateHas (regarded (alone f) host params) OnRow Over TrueOnRow TrueOver
 
   abbrev pub DeleteFaults : Delete Ordered → List Row → Type 0
-  DeleteFaults = DeleteHas OnRow Over TrueOnRow TrueOver
+  DeleteFaults = DeleteHas (regarded (alone f) host params) OnRow Over TrueOnRow TrueOver

@@ -31,8 +31,8 @@ pub fn meanings_are_lawful()
     ensures { (most : Option ℕ) (host : Host) (params : List Value) → ((name : List ℕ) → IsTotalOrder (host.order name)) → Lawful (meaning most host params) }
 {}
 
-/// Where one fault alone counts, a query without an answer has an expression with this fault, on a combination of the rows of its
-/// tables or over a group; so has a write, on a row of its table.
+/// Where one fault alone counts, a query without an answer has an expression with this fault, on a combination or over a group to
+/// which evaluation comes with it; so has a write, on a row of its table.
 pub fn what_has_no_answer_has_a_fault()
     ensures queries { (host : Host) (params : List Value) (f : EvalFault) (q : Query Ordered) (tables : List (List Row)) → answer (regarded (alone f) host params) q tables ≡ None → QueryFaults host params f q tables }
     ensures inserts { (host : Host) (params : List Value) (f : EvalFault) (columns : List ColumnDef) (w : Insert Ordered) (rows : List Row)

@@ -97,12 +97,20 @@ head_value at rows = value_at at (first_row rows)
 
 -- ---- updates
 
+-- what becomes of lists of rows that are handed over one after another: the rows that are there then, or why one isn't taken
+abbrev pub Updates : Type 0
+Updates = List (List Row) → Result (List Row) UpdateError
+
+-- the same of further ones, behind these rows
+abbrev pub behind : List Row → Updates → Updates
+behind rows updates more = updates (rows ∷ more)
+
 -- the module has the rows that it is to have, or says why not, or memory ran out
 abbrev pub IsUpdated : Result (List Row) UpdateError → List Row → Result (Unit {0}) UpdateError → Type 0
 IsUpdated wanted rows (Ok u) = wanted ≡ Ok rows
 IsUpdated wanted rows (Err e) = (e ≡ Memory) ⊎ (wanted ≡ Err e)
 
 -- its rows are as they were, and so is what it would make of rows that it takes
-pub record Stays (rows : List Row) (update : List Row → Result (List Row) UpdateError) (new : List Row) (update_new : List Row → Result (List Row) UpdateError) : Type 0 where
+pub record Stays (rows : List Row) (updates : Updates) (new : List Row) (updates_new : Updates) : Type 0 where
   pub rows_stay : new ≡ rows
-  pub update_stays : update_new ≡ update
+  pub updates_stay : updates_new ≡ updates

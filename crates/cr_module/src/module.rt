@@ -1,7 +1,7 @@
 //! What a table module is. "The Virtual Table Mechanism Of SQLite", section 2.
 
-ghost use Rattle.std.specs.Prelude.{◌≡◌, false, IfOk, OnOk, OnErr};
-ghost use Rattle.cr_module.specs.Lawful.{IsChoice, IsFiltered, IsUpdated, Stays, AreWide, head_value, is_at_end, rest_of};
+ghost use Rattle.std.specs.Prelude.{◌≡◌, ◌∷◌, [], false, IfOk, OnOk, OnErr};
+ghost use Rattle.cr_module.specs.Lawful.{IsChoice, IsFiltered, IsUpdated, Stays, AreWide, behind, head_value, is_at_end, rest_of};
 
 use crate::plan::{Choice, Constraint, Order};
 use cr_lattice::table::{ColumnDef, Items, Row};
@@ -40,11 +40,11 @@ pub enum UpdateError {
 /// A reading asks `best_index` which index serves, and with which arguments; then `filter` gives a cursor on the first of the
 /// rows, and until `eof` the columns of its row are asked for and `next` goes on. While it is read, a module stays as it is.
 pub trait Module: Drop {
-    ghost use Rattle.std.specs.Prelude.{List, Result};
+    ghost use Rattle.std.specs.Prelude.{List};
     ghost use Rattle.cr_lattice.specs.declared.table.ColumnDef.{ColumnDef};
     ghost use Rattle.cr_query.specs.Query.{Row as Values};
+    ghost use Rattle.cr_module.specs.Lawful.{Updates};
     ghost use Rattle.cr_module.specs.declared.module.Cursor.{Cursor};
-    ghost use Rattle.cr_module.specs.declared.module.UpdateError.{UpdateError};
     ghost use Rattle.cr_module.specs.declared.plan.Choice.{Choice};
     ghost use Rattle.cr_module.specs.declared.plan.Constraint.{Constraint};
     ghost use Rattle.cr_module.specs.declared.plan.Order.{Order};
@@ -61,8 +61,8 @@ pub trait Module: Drop {
     /// The rows that a cursor has before it, the row that it stands on first.
     ghost left: { Self → Cursor → List Values };
 
-    /// Its rows once it took these, or why it doesn't take them.
-    ghost updated: { Self → List Values → Result (List Values) UpdateError };
+    /// Its rows once it took these lists, one update after another, or why it doesn't take one of them.
+    ghost updated: { Self → Updates };
 
     /// Its columns, at least one. Their names are in ASCII lower case, each another.
     fn columns(&self) -> &[ColumnDef]
@@ -120,6 +120,7 @@ pub trait Module: Drop {
     fn update(&mut self, alloc: Global, rows: &[Row]) -> Result<(), UpdateError>
         requires { AreWide (columns_of self.old) rows.now }
         ensures columns { columns_of self.new ≡ columns_of self.old }
-        ensures updated { IsUpdated (updated self.old rows.now) (rows_of self.new) result }
+        ensures updated { IsUpdated (updated self.old (rows.now ∷ [])) (rows_of self.new) result }
+        ensures later { OnOk result (updated self.new ≡ behind rows.now (updated self.old)) }
         ensures stays { OnErr result (Stays (rows_of self.old) (updated self.old) (rows_of self.new) (updated self.new)) };
 }

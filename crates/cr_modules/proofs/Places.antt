@@ -80,14 +80,17 @@ module _ {X : Type 0} (f : X → ModuleState) (name : List ℕ) where
   -- ---- an update
 
   module _ (rows : List Row) where
+    abbrev Took : ModuleState → ModuleState → Type 0
+    Took old new = (new.name ≡ old.name) × (new.columns ≡ old.columns) × (old.updated (rows ∷ []) ≡ Ok new.rows) × (new.updated ≡ (λ more. old.updated (rows ∷ more)))
+
     -- a module of another name stays, and one that has it shows what its update says
     abbrev leaves_if : ModuleState → ModuleState → Bool → Type 0
-    leaves_if old new b = elim b as (λ _. Type 0) [ true ↦ (new.name ≡ old.name) × (new.columns ≡ old.columns) × (old.update rows ≡ Ok new.rows) | false ↦ new ≡ old ]
+    leaves_if old new b = elim b as (λ _. Type 0) [ true ↦ Took old new | false ↦ new ≡ old ]
 
     stays : (m : ModuleState) → is_module name m ≡ false → ModuleLeaves (Some name) rows m m
     stays m e = subst (leaves_if m m) (sym e) refl
 
-    changes : (old new : ModuleState) → is_module name old ≡ true → (new.name ≡ old.name) × (new.columns ≡ old.columns) × (old.update rows ≡ Ok new.rows) → ModuleLeaves (Some name) rows old new
+    changes : (old new : ModuleState) → is_module name old ≡ true → Took old new → ModuleLeaves (Some name) rows old new
     changes old new e to = subst (leaves_if old new) (sym e) to
 
     all_stay : (xs : List X) → HasNone named xs → ModulesLeave (Some name) rows (map f xs) (map f xs)
@@ -111,7 +114,7 @@ module _ {X : Type 0} (f : X → ModuleState) (name : List ℕ) where
         (stays (f x) none.0, leaves xs i d y (omega (arith, few)) is none.1 (and_true (list_all (λ o. not (same_bytes o (f x).name)) (names xs)) (are_distinct (names xs)) distinct).1 to)
 
     refused_by : (xs : List X) (i : ℕ) (d : X) (r : Refusal) → i < length xs → named (slice_index_or xs i d) ≡ true → HasNone named (take i xs)
-        → (r ≡ refusal.Memory) ⊎ ((f (slice_index_or xs i d)).update rows ≡ Err r) → (r ≡ refusal.Memory) ⊎ IsRefusedBy (module_in (map f xs) name) rows r
+        → (r ≡ refusal.Memory) ⊎ ((f (slice_index_or xs i d)).updated (rows ∷ []) ≡ Err r) → (r ≡ refusal.Memory) ⊎ IsRefusedBy (module_in (map f xs) name) rows r
     refused_by xs i d r few is none (inl e) = inl e
     refused_by xs i d r few is none (inr e) = inr (subst (λ (o : Option ModuleState). IsRefusedBy o rows r) (sym (found_at xs i d few is none)) e)
 

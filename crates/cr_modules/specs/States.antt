@@ -7,7 +7,7 @@ use Rattle.cr_lattice.specs.declared.table.Table.{Table}
 use Rattle.cr_lattice.specs.Check.{same_bytes}
 use Rattle.cr_lattice.specs.Profile.{is_reserved}
 use Rattle.cr_cells.specs.Tables.{is_named}
-use Rattle.cr_module.specs.Lawful.{AreWide}
+use Rattle.cr_module.specs.Lawful.{AreWide, Updates}
 use Rattle.cr_module.specs.declared.module.UpdateError.{UpdateError}
 use Rattle.cr_module.specs.declared.plan.Choice.{Choice}
 use Rattle.cr_module.specs.declared.plan.Constraint.{Constraint}
@@ -41,16 +41,16 @@ told_as name (Ok rows) = Ok rows
 told_as name (Err e) = Err (of_update name e)
 
 -- a host's module of these columns and rows under a name
-abbrev pub made : List ℕ → List ColumnDef → List Row → (List Row → Result (List Row) UpdateError) → ModuleState
-made name columns rows updated = record { name = name; columns = columns; rows = rows; update = λ more. told_as name (updated more) }
+abbrev pub made : List ℕ → List ColumnDef → List Row → Updates → ModuleState
+made name columns rows updated = record { name = name; columns = columns; rows = rows; updated = λ lists. told_as name (updated lists) }
 
 abbrev pub definition_listed : ModuleState → Listing
 definition_listed m = record { definition = module_definition m; rows = [] }
 
 -- it takes the rows, or memory ran out or it doesn't take them, and stands as it was
 abbrev pub UpdatesTo : ModuleState → List Row → Result (Unit {0}) Refusal → ModuleState → Type 0
-UpdatesTo old rows (Ok u) new = (new.name ≡ old.name) × (new.columns ≡ old.columns) × (old.update rows ≡ Ok new.rows)
-UpdatesTo old rows (Err r) new = ((r ≡ refusal.Memory) ⊎ (old.update rows ≡ Err r)) × (new ≡ old)
+UpdatesTo old rows (Ok u) new = (new.name ≡ old.name) × (new.columns ≡ old.columns) × (old.updated (rows ∷ []) ≡ Ok new.rows) × (new.updated ≡ (λ more. old.updated (rows ∷ more)))
+UpdatesTo old rows (Err r) new = ((r ≡ refusal.Memory) ⊎ (old.updated (rows ∷ []) ≡ Err r)) × (new ≡ old)
 
 -- ---- modules of a session
 
@@ -81,7 +81,7 @@ Best = List Constraint → List Order → Choice
 -- the module of a name doesn't take the rows, and says so
 abbrev pub IsRefusedBy : Option ModuleState → List Row → Refusal → Type 0
 IsRefusedBy None rows r = ⊥
-IsRefusedBy (Some m) rows r = m.update rows ≡ Err r
+IsRefusedBy (Some m) rows r = m.updated (rows ∷ []) ≡ Err r
 
 -- the module of a name takes rows, if there is one, or all stand as they were
 abbrev pub Updates : List ℕ → List Row → List ModuleState → Result (Unit {0}) Refusal → List ModuleState → Type 0

@@ -4,11 +4,11 @@ use Rattle.std.specs.Option.{option_and_then}
 use Rattle.std.specs.Prelude.{filter}
 use Rattle.std.specs.List.{list_any}
 use Rattle.cr_bags.specs.Bags.{weight, Alike, joins, plus, gather, those, single}
-use Rattle.cr_query.specs.Query.{Row, Meaning, Lawful, SameTables, is_true, and_so, all_true, holds, or_padded, nulls, with_rows, combined, joined, finished, answer}
+use Rattle.cr_query.specs.Query.{Row, Meaning, Lawful, is_true, and_so, all_true, holds, or_padded, nulls, with_rows, combined, joined, finished, answer}
 use Rattle.cr_query.specs.Queries.{Joining, Query}
-use Rattle.cr_query.specs.Plans.{Gives, is_false, QuietIsSafe, seen, answer_seen}
+use Rattle.cr_query.specs.Plans.{Gives, is_false, QuietIsSafe}
 use Rattle.cr_bags.proofs.BagLaws.{osum, osum_bag, weigh-gather, then_alike, map_same}
-use Rattle.cr_query.proofs.QueryLaws.{shown_alike, finished_same, answer_same}
+use Rattle.cr_query.proofs.QueryLaws.{shown_alike, finished_same}
 
 plus_zero : (o : Option ℕ) → plus (Some 0) o ≡ o
 plus_zero None = refl
@@ -118,10 +118,6 @@ module _ {E : Type 0} (m : Meaning E) (law : Lawful m) (safe : QuietIsSafe m) wh
       let alike : Alike (joined m q (single got)) (joined m q (single rows)) =
       rw (joined_one m q j one inner got, joined_one m q j one inner rows) (gather_gives (step m q) meets (λ r e. ap (option_map (λ b. cond b (single r) [])) (none r e)) rows got g) in
       map_same (finished m q) (finished m q) (finished_same m law q) _ _ (then_alike _ _ (shown_alike m law q) _ _ alike)
-
-  -- hidden columns
-  pub blind : (q : Query E) (columns : List (List Bool)) (tables more : List (List Row)) → SameTables (seen columns tables) (seen columns more) → answer_seen m q columns tables ≡ answer_seen m q columns more
-  blind q columns tables more same = answer_same m law q (seen columns tables) (seen columns more) same
 
 pub joins-nil_right : {X : Type 0} (o : Option (List X)) → joins o (Some []) ≡ o
 joins-nil_right None = refl

@@ -1,8 +1,9 @@
--- Where an expression of a query or of a write has something, as a fault. Source: this project's own.
-use Rattle.std.specs.Prelude.{◌≡◌, ◌⊎◌, true, List, [], ◌∷◌, ◌++◌, map, None}
-use Rattle.std.specs.List.{AllByRecursion, flat_map}
+-- Where an expression of a query or of a write has something, as a fault: on each combination and over each group to which the
+-- statement comes with it. Source: this project's own.
+use Rattle.std.specs.Prelude.{◌≡◌, ◌⊎◌, Bool, true, false, List, [], ◌∷◌, ◌++◌, map, Option, Some, None}
 use Rattle.std.specs.Option.{option_and_then, option_to_list}
-use Rattle.cr_query.specs.Query.{Row, Group, Meaning, nulls, is_true}
+use Rattle.cr_bags.specs.Bags.{gather, single}
+use Rattle.cr_query.specs.Query.{Row, Group, Meaning, is_true, quiet_first, holds, with_rows, joined_with, combined, joined, groups, has}
 use Rattle.cr_query.specs.Queries.{Joining, Query, Insert, Update, Delete}
 
 -- it holds of one of these
@@ -10,52 +11,54 @@ abbrev pub OfOne : {X : Type 0} → (X → Type 0) → List X → Type 0
 OfOne P [] = ⊥
 OfOne P (x ∷ xs) = P x ⊎ OfOne P xs
 
--- ---- what a query looks at
+-- it is there, and it holds of it
+abbrev pub OfIt : {X : Type 0} → (X → Type 0) → Option X → Type 0
+OfIt P None = ⊥
+OfIt P (Some x) = P x
 
--- d is c, or c with a row of each of the first of these tables, or the NULLs that a LEFT JOIN puts for it
-abbrev pub Reaches : {E : Type 0} → List (Joining E) → List (List Row) → Row → Row → Type 0
-Reaches [] tables c d = d ≡ c
-Reaches (j ∷ js) [] c d = d ≡ c
-Reaches (j ∷ js) (rows ∷ tables) c d = (d ≡ c) ⊎ ((r : Row) × ((OfOne (λ row. r ≡ row) rows ⊎ ((j.left ≡ true) × (r ≡ nulls j.width))) × Reaches js tables (c ++ r) d))
-
--- a combination of rows of the query's tables, or of the first of them
-abbrev pub IsCombination : {E : Type 0} → Query E → List (List Row) → Row → Type 0
-IsCombination q tables c = Reaches q.sources tables [] c
-
-abbrev pub IsGroup : {E : Type 0} → Query E → List (List Row) → Group → Type 0
-IsGroup q tables g = AllByRecursion (IsCombination q tables) g.members
-
--- ---- its expressions
-
--- the terms of ON, WHERE and HAVING
-abbrev pub conditions : {E : Type 0} → Query E → List E
-conditions q = flat_map (λ j. j.on) q.sources ++ (q.terms ++ option_to_list q.having)
-
--- those of GROUP BY, the results, and those of ORDER BY
+-- what a query shows, and by what it sorts that
 abbrev pub operands : {E : Type 0} → Query E → List E
-operands q = q.group ++ (q.results ++ map (λ t. t.expr) q.order)
+operands q = q.results ++ map (λ t. t.expr) q.order
 
 -- Where an expression has what is looked for: on a row, over a group, or in its truth there.
-module _ {E : Type 0} (on_row : E → Row → Type 0) (over : E → Group → Type 0) (true_on_row : E → Row → Type 0) (true_over : E → Group → Type 0) where
-  abbrev pub IsHad : Query E → List (List Row) → E → Type 0
-  IsHad q tables e = ((c : Row) × (IsCombination q tables c × on_row e c)) ⊎ ((g : Group) × (IsGroup q tables g × over e g))
+module _ {E : Type 0} (m : Meaning E) (on_row : E → Row → Type 0) (over : E → Group → Type 0) (true_on_row : E → Row → Type 0) (true_over : E → Group → Type 0) where
+  -- one of these does behind such as are true
+  abbrev pub OneHas : List E → Row → Type 0
+  OneHas [] c = ⊥
+  OneHas (e ∷ es) c = true_on_row e c ⊎ ((is_true m e c ≡ Some true) × OneHas es c)
 
-  abbrev pub IsHadInTruth : Query E → List (List Row) → E → Type 0
-  IsHadInTruth q tables e = ((c : Row) × (IsCombination q tables c × true_on_row e c)) ⊎ ((g : Group) × (IsGroup q tables g × true_over e g))
+  -- of terms the quiet ones come first
+  abbrev pub TermsHave : List E → Row → Type 0
+  TermsHave es c = OneHas (quiet_first m es) c
+
+  -- The ON of a LEFT JOIN does, on a combination of the tables before it with a row of its own.
+  abbrev pub OnsHave : List (Joining E) → List (List Row) → List Row → Type 0
+  OnsHave [] tables cs = ⊥
+  OnsHave (j ∷ js) [] cs = ⊥
+  OnsHave (j ∷ js) (rows ∷ tables) cs = ((j.left ≡ true) × OfOne (λ c. OfOne (TermsHave j.on) (with_rows c rows)) cs) ⊎ OfIt (OnsHave js tables) (gather (joined_with m j rows) cs)
+
+  -- HAVING does, or what is shown of a group on which it is true
+  abbrev pub GroupHas : Query E → Group → Type 0
+  GroupHas q g = OfOne (λ e. true_over e g) (option_to_list q.having) ⊎ ((has m q.having (λ e. m.over e g) ≡ Some true) × OfOne (λ e. over e g) (operands q))
+
+  -- of the combinations that are kept, in groups or not
+  abbrev pub KeptHave : Bool → Query E → List Row → Type 0
+  KeptHave true q cs = OfOne (λ c. OfOne (λ e. on_row e c) q.group) cs ⊎ OfIt (OfOne (GroupHas q)) (groups m q.group cs)
+  KeptHave false q cs = OfOne (λ c. OfOne (λ e. on_row e c) (operands q)) cs
 
   abbrev pub QueryHas : Query E → List (List Row) → Type 0
-  QueryHas q tables = OfOne (IsHadInTruth q tables) (conditions q) ⊎ OfOne (IsHad q tables) (operands q)
+  QueryHas q tables = OnsHave q.sources tables (single []) ⊎ (OfIt (OfOne (TermsHave q.terms)) (combined m q.sources tables (single [])) ⊎ OfIt (KeptHave q.is_grouped q) (joined m q tables))
 
   -- of one tuple
   abbrev pub InsertHas : Insert E → Type 0
-  InsertHas w = OfOne (OfOne (λ e. on_row e [])) w.tuples
+  InsertHas w = (w.is_ignored ≡ false) × OfOne (OfOne (λ e. on_row e [])) w.tuples
 
-  -- on one row of the table
+  -- on one row of the table, the values where its terms are true
   abbrev pub UpdateHas : Update E → List Row → Type 0
-  UpdateHas w rows = OfOne (λ row. OfOne (λ e. true_on_row e row) w.terms ⊎ OfOne (λ a. on_row a.expr row) w.assignments) rows
+  UpdateHas w rows = OfOne (λ row. TermsHave w.terms row ⊎ ((holds m w.terms row ≡ Some true) × OfOne (λ a. on_row a.expr row) w.assignments)) rows
 
   abbrev pub DeleteHas : Delete E → List Row → Type 0
-  DeleteHas w rows = OfOne (λ row. OfOne (λ e. true_on_row e row) w.terms) rows
+  DeleteHas w rows = OfOne (TermsHave w.terms) rows
 
 -- ---- nothing
 
@@ -74,13 +77,13 @@ module _ {E : Type 0} (m : Meaning E) where
   TruthlessOver e g = option_and_then m.truth (m.over e g) ≡ None
 
   abbrev pub QueryLacks : Query E → List (List Row) → Type 0
-  QueryLacks = QueryHas Valueless ValuelessOver Truthless TruthlessOver
+  QueryLacks = QueryHas m Valueless ValuelessOver Truthless TruthlessOver
 
   abbrev pub InsertLacks : Insert E → Type 0
-  InsertLacks = InsertHas Valueless ValuelessOver Truthless TruthlessOver
+  InsertLacks = InsertHas m Valueless ValuelessOver Truthless TruthlessOver
 
   abbrev pub UpdateLacks : Update E → List Row → Type 0
-  UpdateLacks = UpdateHas Valueless ValuelessOver Truthless TruthlessOver
+  UpdateLacks = UpdateHas m Valueless ValuelessOver Truthless TruthlessOver
 
   abbrev pub DeleteLacks : Delete E → List Row → Type 0
-  DeleteLacks = DeleteHas Valueless ValuelessOver Truthless TruthlessOver
+  DeleteLacks = DeleteHas m Valueless ValuelessOver Truthless TruthlessOver

@@ -3,8 +3,7 @@
 use Rattle.std.specs.Prelude.{◌≡◌, ◌≤◌, ℕ, Bool, true, false, cond, filter, map, List, [], ◌∷◌, Option, Some, None}
 use Rattle.cr_value.specs.declared.value.Value.TheVariants.{Null}
 use Rattle.cr_bags.specs.Bags.{SameBag, weight}
-use Rattle.cr_query.specs.Query.{Row, Meaning, is_true, answer}
-use Rattle.cr_query.specs.Queries.{Query}
+use Rattle.cr_query.specs.Query.{Row, Meaning, is_true}
 
 -- got has no row more often than rows, and each that meets the constraints as often
 pub record Gives {X : Type 0} (meets : X → Bool) (rows got : List X) : Type 0 where
@@ -30,10 +29,6 @@ abbrev pub seen : List (List Bool) → List (List Row) → List (List Row)
 seen [] tables = tables
 seen (s ∷ ss) [] = []
 seen (s ∷ ss) (t ∷ ts) = map (masked s) t ∷ seen ss ts
-
--- the answer over what the statement sees
-abbrev pub answer_seen : {E : Type 0} → Meaning E → Query E → List (List Bool) → List (List Row) → Option (List Row)
-answer_seen m q columns tables = answer m q (seen columns tables)
 
 -- what stands was allowed
 abbrev pub Within : List Bool → List Bool → Type 0

@@ -80,8 +80,8 @@ fn single<E: Executor, F: Functions, G: Guarding>(
 /// # Errors
 /// `Limit` where the text is longer than 1,000,000 bytes, and then no want of memory is told; `Syntax`, `OutOfProfile` or
 /// `Limit` where it can't be read, with `Syntax` for what stands behind its `;`; else why the statement is refused,
-/// `Parameters` where it has more parameters than there are values, or fewer. Nothing is changed then, but that a refused
-/// COMMIT ends its transaction, unless for want of memory.
+/// `Parameters` where it has more parameters than there are values, or fewer. Nothing is changed then, but that a COMMIT which
+/// is refused as it is carried out, not one that is denied or given values, ends its transaction, unless for want of memory.
 pub fn execute<E: Executor, F: Functions, G: Guarding>(
     alloc: Global,
     executor: &mut E,

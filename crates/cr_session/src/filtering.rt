@@ -136,7 +136,8 @@ impl<C: Cells> Session<C> {
     }
 
     /// The keys of the rows of the replicated table of a name that a WHERE of these terms may keep: on rows of other keys the terms are
-    /// known not to be all true. `None` where they are not told: they are more than 4,096, there is no such table, or there are no terms.
+    /// known not to be all true. `None` where they are not told: they are more than 4,096, a row has no key, there is no such table,
+    /// there are no terms, or the open transaction's changes may be of other tables.
     ///
     /// # Errors
     /// `Memory`, or `Store(Refused)`.

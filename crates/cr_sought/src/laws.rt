@@ -5,7 +5,7 @@ ghost use Rattle.cr_sought.specs.Joins.{JoinsByKeys, JoinsByList};
 ghost use Rattle.cr_sought.specs.Laws.{AnswersByKeys, KeysAreKept, TellingLeavesOut};
 ghost use Rattle.cr_sought.specs.Writes.{DeletesByKeys, UpdatesByKeys};
 
-/// Terms that tell keys are known not to be all true on rows of other keys.
+/// Where texts are compared byte by byte, terms that tell keys are known not to be all true on rows of other keys.
 pub fn telling_leaves_out()
     ensures { TellingLeavesOut }
 {}
@@ -15,18 +15,20 @@ pub fn answers_by_keys()
     ensures { AnswersByKeys }
 {}
 
-/// A SELECT of one table answers the same over the rows that are above the bound that its terms tell as over all.
+/// A SELECT of one table, which no LEFT JOIN brings, answers the same over the rows that are above the bound that its terms tell as
+/// over all.
 pub fn answers_above()
     ensures { AnswersAbove }
 {}
 
-/// A SELECT answers the same over what is kept of the keys that terms tell beside the rows of tables further left as over all that
-/// is kept of a table.
+/// Where texts are compared byte by byte and no ON of a LEFT JOIN can fault, a SELECT answers the same over what is kept of the keys
+/// that terms tell beside the rows of tables further left as over all that is kept of a table.
 pub fn joins_by_keys()
     ensures { JoinsByKeys }
 {}
 
-/// A SELECT answers the same over what is kept of the keys that a list tells as over all that is kept of a table.
+/// Where texts are compared byte by byte and no ON can fault, a SELECT answers the same over what is kept of the keys that a list in
+/// WHERE tells, of a table that no LEFT JOIN brings, as over all that is kept of it.
 pub fn joins_by_list()
     ensures { JoinsByList }
 {}

@@ -32,7 +32,8 @@ pub record ModuleState : Type 0 where
   pub name : List ℕ
   pub columns : List ColumnDef
   pub rows : List Row
-  pub update : List Row → Result (List Row) Refusal
+  -- the rows once it took these lists, one update after another, or why it doesn't take one of them
+  pub updated : List (List Row) → Result (List Row) Refusal
 
 -- the last commit, the changes of the open transaction, if there is one, and the modules
 pub record State : Type 0 where

@@ -194,7 +194,7 @@ evaluation_cause def exact None = Evaluation (is_fault exact)
 evaluation_cause def exact (Some rows) = cond (has_long def rows) (Evaluation false) Free
 
 abbrev pub answer_of_module : State → List Row → List ℕ → Cause
-answer_of_module st rows name = option_map_or (λ md. elim (md.update rows) as (λ _. Cause) [ Ok more ↦ Free | Err r ↦ Is r ]) (module_of st name) Free
+answer_of_module st rows name = option_map_or (λ md. elim (md.updated (rows ∷ [])) as (λ _. Cause) [ Ok more ↦ Free | Err r ↦ Is r ]) (module_of st name) Free
 
 abbrev pub module_cause : {E : Type 0} → State → Resolved E → List Row → Cause
 module_cause st r rows = option_map_or (answer_of_module st rows) (updates_module r) Free
@@ -273,12 +273,12 @@ abbrev pub is_memory : Refusal → Bool
 is_memory refusal.Memory = true
 is_memory r = false
 
--- a module that takes rows shows what its update says; the others stay
+-- a module that takes rows shows what one update says, and takes further ones as behind that; the others stay
 abbrev pub ModuleLeaves : Option (List ℕ) → List Row → ModuleState → ModuleState → Type 0
 ModuleLeaves None rows old new = new ≡ old
 ModuleLeaves (Some name) rows old new =
     elim (is_module name old) as (λ _. Type 0) [
-      | true ↦ (new.name ≡ old.name) × (new.columns ≡ old.columns) × (old.update rows ≡ Ok new.rows)
+      | true ↦ (new.name ≡ old.name) × (new.columns ≡ old.columns) × (old.updated (rows ∷ []) ≡ Ok new.rows) × (new.updated ≡ (λ more. old.updated (rows ∷ more)))
       | false ↦ new ≡ old
     ]
 
