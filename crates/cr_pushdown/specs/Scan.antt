@@ -1,5 +1,6 @@
 -- A reading of a table, page by page. Source: this project's own.
-use Rattle.std.specs.Prelude.{◌≡◌, ℕ, Bool, false, not, cond, List, [], Option, None, filter}
+use Rattle.std.specs.Prelude.{◌≡◌, ℕ, Bool, true, false, not, cond, List, [], Option, None, filter}
+use Rattle.std.specs.Option.{ForSome, is_none}
 use Rattle.std.specs.List.Sorted.{IsSortedBy}
 use Rattle.cr_value.specs.declared.value.Value.{Value}
 use Rattle.cr_lattice.specs.declared.change.Change.{Change}
@@ -38,6 +39,10 @@ pub record IsFrom (def : TableDef) (own : List Change) (scan : Scan) : Type 0 wh
   pub after : scan.after ≡ None
   pub later : scan.later.now ≡ own
   pub left : scan.is_at_end ≡ false
+
+-- it stands at its end where no page is left, else behind where it stood
+abbrev pub IsFurther : Scan → Scan → Type 0
+IsFurther old new = (new.is_at_end ≡ is_none new.after) × ForSome new.after (λ key. above old.after key ≡ true)
 
 -- the rows that pass and are not read yet
 abbrev pub rows_left : Host → List Value → List Expr → List Change → Scan → List Row

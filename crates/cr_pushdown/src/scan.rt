@@ -141,7 +141,7 @@ impl<'a> Scan<'a> {
     ghost use Rattle.cr_cells.specs.Calls.{Reads, is_want, StaysClean};
     ghost use Rattle.cr_cells.specs.Holding.{kept_of};
     ghost use Rattle.cr_module.specs.Lawful.{AreWide};
-    ghost use Rattle.cr_pushdown.specs.Scan.{is_of, rows_left, IsFrom, Stands};
+    ghost use Rattle.cr_pushdown.specs.Scan.{is_of, rows_left, IsFrom, IsFurther, Stands};
 
     /// A reading of a table from its first page on: of what is kept, and with it of what is kept of further changes of the table.
     pub fn new(def: &'a TableDef, own: &'a [Change]) -> Scan<'a>
@@ -184,8 +184,9 @@ impl<'a> Scan<'a> {
         requires left { self.old.is_at_end ≡ false }
         ensures device { StaysClean C.is_honest C.is_clean is_want replica.old replica.new result }
         ensures reads { C.is_clean replica.new → Reads (C.holding replica.old) (C.holding replica.new) result
-            (λ page. page.items ++ rows_left (⟦<F as Hosted>⟧.means functions.now) params.now terms.now (kept_of (C.holding replica.old)) self.new
-            ≡ rows_left (⟦<F as Hosted>⟧.means functions.now) params.now terms.now (kept_of (C.holding replica.old)) self.old) }
+            (λ page. (page.items ++ rows_left (⟦<F as Hosted>⟧.means functions.now) params.now terms.now (kept_of (C.holding replica.old)) self.new
+            ≡ rows_left (⟦<F as Hosted>⟧.means functions.now) params.now terms.now (kept_of (C.holding replica.old)) self.old)
+            × IsFurther self.old self.new) }
         ensures stands { IfOk result (λ page. Stands self.new) }
         ensures wide { IfOk result (λ page. AreWide self.old.def.now.columns page.items) }
         ensures table { self.new.def.now ≡ self.old.def.now }

@@ -1,3 +1,4 @@
 pub mod Definitions
 pub mod Shown
 pub mod Above
+pub mod Settling

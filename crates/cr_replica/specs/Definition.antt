@@ -1,10 +1,11 @@
 -- Which tables a replica defines. Source: this project's own profile; names of tables are told apart by their bytes.
-use Rattle.std.specs.Prelude.{◌≡◌, ℕ, Bool, true, false, not, List, position, Some, None, Result, Ok, Err}
+use Rattle.std.specs.Prelude.{◌≡◌, ℕ, Bool, true, false, not, List, map, position, Some, None, Result, Ok, Err}
 use Rattle.std.specs.List.{list_any}
 use Rattle.cr_lattice.specs.declared.table.ColumnDef.{ColumnDef}
 use Rattle.cr_lattice.specs.declared.table.Table.{Table}
 use Rattle.cr_lattice.specs.declared.table.TableDef.{TableDef}
 use Rattle.cr_lattice.specs.Profile.{profile_fault, lacks_default, HasDistinctNames, IsFirstRepeat}
+use Rattle.cr_lattice.specs.Rows.{default_of}
 use Rattle.cr_cells.specs.declared.store.StoreFault.TheVariants as store
 use Rattle.cr_cells.specs.declared.store.CellsError.{CellsError}
 use Rattle.cr_cells.specs.declared.store.CellsError.TheVariants as cells
@@ -68,9 +69,16 @@ of_store cells.Memory = Memory
 of_store (cells.Store f) = Store f
 of_store cells.VersionLimit = Store store.Refused
 
+-- a default means its literal after the affinity
+abbrev pub with_settled_default : ColumnDef → ColumnDef
+with_settled_default col = record col { default = default_of col }
+
+abbrev pub settled : TableDef → TableDef
+settled def = record def { columns = map with_settled_default def.columns }
+
 -- what is held after a table is defined
 abbrev pub defined : Holding → TableDef → Holding
-defined h def = record h { tables = with_table h.tables def true }
+defined h def = record h { tables = with_table h.tables (settled def) true }
 
 abbrev pub DefinesTable : (List ℕ → Bool) → Holding → Holding → TableDef → Result (Unit {0}) DefineError → Type 0
 DefinesTable has old new def (Ok u) = IsAccepted has old.tables def × (new ≡ defined old def)

@@ -1,15 +1,15 @@
 //! Which tables a replica defines.
 
-ghost use Rattle.std.specs.Prelude.{◌≡◌, position, MatchResult};
+ghost use Rattle.std.specs.Prelude.{◌≡◌, position, IfOk, MatchResult};
 ghost use Rattle.std.specs.Option.{is_some};
-ghost use Rattle.cr_replica.specs.Definition.{has_unknown_collation, is_taken, IsAccepted, IsRefusal, IsRefusedFor};
+ghost use Rattle.cr_replica.specs.Definition.{has_unknown_collation, is_taken, settled, with_settled_default, IsAccepted, IsRefusal, IsRefusedFor};
 
 use cr_cells::store::{CellsError, StoreFault};
 use cr_cells::tables::table_named;
 use cr_host::functions::Functions;
 use cr_lattice::profile::{ProfileFault, duplicate, no_default, profile};
-use cr_lattice::table::{ColumnDef, Table, TableDef};
-use std::alloc::AllocError;
+use cr_lattice::table::{ColumnDef, Items, Table, TableDef};
+use std::alloc::{AllocError, Global};
 use thiserror::Error;
 
 /// Why a table is not defined. Of several causes the first of this order is told: the profile, the table's name, its
@@ -99,6 +99,30 @@ pub fn accept<F: Functions>(
         Some(at) => Err(DefineError::NoDefault(at)),
         None => Ok(()),
     }
+}
+
+// A column with its default as its affinity wants it.
+fn with_settled_default(alloc: Global, column: &ColumnDef) -> Result<ColumnDef, AllocError>
+    ensures { IfOk result (λ c. c ≡ with_settled_default column.now) }
+{
+    Ok(ColumnDef {
+        default: column.affinity.apply(alloc, &column.default)?,
+        ..column.copy(alloc)?
+    })
+}
+
+/// A definition with its defaults as their affinities want them. Fails for want of memory alone.
+pub(crate) fn settled(alloc: Global, def: &TableDef) -> Result<TableDef, AllocError>
+    ensures { IfOk result (λ d. d ≡ settled def.now) }
+{
+    let mut columns = Vec::new(alloc);
+    for column in def.columns.as_slice() {
+        columns.push(with_settled_default(alloc, column)?)?;
+    }
+    Ok(TableDef {
+        name: def.name.copy(alloc)?,
+        columns: Items::new(columns),
+    })
 }
 
 impl From<CellsError> for DefineError {

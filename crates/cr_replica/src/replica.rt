@@ -5,7 +5,7 @@ ghost use Rattle.cr_cells.specs.Calls.{Reads, is_want, StaysClean};
 ghost use Rattle.cr_cells.specs.Holding.{changes_of};
 ghost use Rattle.cr_replica.specs.Snapshots.{changes_of_keys, changes_of_tables};
 
-use crate::definition::{DefineError, accept};
+use crate::definition::{DefineError, accept, settled};
 use crate::page::KeptPage;
 use crate::snapshot::{Snapshot, are_in_profile, copied_changes};
 use crate::sorting::in_order;
@@ -213,7 +213,7 @@ impl<C: Cells> Replica<C> {
     }
 
     /// Defines a replicated table, whose columns' collations are among those that the functions know. Its names are in
-    /// ASCII lower case.
+    /// ASCII lower case. Each default is kept as its column's affinity wants it.
     ///
     /// # Errors
     /// The first cause in `DefineError`'s order that stands against the definition, or `Memory`, or `Store`; then
@@ -233,7 +233,10 @@ impl<C: Cells> Replica<C> {
             Err(error) => return Err(DefineError::from(error)),
         };
         accept(functions, &tables, def)?;
-        match self.cells.add_replicated(alloc, def) {
+        let Ok(settled) = settled(alloc, def) else {
+            return Err(DefineError::Memory);
+        };
+        match self.cells.add_replicated(alloc, &settled) {
             Ok(()) => Ok(()),
             Err(error) => Err(DefineError::from(error)),
         }

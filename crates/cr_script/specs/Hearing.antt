@@ -25,6 +25,11 @@ is_transaction (s.Begin mode) = true
 is_transaction s.Commit = true
 is_transaction s.Rollback = true
 
+-- it keeps what the open transaction did
+abbrev pub asks_commit : Statement → Bool
+asks_commit s.Commit = true
+asks_commit x = false
+
 -- What there is to hear of an accepted statement: what became of the rows of replicated tables. What a COMMIT keeps was told of
 -- before, and what a ROLLBACK undoes isn't told.
 abbrev pub heard_of_statement : Statement → State → State → List Event

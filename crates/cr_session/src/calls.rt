@@ -28,7 +28,7 @@ impl<C: Cells> Session<C> {
     ghost use Rattle.cr_session.specs.Sessions.{Does, IsToldAtOnce, PullsUnless, TakesUnless, changes_reply, clean, honest, reply_of, rows_reply, standing, unless};
 
     /// Makes a replicated table, as CREATE TABLE and then `SELECT crsql_as_crr` do in one. The names of the definition are in ASCII
-    /// lower case.
+    /// lower case. Each default is kept as its column's affinity wants it.
     ///
     /// # Errors
     /// `OutOfProfile`, `Limit` or `BadName` where the definition is none that a table may have; then `TableExists`,

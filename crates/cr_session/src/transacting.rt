@@ -4,7 +4,7 @@ ghost use Rattle.std.specs.Prelude.{◌≡◌};
 ghost use Rattle.cr_guard.specs.Guard.{asked};
 ghost use Rattle.cr_world.specs.Statement.{is_memory};
 ghost use Rattle.cr_answer.specs.Allowing.{known_by};
-ghost use Rattle.cr_script.specs.Hearing.{is_transaction};
+ghost use Rattle.cr_script.specs.Hearing.{asks_commit, is_transaction};
 ghost use Rattle.cr_session.specs.Performing.{Permits};
 
 use crate::session::Session;
@@ -78,7 +78,7 @@ pub fn is_transaction(statement: &Statement) -> bool
 }
 
 impl<C: Cells> Session<C> {
-    ghost use Rattle.std.specs.Prelude.{◌≡◌, true, ℕ, Bool, List};
+    ghost use Rattle.std.specs.Prelude.{◌≡◌, true, false, ℕ, Bool, List};
     ghost use Rattle.cr_scalar.specs.Host.{Host as Means};
     ghost use Rattle.cr_value.specs.declared.value.Value.{Value};
     ghost use Rattle.cr_world.specs.State.{ModuleState};
@@ -90,7 +90,8 @@ impl<C: Cells> Session<C> {
 
     // Opens a transaction.
     fn begin(&mut self, alloc: Global) -> Result<Reply, Refusal>
-        ensures { (means : Means) (params : List Value) (host : Host) → Performed means params host (honest C.is_honest) (clean C.is_clean) (standing C.holding) self.old r.Begin result self.new }
+        ensures performs { (means : Means) (params : List Value) (host : Host) → Performed means params host (honest C.is_honest) (clean C.is_clean) (standing C.holding) self.old r.Begin result self.new }
+        ensures store { self.new.0 ≡ self.old.0 }
     {
         if self.in_transaction() {
             return Err(Refusal::TransactionState);
@@ -120,7 +121,8 @@ impl<C: Cells> Session<C> {
 
     // Ends the open transaction: its changes are gone.
     fn rollback(&mut self) -> Result<Reply, Refusal>
-        ensures { (means : Means) (params : List Value) (host : Host) → Performed means params host (honest C.is_honest) (clean C.is_clean) (standing C.holding) self.old r.Rollback result self.new }
+        ensures performs { (means : Means) (params : List Value) (host : Host) → Performed means params host (honest C.is_honest) (clean C.is_clean) (standing C.holding) self.old r.Rollback result self.new }
+        ensures store { self.new.0 ≡ self.old.0 }
     {
         match self.pending.take() {
             Some(_) => Ok(Reply::Done),
@@ -129,7 +131,7 @@ impl<C: Cells> Session<C> {
     }
 
     /// Carries out BEGIN, COMMIT or ROLLBACK, beside any modules. They name no table, so that the store isn't asked which there
-    /// are: it may be broken, and a COMMIT that it refuses ends its transaction.
+    /// are: it may be broken, and a COMMIT that it refuses ends its transaction. Of the others the store isn't asked anything.
     ///
     /// # Errors
     /// Why the statement is refused: `Denied`, `Parameters`, `TransactionState`, and of COMMIT what stands against its changes.
@@ -143,8 +145,9 @@ impl<C: Cells> Session<C> {
     ) -> Result<Reply, Refusal>
         requires guard { G.is_faithful guard.now }
         requires form { is_transaction statement.now ≡ true }
-        ensures { (ms : List ModuleState) (has : List ℕ → Bool) → ⟦<F as Speaking>⟧.are_names functions.now has
+        ensures carries { (ms : List ModuleState) (has : List ℕ → Bool) → ⟦<F as Speaking>⟧.are_names functions.now has
             → Carries (⟦<F as Speaking>⟧.language functions.now has) (⟦<G as Watching>⟧.host guard.now) (honest C.is_honest) (clean C.is_clean) (beside ms (standing C.holding)) self.old params.now statement.now result self.new }
+        ensures store { asks_commit statement.now ≡ false → self.new.0 ≡ self.old.0 }
     {
         let nothing = empty_snapshot(alloc, self.site_id());
         if let Err(refusal) = check_allowed(

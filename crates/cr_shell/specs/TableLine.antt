@@ -7,7 +7,7 @@ use Rattle.cr_value.specs.declared.value.Value.{Value}
 use Rattle.cr_value.specs.declared.value.Value.TheVariants.{Null}
 use Rattle.cr_value.specs.declared.affinity.Affinity.{Affinity}
 use Rattle.cr_value.specs.declared.affinity.Affinity.TheVariants.{Blob}
-use Rattle.cr_value.specs.Affinity.{affinity_of_type, applied}
+use Rattle.cr_value.specs.Affinity.{affinity_of_type}
 use Rattle.cr_value.specs.Unpacking.{◌>>=◌}
 use Rattle.cr_value.specs.Reading.{literal_at}
 use Rattle.cr_world.specs.declared.command.Command.{Command}
@@ -72,7 +72,7 @@ column_of keys marks name type default = record {
     collation = codes "binary";
     not_null = marks.not_null;
     key = place_in_key keys marks.in_key;
-    default = applied (affinity_or_blob (affinity_of_type type)) default;
+    default = default;
   };
   is_real = not (is_some (affinity_of_type type));
 }

@@ -109,23 +109,22 @@ fn column_of(
     marks: Marks,
     name: &str,
     type_name: &str,
-    default: &Value,
+    default: Value,
 ) -> Result<Column, AllocError>
-    ensures { IfOk result (λ column. column ≡ column_of keys marks name.now type_name.now default.now) }
+    ensures { IfOk result (λ column. column ≡ column_of keys marks name.now type_name.now default) }
 {
-    let type_affinity = Affinity::of_type(type_name);
-    let affinity = type_affinity.unwrap_or(Affinity::Blob);
+    let affinity = Affinity::of_type(type_name);
     let name = Text::folded(alloc, name)?;
     Ok(Column {
         definition: ColumnDef {
             name,
-            affinity,
+            affinity: affinity.unwrap_or(Affinity::Blob),
             collation: Text::from_str(alloc, "binary")?,
             not_null: marks.not_null,
             key: place_in_key(keys, marks.in_key),
-            default: affinity.apply(alloc, default)?,
+            default,
         },
-        is_real: type_affinity.is_none(),
+        is_real: affinity.is_none(),
     })
 }
 
@@ -152,10 +151,7 @@ fn column_from(
     let Some((default, at)) = default_from(alloc, text, at)? else {
         return Ok(None);
     };
-    Ok(Some((
-        column_of(alloc, keys, marks, name, type_name, &default)?,
-        at,
-    )))
+    Ok(Some((column_of(alloc, keys, marks, name, type_name, default)?, at)))
 }
 
 fn columns_in(alloc: Global, text: &str) -> Result<Option<Vec<Column>>, AllocError>

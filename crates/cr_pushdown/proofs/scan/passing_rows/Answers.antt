@@ -56,7 +56,7 @@ loop-preserved g c =
           ap (λ (rs : List Row). rs ++ left (g.C.Cells.holding c.args.replica.now) c.next_page.new.self) added
           ∙ append_assoc c.loop.out.items c.in-Ok.page.items (left (g.C.Cells.holding c.args.replica.now) c.next_page.new.self)
           ∙ ap (λ (rs : List Row). c.loop.out.items ++ rs)
-          (ap (λ (h : Holding). c.in-Ok.page.items ++ left h c.next_page.new.self) (sym here) ∙ (reads clean).answers ∙ ap (λ (h : Holding). left h c.loop.scan) here)
+          (ap (λ (h : Holding). c.in-Ok.page.items ++ left h c.next_page.new.self) (sym here) ∙ (reads clean).answers.0 ∙ ap (λ (h : Holding). left h c.loop.scan) here)
           ∙ inv.so_far before;
     }
 

@@ -52,7 +52,7 @@ loop-preserved g c =
             seen.0 ++ c.in-Ok.page.items,
             append_assoc seen.0 c.in-Ok.page.items (left (g.C.Cells.holding c.args.replica.now) c.next_page.new.self)
                 ∙ ap (λ (rs : List Row). seen.0 ++ rs)
-                (ap (λ (h : Holding). c.in-Ok.page.items ++ left h c.next_page.new.self) (sym here) ∙ (reads clean).answers ∙ ap (λ (h : Holding). left h c.loop.scan) here)
+                (ap (λ (h : Holding). c.in-Ok.page.items ++ left h c.next_page.new.self) (sym here) ∙ (reads clean).answers.0 ∙ ap (λ (h : Holding). left h c.loop.scan) here)
                 ∙ seen.1,
             record {
               are_true =

@@ -8,7 +8,7 @@ use Rattle.cr_hosted.proofs.session.HostedSession.carry_out.Goals as goal
 
 pub returns-then-is_transaction-clause-carries : goal.returns-then-is_transaction-clause-carries
 returns-then-is_transaction-clause-carries g c = λ has names.
-    let d = c.transact.ensures (map (λ r. made r.name (g.M.Module.columns_of r.host) (g.M.Module.rows_of r.host) (g.M.Module.updated r.host)) c.args.self.now.modules.list.items) has names in
+    let d = c.transact.ensures.carries (map (λ r. made r.name (g.M.Module.columns_of r.host) (g.M.Module.rows_of r.host) (g.M.Module.updated r.host)) c.args.self.now.modules.list.items) has names in
     record { device = record { was_honest = d.device.was_honest; was_clean = d.device.was_clean; stays_clean = d.device.stays_clean }; answers = d.answers; leaves = d.leaves }
 
 pub returns-in-Err-clause-carries : goal.returns-in-Err-clause-carries

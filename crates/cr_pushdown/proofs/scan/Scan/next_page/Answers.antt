@@ -37,11 +37,14 @@ returns-clause-reads g c clean =
     let some : 0 < 64 = omega arith in
     let last : c.is_none-self.result ≡ is_none bound = search rules in
     let rows = c.in_ok-rows.ensures ∙ ap (filter (passes by c.args.params.now c.args.terms.now)) c.in_ok-shown.ensures ∙ ap of (c.deref.ensures.value ∙ is) in
+    let ends = ends_above def after bound 64 (kept_of h) kept some page.kept page.keys in
     record {
       same = read.same;
-      answers = page_read by c.args.params.now c.args.terms.now def (kept_of h) more after bound c.split.result.1.now c.is_none-self.result c.in_ok-rows.rows.items
-          (ends_above def after bound 64 (kept_of h) kept some page.kept page.keys) c.split.ensures.back last rows
-          ∙ sym (ap (λ b. cond b [] (of (part def.name (above after) (join (kept_of h) more)))) c.requires.left);
+      answers = (
+        page_read by c.args.params.now c.args.terms.now def (kept_of h) more after bound c.split.result.1.now c.is_none-self.result c.in_ok-rows.rows.items ends c.split.ensures.back last rows
+            ∙ sym (ap (λ b. cond b [] (of (part def.name (above after) (join (kept_of h) more)))) c.requires.left),
+        (last, ends),
+      );
     }
 
 pub returns-clause-stands : goal.returns-clause-stands

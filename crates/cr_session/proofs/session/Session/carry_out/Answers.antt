@@ -27,7 +27,7 @@ returns-in-Err-clause-carries g c = λ has names.
     c.names.ensures.device.was_honest c.names.ensures.device.was_clean c.in-Err.ensures.device.stays_clean c.in-Err.ensures.names
 
 pub returns-then-is_transaction-clause-carries : goal.returns-then-is_transaction-clause-carries
-returns-then-is_transaction-clause-carries g c = λ has names. c.transact.ensures [] has names
+returns-then-is_transaction-clause-carries g c = λ has names. c.transact.ensures.carries [] has names
 
 pub returns-clause-carries : goal.returns-clause-carries
 returns-clause-carries g c = λ has names.

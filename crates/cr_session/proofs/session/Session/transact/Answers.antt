@@ -8,21 +8,21 @@ use Rattle.cr_session.proofs.Beside.{performed_beside}
 use Rattle.cr_session.proofs.Carrying.{carries_transacted, refuses_permitted, rollback_is}
 use Rattle.cr_session.proofs.session.Session.transact.Goals as goal
 
-pub returns-in-Err : goal.returns-in-Err
-returns-in-Err g c = λ ms has names.
+pub returns-in-Err-clause-carries : goal.returns-in-Err-clause-carries
+returns-in-Err-clause-carries g c = λ ms has names.
     refuses_permitted _ _ _ _ _ _ has _ names _ (honest g.C.Cells.is_honest) (clean g.C.Cells.is_clean) (beside ms (standing g.C.Cells.holding)) c.args.params.now c.args.self.now c.args.statement.now c.empty_snapshot-nothing.result c.in-Err.refusal c.requires.form c.in-Err.ensures
 
-pub returns-in-Begin : goal.returns-in-Begin
-returns-in-Begin g c = λ ms has names.
+pub returns-in-Begin-clause-carries : goal.returns-in-Begin-clause-carries
+returns-in-Begin-clause-carries g c = λ ms has names.
     carries_transacted _ _ _ _ _ _ has _ names _ (honest g.C.Cells.is_honest) (clean g.C.Cells.is_clean) (beside ms (standing g.C.Cells.holding)) c.args.params.now c.args.self.now c.begin.new.self c.args.statement.now c.empty_snapshot-nothing.result r.Begin c.begin.result c.requires.form
-    (λ answers known. ap (λ x. left_of answers (read known x).made) c.in-Begin.is) (performed_beside _ _ _ g.C.Cells.is_honest g.C.Cells.is_clean g.C.Cells.holding ms _ _ _ _ refl (λ clean. refl) (c.begin.ensures _ _ _)) c.in_default.ensures
+    (λ answers known. ap (λ x. left_of answers (read known x).made) c.in-Begin.is) (performed_beside _ _ _ g.C.Cells.is_honest g.C.Cells.is_clean g.C.Cells.holding ms _ _ _ _ refl (λ clean. refl) (c.begin.ensures.performs _ _ _)) c.in_default.ensures
 
-pub returns-in-Commit : goal.returns-in-Commit
-returns-in-Commit g c = λ ms has names.
+pub returns-in-Commit-clause-carries : goal.returns-in-Commit-clause-carries
+returns-in-Commit-clause-carries g c = λ ms has names.
     carries_transacted _ _ _ _ _ _ has _ names _ (honest g.C.Cells.is_honest) (clean g.C.Cells.is_clean) (beside ms (standing g.C.Cells.holding)) c.args.params.now c.args.self.now c.commit.new.self c.args.statement.now c.empty_snapshot-nothing.result r.Commit c.commit.result c.requires.form
     (λ answers known. ap (λ x. left_of answers (read known x).made) c.in-Commit.is) (performed_beside _ _ _ g.C.Cells.is_honest g.C.Cells.is_clean g.C.Cells.holding ms _ _ _ _ refl (λ clean. refl) (c.commit.ensures _ _)) c.in_default.ensures
 
-pub returns : goal.returns
-returns g c = λ ms has names.
+pub returns-clause-carries : goal.returns-clause-carries
+returns-clause-carries g c = λ ms has names.
     carries_transacted _ _ _ _ _ _ has _ names _ (honest g.C.Cells.is_honest) (clean g.C.Cells.is_clean) (beside ms (standing g.C.Cells.holding)) c.args.params.now c.args.self.now c.rollback.new.self c.args.statement.now c.empty_snapshot-nothing.result r.Rollback c.rollback.result c.requires.form
-    (λ answers known. ap (λ x. left_of answers (read known x).made) (rollback_is c.args.statement.now c.requires.form c.in_default-statement.not-Begin c.in_default-statement.not-Commit)) (performed_beside _ _ _ g.C.Cells.is_honest g.C.Cells.is_clean g.C.Cells.holding ms _ _ _ _ refl (λ clean. refl) (c.rollback.ensures _ _ _)) c.in_default.ensures
+    (λ answers known. ap (λ x. left_of answers (read known x).made) (rollback_is c.args.statement.now c.requires.form c.in_default-statement.not-Begin c.in_default-statement.not-Commit)) (performed_beside _ _ _ g.C.Cells.is_honest g.C.Cells.is_clean g.C.Cells.holding ms _ _ _ _ refl (λ clean. refl) (c.rollback.ensures.performs _ _ _)) c.in_default.ensures
