@@ -10,8 +10,11 @@ use Rattle.cr_tree.specs.declared.statement.Statement.{Statement}
 use Rattle.cr_statement.specs.Statements as grammar
 use Rattle.cr_pieces.specs.Pieces.{Piece, text, symbols, AreWritten}
 use Rattle.cr_pieces.proofs.Written.{read_one_way}
+use Rattle.cr_print.specs.Expressions as expressions
 use Rattle.cr_print.specs.Layout as layout
-use Rattle.cr_roundtrip.specs.Printed.{All, IsSeen}
+use Rattle.cr_tree.specs.Grammar.{Phrase, IsProper, spelled, tree}
+use Rattle.cr_roundtrip.specs.Printed.{printed, All, IsSeen}
+use Rattle.cr_roundtrip.proofs.Laid.{expression_laid}
 use Rattle.cr_roundtrip.proofs.Again.{again, again_read}
 use Rattle.cr_roundtrip.proofs.Layouts.{statement_printed}
 
@@ -40,6 +43,12 @@ written_back ts x a r =
 symbols_so : (t : List ℕ) (words : List Symbol) → IsWrittenAs t words → (found : List Token) → IsTokens t 0 found → symbols_of t found ≡ words
 symbols_so t words w found h =
     ap (λ z. symbols_of z found) (sym w.reads) ∙ ((read_one_way w.with w.are found (subst (λ z. IsTokens z 0 found) (sym w.reads) h)).1 ∙ w.spells)
+
+-- so is an expression's
+pub expression_spelled : (p : Phrase) → IsProper p → All IsSeen (spelled p) → (found : List Token) → IsTokens (expressions.expr (tree p)) 0 found → symbols_of (expressions.expr (tree p)) found ≡ spelled (printed p)
+expression_spelled p i a found h =
+    let l = expression_laid false p i a in
+    symbols_so (expressions.expr (tree p)) (spelled (printed p)) (record { with = l.with; are = subst AreWritten (append-nil l.with) (l.chains [] refl tt); spells = l.spells; reads = l.reads }) found h
 
 pub read_back : (ts : List Symbol) (x : Statement) → All IsSeen ts → IsRead grammar.statement ts x → (found : List Token) → IsTokens (layout.statement x) 0 found → IsRead grammar.statement (symbols_of (layout.statement x) found) x
 read_back ts x a r found h =

@@ -7,6 +7,7 @@ use Rattle.cr_tree.specs.declared.symbol.Mark.{Mark}
 use Rattle.cr_tree.specs.declared.symbol.Mark.TheVariants as m
 use Rattle.cr_tree.specs.declared.symbol.Symbol.{Symbol}
 use Rattle.cr_tree.specs.declared.symbol.Symbol.TheVariants as k
+use Rattle.cr_tree.specs.Grammar.{Phrase, IsProper, spelled, tree}
 use Rattle.cr_tree.specs.Language.{Language, expr}
 use Rattle.cr_lex.specs.Marks.{marked, words, signs}
 use Rattle.cr_statement.specs.Languages.{◌◁◌, ◌▷◌, ◌⊗◌, ◌⟨$⟩◌, ◌∣◌, Either, One, Other, either_fits, by_either, option_fits, option_words, option_value, all_fit, all_words, maybe, many, up_to, commas, mark, name}
@@ -134,8 +135,11 @@ pub record Prints {A : Type 0} (L : Language A) (p : Rewrites L) (f : A → List
 pub record PrintsTail {A : Type 0} (L : Language A) (p : Rewrites L) (f : A → List ℕ) : Type 0 where
   pub tail : (d : L.D) → L.fits LIMITS d → All IsSeen (L.words d) → Tail (L.words (p.to d)) (f (L.value d))
 
+pub expression_laid : (b : Bool) (p : Phrase) → IsProper p → All IsSeen (spelled p) → Laid b (spelled (printed p)) (expressions.expr (tree p))
+expression_laid b p i a = record { with = pieces b (printed p); spells = have b p i; reads = texts b p i; chains = chain b p i (seen p i a) }
+
 pub expression_printed : Prints expr expression expressions.expr
-expression_printed = record { laid = λ b d i a. record { with = pieces b (printed d); spells = have b d i.proper; reads = texts b d i.proper; chains = chain b d i.proper (seen d i.proper a) } }
+expression_printed = record { laid = λ b d i a. expression_laid b d i.proper a }
 
 pub name_printed : Prints name (kept name) layout.name
 name_printed = record { laid = λ b d i a. laid_name b d a.0 }
