@@ -7,7 +7,8 @@ use Rattle.cr_lattice.specs.declared.table.Table.{Table}
 use Rattle.cr_lattice.specs.Check.{same_bytes}
 use Rattle.cr_lattice.specs.Profile.{is_reserved}
 use Rattle.cr_cells.specs.Tables.{is_named}
-use Rattle.cr_module.specs.Lawful.{AreWide, Updates}
+use Rattle.cr_module.specs.Lawful.{AreWide}
+use Rattle.cr_module.specs.Lawful as lawful
 use Rattle.cr_module.specs.declared.module.UpdateError.{UpdateError}
 use Rattle.cr_module.specs.declared.plan.Choice.{Choice}
 use Rattle.cr_module.specs.declared.plan.Constraint.{Constraint}
@@ -41,7 +42,7 @@ told_as name (Ok rows) = Ok rows
 told_as name (Err e) = Err (of_update name e)
 
 -- a host's module of these columns and rows under a name
-abbrev pub made : List ℕ → List ColumnDef → List Row → Updates → ModuleState
+abbrev pub made : List ℕ → List ColumnDef → List Row → lawful.Updates → ModuleState
 made name columns rows updated = record { name = name; columns = columns; rows = rows; updated = λ lists. told_as name (updated lists) }
 
 abbrev pub definition_listed : ModuleState → Listing
