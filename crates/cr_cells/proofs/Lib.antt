@@ -7,6 +7,5 @@ pub mod MarkLemmas
 pub mod SoundLemmas
 pub mod ColumnLemmas
 pub mod LawLemmas
-pub mod CallerLemmas
 pub mod NewLemmas
 pub mod PageLemmas

@@ -1,5 +1,5 @@
 -- What a commit leaves. Source: this project's own; the kept changes are what no committed change beats.
-use Rattle.std.specs.Prelude.{◌^◌, ◌-◌, ℤ, pos, ◌+ℤ◌, Bool, true, false, not, ◌&&◌, List, [], ◌∷◌, ◌++◌, filter, map, Option, None, if◌then◌else◌}
+use Rattle.std.specs.Prelude.{◌^◌, ◌-◌, ℤ, pos, ◌+ℤ◌, Bool, true, false, not, ◌&&◌, List, [], ◌∷◌, ◌++◌, filter, Option, if◌then◌else◌}
 use Rattle.std.specs.List.{list_any, flat_map}
 use Rattle.std.specs.Ordering.{eq_by_cmp}
 use Rattle.cr_lattice.specs.declared.change.Change.{Change}
@@ -60,10 +60,6 @@ committed h more peer = record h {
 -- a commit's changes and mark
 abbrev pub Batch : Type 0
 Batch = List Change × Option Mark
-
--- batches of changes alone, without a mark
-abbrev pub unmarked : List (List Change) → List Batch
-unmarked batches = map (λ changes. (changes, None)) batches
 
 -- what a store holds after commits, one after another
 abbrev pub after_all : Holding → List Batch → Holding

@@ -1,7 +1,6 @@
 //! What a store of cells is, and the plain one in memory.
 #![tactic(auto)]
 
-pub mod callers;
 mod cells;
 pub mod laws;
 pub mod marks;

@@ -20,7 +20,7 @@ use Rattle.cr_lattice.proofs.ChangeLaws.{Beats, Beats-beats}
 use Rattle.cr_lattice.proofs.KeepLaws.{In, In-append, In-left, In-right, kept_from, kept_to, kept_above, AtOrAbove}
 use Rattle.cr_delta.specs.Key.{key_of}
 use Rattle.cr_delta.specs.Delta.{length_of, version_of, value_cells, differs, column_change, row_delta}
-use Rattle.cr_delta.specs.Wanted.{may_hold, IsInProfile}
+use Rattle.cr_delta.specs.Wanted.{may_hold, IsWritable}
 use Rattle.cr_delta.proofs.Among.{split, Among}
 use Rattle.cr_delta.proofs.Cells.{one_cell, not_row_cid, shown_value}
 use Rattle.cr_delta.proofs.Integers.{NotAbove, one_more}
@@ -68,7 +68,7 @@ pub not_false : (b : Bool) → not b ≡ false → b ≡ true
 not_false true e = refl
 not_false false e = absurd cc
 
-module _ (def : TableDef) (site : List ℕ) (s : List Change) (wanted : List (List Value)) (sorted : IsStrictlySortedBy bytes_cmp (map (key_of def) wanted)) (profile : IsInProfile def)
+module _ (def : TableDef) (site : List ℕ) (s : List Change) (wanted : List (List Value)) (sorted : IsStrictlySortedBy bytes_cmp (map (key_of def) wanted)) (profile : IsWritable def)
     (row : List Value) (m : Among wanted row) (cell : ColumnDef × Value) (at : Among (value_cells def row) cell) where
   abbrev all : List Change
   all = s ++ written def site s wanted

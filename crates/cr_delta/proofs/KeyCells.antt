@@ -15,7 +15,7 @@ use Rattle.cr_lattice.specs.declared.table.TableDef.{TableDef}
 use Rattle.cr_lattice.specs.Check.{is_key_column, stands_at}
 use Rattle.cr_lattice.specs.Profile.{key_count, places_once, has_key}
 use Rattle.cr_delta.specs.Key.{cells_of, key_part, key_places, key_values, key_of}
-use Rattle.cr_delta.specs.Wanted.{IsRowOf, IsInProfile}
+use Rattle.cr_delta.specs.Wanted.{IsRowOf, IsWritable}
 use Rattle.cr_delta.proofs.Among.{split, and_true, Among}
 use Rattle.cr_delta.proofs.Cells.{column_of}
 
@@ -208,7 +208,7 @@ part_is : (def : TableDef) (row : List Value) (place : ℕ) (cell : ColumnDef ×
 unfolding key_part
 part_is def row place cell one m e = ap (option_map (λ x. x.1)) (found_one def.columns row place cell one m (rw e (eq-eqb place place refl)))
 
-pub key_cell : (def : TableDef) (row : List Value) (cell : ColumnDef × Value) (place : ℕ) → IsInProfile def → IsRowOf def row → Among (cells_of def row) cell → cell.0.key ≡ Some place
+pub key_cell : (def : TableDef) (row : List Value) (cell : ColumnDef × Value) (place : ℕ) → IsWritable def → IsRowOf def row → Among (cells_of def row) cell → cell.0.key ≡ Some place
     → slice_index_or (unwrap_or (unpacked (key_of def row)) []) (place - 1) Null ≡ cell.1
 unfolding key_values has_key
 key_cell def row cell place profile r m e =

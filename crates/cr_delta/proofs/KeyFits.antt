@@ -13,7 +13,7 @@ use Rattle.cr_lattice.specs.declared.table.TableDef.{TableDef}
 use Rattle.cr_lattice.specs.Check.{same_bytes, stands_at, key_affinity, is_fixed, key_fits, is_key}
 use Rattle.cr_lattice.specs.Profile.{key_count, places_once, has_key}
 use Rattle.cr_delta.specs.Key.{cells_of, key_part, key_places, key_values, key_of}
-use Rattle.cr_delta.specs.Wanted.{may_hold, IsRowOf, IsInProfile}
+use Rattle.cr_delta.specs.Wanted.{may_hold, IsRowOf, IsWritable}
 use Rattle.cr_delta.proofs.Among.{split, and_true, Among, member_has}
 use Rattle.cr_delta.proofs.Members.{is_same}
 use Rattle.cr_delta.proofs.Cells.{column_of}
@@ -60,7 +60,7 @@ standing (col ∷ cols) (v ∷ vs) p width some =
           (r.0, standing_later col cols v vs p r.0 not_so r.1))
     ]
 
-module _ (def : TableDef) (row : List Value) (profile : IsInProfile def) (r : IsRowOf def row) where
+module _ (def : TableDef) (row : List Value) (profile : IsWritable def) (r : IsRowOf def row) where
   abbrev n : ℕ
   n = key_count def
 

@@ -16,7 +16,7 @@ use Rattle.cr_lattice.specs.Keep.{keep}
 use Rattle.cr_lattice.specs.Rows.{is_present}
 use Rattle.cr_delta.specs.Key.{key_of}
 use Rattle.cr_delta.specs.Delta.{value_cells, differs, is_wanted, row_change, row_delta, update, removals, delta}
-use Rattle.cr_delta.specs.Wanted.{may_hold, IsRowOf, IsInProfile, AreWanted, DeltaIsOnce}
+use Rattle.cr_delta.specs.Wanted.{may_hold, IsRowOf, IsWritable, AreWanted, DeltaIsOnce}
 use Rattle.cr_delta.proofs.Among.{split, and_true, Among, In_Among, member_has}
 use Rattle.cr_delta.proofs.Cells.{cell_of_value}
 use Rattle.cr_delta.proofs.Columns.{shows}
@@ -33,7 +33,7 @@ pub flat_map_none : {A B : Type 0} (f : A → List B) (xs : List A) → ((x : A)
 flat_map_none f [] none = refl
 flat_map_none f (x ∷ xs) none = let no = none x (inl refl) in rw no (flat_map_none f xs (λ y m. none y (inr m)))
 
-module _ (def : TableDef) (site : List ℕ) (s : List Change) (wanted : List (List Value)) (profile : IsInProfile def) (w : AreWanted def wanted) where
+module _ (def : TableDef) (site : List ℕ) (s : List Change) (wanted : List (List Value)) (profile : IsWritable def) (w : AreWanted def wanted) where
   abbrev after : List Change
   after = keep (s ++ written def site s wanted)
 

@@ -15,7 +15,7 @@ use Rattle.cr_lattice.specs.Keep.{keep}
 use Rattle.cr_lattice.specs.Rows.{is_alive, is_of_row, is_present, alive_keys, cell, row, rows}
 use Rattle.cr_lattice.proofs.SortedSets.{list_any-set_of, IsStrictlySortedBy-set_of, same_sorted}
 use Rattle.cr_delta.specs.Key.{cells_of, key_of}
-use Rattle.cr_delta.specs.Wanted.{may_hold, IsRowOf, IsInProfile, AreWanted, DeltaShowsWanted}
+use Rattle.cr_delta.specs.Wanted.{may_hold, IsRowOf, IsWritable, AreWanted, DeltaShowsWanted}
 use Rattle.cr_delta.proofs.Among.{and_true, Among, Among-map, map_member, Among-filter, filter_member, any_member, member_of_any, member_has}
 use Rattle.cr_delta.proofs.Cells.{value_cell}
 use Rattle.cr_delta.proofs.KeyCells.{key_cell}
@@ -67,7 +67,7 @@ some_or_none : (k : Option ℕ) → (k ≡ None) ⊎ ((p : ℕ) × (k ≡ Some p
 some_or_none None = inl refl
 some_or_none (Some p) = inr (p, refl)
 
-module _ (def : TableDef) (site : List ℕ) (s : List Change) (wanted : List (List Value)) (profile : IsInProfile def) (w : AreWanted def wanted) where
+module _ (def : TableDef) (site : List ℕ) (s : List Change) (wanted : List (List Value)) (profile : IsWritable def) (w : AreWanted def wanted) where
   abbrev after : List Change
   after = keep (s ++ written def site s wanted)
 

@@ -20,7 +20,7 @@ use Rattle.cr_lattice.specs.Rows.{is_alive, is_of_row, is_cell, kept_change}
 use Rattle.cr_lattice.proofs.KeepLaws.{In, kept_from}
 use Rattle.cr_delta.specs.Key.{key_of}
 use Rattle.cr_delta.specs.Delta.{length_of, version_of, value_cells, row_change, column_change, row_delta, delta}
-use Rattle.cr_delta.specs.Wanted.{IsRowOf, IsInProfile, AreWanted, AreWellFormed, AreSmall, DeltaIsWellFormed}
+use Rattle.cr_delta.specs.Wanted.{IsRowOf, IsWritable, AreWanted, AreWellFormed, AreSmall, DeltaIsWellFormed}
 use Rattle.cr_lattice.specs.Profile.{HasDistinctNames}
 use Rattle.cr_delta.proofs.Among.{split, and_true, Among, In_Among, Among_In, any_member, member_of_any, member_has}
 use Rattle.cr_delta.proofs.Cells.{pair_first, pair_rest, column_of, cell_of_value, not_row_cid}
@@ -222,7 +222,7 @@ all_members : {A : Type 0} (P : A → Type 0) (xs : List A) → ((x : A) → Amo
 all_members P [] f = tt
 all_members P (x ∷ xs) f = (f x (inl refl), all_members P xs (λ y m. f y (inr m)))
 
-module _ (def : TableDef) (site : List ℕ) (s : List Change) (wanted : List (List Value)) (profile : IsInProfile def) (wf : AreWellFormed def s) (w : AreWanted def wanted) (brief : AreSmall wanted) where
+module _ (def : TableDef) (site : List ℕ) (s : List Change) (wanted : List (List Value)) (profile : IsWritable def) (wf : AreWellFormed def s) (w : AreWanted def wanted) (brief : AreSmall wanted) where
   -- a change of the row itself, and one of a column of a wanted row
   row_sound : (row : List Value) → Among wanted row → (cl : ℤ) → Positive cl → Sound def (row_change def site (key_of def row) cl)
   row_sound row m cl e =

@@ -31,8 +31,8 @@ pub record AreWanted (def : TableDef) (wanted : List (List Value)) : Type 0 wher
   pub rows : AllByRecursion (IsRowOf def) wanted
   pub in_order : IsStrictlySortedBy bytes_cmp (map (key_of def) wanted)
 
--- a definition that the profile accepts
-pub record IsInProfile (def : TableDef) : Type 0 where
+-- what these laws ask of a definition: each that the profile accepts has it, if its columns' names differ
+pub record IsWritable (def : TableDef) : Type 0 where
   pub key : has_key def ≡ true
   pub few : key_count def ≤ 8
   pub no_row_cid : has_row_cid def ≡ false
@@ -46,7 +46,7 @@ AreWellFormed def s = AllByRecursion (λ c. IsWellFormed c def ⊎ (same_bytes c
 abbrev pub DeltaShowsWanted : Type 0
 DeltaShowsWanted =
     (def : TableDef) (site : List ℕ) (s : List Change) (wanted : List (List Value))
-    → IsInProfile def → AreWanted def wanted
+    → IsWritable def → AreWanted def wanted
     → rows (join s (delta def site (keep s) wanted)) def ≡ wanted
 
 -- Other tables show what they showed.
@@ -66,7 +66,7 @@ DeltaOfShownIsEmpty =
 abbrev pub DeltaIsOnce : Type 0
 DeltaIsOnce =
     (def : TableDef) (site : List ℕ) (s : List Change) (wanted : List (List Value))
-    → IsInProfile def → AreWanted def wanted
+    → IsWritable def → AreWanted def wanted
     → delta def site (join s (delta def site (keep s) wanted)) wanted ≡ []
 
 -- no value is longer than a change may carry
@@ -77,5 +77,5 @@ AreSmall wanted = AllByRecursion (λ row. AllByRecursion (λ v. value_len v ≤ 
 abbrev pub DeltaIsWellFormed : Type 0
 DeltaIsWellFormed =
     (def : TableDef) (site : List ℕ) (s : List Change) (wanted : List (List Value))
-    → IsInProfile def → AreWellFormed def s → AreWanted def wanted → AreSmall wanted
+    → IsWritable def → AreWellFormed def s → AreWanted def wanted → AreSmall wanted
     → AllByRecursion (λ c. IsWellFormed c def) (delta def site (keep s) wanted)

@@ -140,7 +140,7 @@ and_again : (a b : Bool) → (a && (a && b)) ≡ (a && b)
 and_again true b = refl
 and_again false b = refl
 
-abbrev of_table : List ℕ → Change → Bool
+abbrev pub of_table : List ℕ → Change → Bool
 of_table table c = same_bytes c.table table
 
 row_by_parts : (table pk : List ℕ) (xs : List Change) → filter (is_of_row table pk) xs ≡ filter (of_table table) (filter (is_under pk) xs)
@@ -148,7 +148,7 @@ row_by_parts table pk xs =
     filter_agree (is_of_row table pk) (λ c. is_under pk c && of_table table c) (λ c. and_back (of_table table c) (is_under pk c)) xs
     ∙ sym (filter-filter (of_table table) (is_under pk) xs)
 
-row_of_table : (table pk : List ℕ) (xs : List Change) → filter (is_of_row table pk) (filter (of_table table) xs) ≡ filter (is_of_row table pk) xs
+pub row_of_table : (table pk : List ℕ) (xs : List Change) → filter (is_of_row table pk) (filter (of_table table) xs) ≡ filter (is_of_row table pk) xs
 row_of_table table pk xs =
     filter-filter (is_of_row table pk) (of_table table) xs
     ∙ filter_agree (λ c. of_table table c && is_of_row table pk c) (is_of_row table pk) (λ c. and_again (of_table table c) (is_under pk c)) xs

@@ -35,7 +35,7 @@ pub enum UpdateError {
     Memory,
 }
 
-/// A table whose rows a host has. A host makes one and boxes it.
+/// A table whose rows a host has, which the host registers under a name.
 ///
 /// A reading asks `best_index` which index serves, and with which arguments; then `filter` gives a cursor on the first of the
 /// rows, and until `eof` the columns of its row are asked for and `next` goes on. While it is read, a module stays as it is.
@@ -64,7 +64,8 @@ pub trait Module: Drop {
     /// Its rows once it took these lists, one update after another, or why it doesn't take one of them.
     ghost updated: { Self → Updates };
 
-    /// Its columns, at least one. Their names are in ASCII lower case, each another.
+    /// Its columns. That they are at least one, with names in ASCII lower case, each another, is on the host's word: no promise
+    /// rests on it, but a statement finds no column by a name in another case, and one that two columns have is ambiguous.
     fn columns(&self) -> &[ColumnDef]
         ensures { result.now ≡ columns_of self.now };
 

@@ -59,10 +59,10 @@ fn push_firsts(alloc: Global, out: &mut Vec<Value>, rows: &[Row]) -> Result<(), 
 }
 
 impl Module for Listed {
-    ghost use Rattle.std.specs.Prelude.{cond, drop, map, Ok, Err};
+    ghost use Rattle.std.specs.Prelude.{◌++◌, cond, drop, fold, map, Ok, Err};
     ghost use Rattle.cr_bags.specs.Bags.{single};
     ghost use Rattle.cr_module.specs.declared.module.UpdateError.TheVariants.{ReadOnly};
-    ghost use Rattle.cr_module.specs.Samples.{all_rows, with_lists};
+    ghost use Rattle.cr_module.specs.Samples.{all_rows};
 
     ghost columns_of = { λ m. m.columns };
 
@@ -72,7 +72,7 @@ impl Module for Listed {
 
     ghost left = { λ m c. map single (drop c.at m.values.items) };
 
-    ghost updated = { λ m lists. cond m.takes_rows (Ok (with_lists (map single m.values.items) lists)) (Err ReadOnly) };
+    ghost updated = { λ m lists. cond m.takes_rows (Ok (fold (λ rows more. rows ++ more) (map single m.values.items) lists)) (Err ReadOnly) };
 
     fn columns(&self) -> &[ColumnDef] {
         self.columns.as_slice()

@@ -43,7 +43,7 @@ impl<T: Drop> From<AllocFailed<T>> for ReadFault {
 /// Tables by number, from 0 on, whose rows are read one after another.
 ///
 /// `filter` gives a cursor on the first row of a table, and until `eof` the values of its row are asked for and `next` goes on.
-/// What is read stays as it is while it is read.
+/// What is read stays as it is while it is read. One reading goes on at a time: nothing is said of a cursor once a later one was asked for.
 pub trait Source: Drop {
     ghost use Rattle.std.specs.Prelude.{ℕ, Bool, List};
     ghost use Rattle.cr_query.specs.Query.{Row as Values};

@@ -160,8 +160,7 @@ impl<M: Module> Modules<M> {
         Ok(())
     }
 
-    /// Puts a module behind the others, under a name in whatever case, which is kept in ASCII lower case. Its columns are at
-    /// least one, their names in ASCII lower case, each another.
+    /// Puts a module behind the others, under a name in whatever case, which is kept in ASCII lower case.
     ///
     /// # Errors
     /// `BadName` where the name is empty or begins as those of the engine's own tables; then `TableExists` where one of these

@@ -109,26 +109,26 @@ module _ (host : Host) (bytes : OrdersBytes host) (params : List Value) (cs : Co
   row = (f ++ r) ++ more
 
   abbrev seen : Setting
-  seen = here host bytes params row
+  seen = here host params row
 
   has_there : (x : Expr) (place : ℕ) → place_under cs x ≡ Some place → Has seen x (value_at place r)
   has_there x place e = place_has cs f r more long wide seen x place refl e
 
   left_misses : (op : Relation) (m : Meeting) (x y : Expr) (o : Offer) → same_bytes m.collation binary ≡ true
-      → of_left cs params op m.adjusted x y ≡ Some o → is_met o r ≡ false → Misses host bytes params row (Compare op m x y)
+      → of_left cs params op m.adjusted x y ≡ Some o → is_met o r ≡ false → Misses host params row (Compare op m x y)
   left_misses op m x y o binary_is e unmet =
       let p = made (place_under cs x) (op_of op y) (option_and_then (on_right m.adjusted) (constant params y)) o e in
       let k = then_some (on_right m.adjusted) (constant params y) o.argument p.beside in
       let at = o.constraint.column in
       let v = value_at at r in
       let some = λ (never : never_null y ≡ true). known y params k.0 never k.1 in
-      two_miss host bytes params row op m x y v k.0 (has_there x at p.column) ((says y seen).1 k.0 k.1)
+      two_miss host params row op m x y v k.0 (has_there x at p.column) ((says y seen).1 k.0 k.1)
       (λ so. differ (compares o.constraint.op v o.argument)
       (meets_left host bytes m binary_is op y o.constraint.op v k.0 o.argument p.stands some k.2 so)
       unmet)
 
   right_misses : (op : Relation) (m : Meeting) (x y : Expr) (o : Offer) → same_bytes m.collation binary ≡ true
-      → of_right cs params op m.adjusted x y ≡ Some o → is_met o r ≡ false → Misses host bytes params row (Compare op m x y)
+      → of_right cs params op m.adjusted x y ≡ Some o → is_met o r ≡ false → Misses host params row (Compare op m x y)
   right_misses op m x y o binary_is e unmet =
       let p = made (place_under cs y) (option_map turned (op_of op x)) (option_and_then (on_left m.adjusted) (constant params x)) o e in
       let k = then_some (on_left m.adjusted) (constant params x) o.argument p.beside in
@@ -136,12 +136,12 @@ module _ (host : Host) (bytes : OrdersBytes host) (params : List Value) (cs : Co
       let at = o.constraint.column in
       let v = value_at at r in
       let some = λ (never : never_null x ≡ true). known x params k.0 never k.1 in
-      two_miss host bytes params row op m x y k.0 v ((says x seen).1 k.0 k.1) (has_there y at p.column)
+      two_miss host params row op m x y k.0 v ((says x seen).1 k.0 k.1) (has_there y at p.column)
       (λ so. differ (compares (turned t.0) v o.argument)
       (meets_right host bytes m binary_is op x t.0 v k.0 o.argument t.1 some k.2 so)
       ((λ i. compares (t.2 i) v o.argument) ∙ unmet))
 
-  misses : (y : Layer) (o : Offer) → offer_in cs params y ≡ Some o → is_met o r ≡ false → Misses host bytes params row y
+  misses : (y : Layer) (o : Offer) → offer_in cs params y ≡ Some o → is_met o r ≡ false → Misses host params row y
   misses (Compare op m x y) o e unmet =
       let b = provided (same_bytes m.collation binary) _ o e in
       elim (one_of (of_left cs params op m.adjusted x y) (of_right cs params op m.adjusted x y) o b.1) [
@@ -165,11 +165,11 @@ module _ (host : Host) (bytes : OrdersBytes host) (params : List Value) (cs : Co
 
     -- of terms one of whose constraints the row does not meet some one is quiet and not true on what is made of it
     pub some_miss : (terms : List Expr) (i : ℕ) (o : Offer) → slice_get (offers cs params terms) i ≡ Some o → is_met o r ≡ false
-        → any_missed host bytes params row (queries.strict most) terms ≡ true
+        → any_missed host params row (queries.strict most) terms ≡ true
     some_miss [] i o there unmet = absurd cc
     some_miss (e ∷ es) i o there unmet = by (λ k h. some_miss es k o h unmet) (offer cs params e) refl i there where
-      by : ((k : ℕ) → slice_get (offers cs params es) k ≡ Some o → any_missed host bytes params row (queries.strict most) es ≡ true) → (p : Option Offer) → offer cs params e ≡ p
-          → (k : ℕ) → slice_get (cons_option p (offers cs params es)) k ≡ Some o → any_missed host bytes params row (queries.strict most) (e ∷ es) ≡ true
+      by : ((k : ℕ) → slice_get (offers cs params es) k ≡ Some o → any_missed host params row (queries.strict most) es ≡ true) → (p : Option Offer) → offer cs params e ≡ p
+          → (k : ℕ) → slice_get (cons_option p (offers cs params es)) k ≡ Some o → any_missed host params row (queries.strict most) (e ∷ es) ≡ true
       by later None is k h = or_right _ _ (later k h)
       by later (Some p) is zero h = (let t = term_misses e o (is ∙ h) unmet in or_left _ _ (λ i. t.0 i && is_false (t.1 i)))
       by later (Some p) is (suc k) h = or_right _ _ (later k h)

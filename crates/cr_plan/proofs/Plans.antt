@@ -112,27 +112,27 @@ module _ (host : Host) (bytes : OrdersBytes host) (params : List Value) (most : 
 
   module _ (there : List Row) (of : AreOf j there) where
     abbrev Leaves : Type 0
-    Leaves = LeavesOut host bytes params (strict most) q before j after front there meets back is wide
+    Leaves = LeavesOut host params (strict most) q before j after front there meets back is wide
 
     misses : (terms : List Expr) → told_terms q j ≡ terms → (f : Row) → Made before front [] f → (r : Row) → Among there r → meets r ≡ false → (more : Row)
-        → any_missed host bytes params ((f ++ r) ++ more) (strict most) terms ≡ true
+        → any_missed host params ((f ++ r) ++ more) (strict most) terms ≡ true
     misses terms same f made r among out more =
         let u = unmet_one told choice.args r out in
-        subst (λ es. any_missed host bytes params ((f ++ r) ++ more) (strict most) es ≡ true) same
+        subst (λ es. any_missed host params ((f ++ r) ++ more) (strict most) es ≡ true) same
         (some_miss host bytes params columns f r more (made_long before front f wide made) (member_holds (λ r. length r ≡ width j) there of r among) most
         (told_terms q j) u.place u.offer u.there u.unmet)
 
     by_its_on : j.is_left ≡ true → Leaves
     by_its_on brought =
-        left_leaves_out host bytes params (strict most) q before j after front there meets back is wide brought
+        left_leaves_out host params (strict most) q before j after front there meets back is wide brought
         (misses j.on (ap (λ (b : Bool). cond b j.on (cond (list_any is_brought q.joined) [] (ons q.joined ++ q.filter))) brought))
 
     by_all_terms : j.is_left ≡ false → list_any is_brought q.joined ≡ false → Leaves
     by_all_terms inner none =
-        inner_leaves_out host bytes params (strict most) q before j after front there meets back is wide inner
+        inner_leaves_out host params (strict most) q before j after front there meets back is wide inner
         (all_safe after (none_behind is_brought before j after (ap (list_any is_brought) (sym is) ∙ none)))
         (λ f made r among out more.
-        ap (list_any (is_missed host bytes params ((f ++ r) ++ more) (strict most))) (sym (told_all q j inner none))
+        ap (list_any (is_missed host params ((f ++ r) ++ more) (strict most))) (sym (told_all q j inner none))
         ∙ misses (told_terms q j) refl f made r among out more)
 
     -- nothing is told, so nothing is left out

@@ -4,10 +4,10 @@ use Rattle.std.specs.Option.{option_to_list}
 use Rattle.cr_bags.specs.Bags.{gather, single}
 use Rattle.cr_query.specs.Queries.{Query, Joining, Insert, Update, Delete}
 use Rattle.cr_query.specs.Query.{Row, Group, Meaning, quiet_first, holds, with_rows, joined_with, combined, joined, groups}
-use Rattle.cr_query.specs.Faults.{OfOne, OfIt, operands, OneHas, TermsHave, OnsHave, GroupHas, KeptHave, QueryHas, InsertHas, UpdateHas, DeleteHas}
+use Rattle.cr_query.specs.Faults.{OfOne, operands, OneHas, TermsHave, OnsHave, GroupHas, KeptHave, QueryHas, InsertHas, UpdateHas, DeleteHas}
 use Rattle.cr_query.proofs.Lacking.{one_map}
 
-it_map : {X : Type 0} (P Q : X → Type 0) → ((x : X) → P x → Q x) → (o : Option X) → OfIt P o → OfIt Q o
+it_map : {X : Type 0} (P Q : X → Type 0) → ((x : X) → P x → Q x) → (o : Option X) → IsSomeAnd o P → IsSomeAnd o Q
 it_map P Q f None h = absurd h
 it_map P Q f (Some x) h = f x h
 

@@ -7,7 +7,7 @@ use Rattle.cr_bags.specs.Bags.{joins, gather, each, those, single}
 use Rattle.cr_query.specs.Queries.{Query, Joining, Insert, Update, Delete}
 use Rattle.cr_query.specs.Query.{Row, Group, Meaning, and_so, is_true, all_true, quiet_first, holds, nulls, or_padded, with_rows, joined_with, combined, joined, keyed, groups_of, groups, has, pair, shows, judged, shown_groups, shown, finished, answer}
 use Rattle.cr_query.specs.Writes.{put_all, defaults, values, inserted, inserted_rows, assigned, updated, wanted_by_insert, wanted_by_update, wanted_by_delete}
-use Rattle.cr_query.specs.Faults.{OfOne, OfIt, operands, OneHas, TermsHave, OnsHave, GroupHas, KeptHave, Valueless, ValuelessOver, Truthless, TruthlessOver, QueryLacks, InsertLacks, UpdateLacks, DeleteLacks}
+use Rattle.cr_query.specs.Faults.{OfOne, operands, OneHas, TermsHave, OnsHave, GroupHas, KeptHave, Valueless, ValuelessOver, Truthless, TruthlessOver, QueryLacks, InsertLacks, UpdateLacks, DeleteLacks}
 
 -- ---- one of a list
 
@@ -117,7 +117,7 @@ module _ {E : Type 0} (m : Meaning E) where
     by more (inl h) =
         inl (one_apart (j.left ≡ true) (λ c. OfOne (TermsLack j.on) (with_rows c rows)) cs
         (one_map _ (λ c. (j.left ≡ true) × OfOne (TermsLack j.on) (with_rows c rows)) (with_lacks j rows) cs (gather_lacks (joined_with m j rows) cs h)))
-    by more (inr h) = inr (subst (OfIt (OnsLack js tables)) (sym h.1.0) (more h.0 h.1.1))
+    by more (inr h) = inr (subst (λ o. IsSomeAnd o (OnsLack js tables)) (sym h.1.0) (more h.0 h.1.1))
 
   -- a result or a term of ORDER BY
   shows_lacks : (q : Query E) (f : E → Option Value) → shows m q f ≡ None → OfOne (λ e. f e ≡ None) (operands q)
@@ -150,7 +150,7 @@ module _ {E : Type 0} (m : Meaning E) where
   kept_lack q cs e = by q.is_grouped e where
     grouped : (groups m q.group cs ≡ None) ⊎ ((gs : List Group) × ((groups m q.group cs ≡ Some gs) × (gather (λ g. judged m q (λ e. m.over e g)) gs ≡ None))) → KeptLack true q cs
     grouped (inl h) = inl (keys_lack q.group cs h)
-    grouped (inr h) = inr (subst (OfIt (OfOne (GroupLacks q))) (sym h.1.0) (one_map _ (GroupLacks q) (group_lacks q) h.0 (gather_lacks (λ g. judged m q (λ e. m.over e g)) h.0 h.1.1)))
+    grouped (inr h) = inr (subst (λ o. IsSomeAnd o (OfOne (GroupLacks q))) (sym h.1.0) (one_map _ (GroupLacks q) (group_lacks q) h.0 (gather_lacks (λ g. judged m q (λ e. m.over e g)) h.0 h.1.1)))
 
     by : (b : Bool) → cond b (shown_groups m q cs) (each (λ c. shows m q (λ e. m.value e c)) cs) ≡ None → KeptLack b q cs
     by true h = grouped (then_lacks (gather (λ g. judged m q (λ e. m.over e g))) (groups m q.group cs) h)
@@ -160,11 +160,11 @@ module _ {E : Type 0} (m : Meaning E) where
   answer_lacks q tables e = by (then_lacks (shown m q) (joined m q tables) (map_lacks (finished m q) (option_and_then (shown m q) (joined m q tables)) e)) where
     unjoined : (combined m q.sources tables (single []) ≡ None) ⊎ ((cs : List Row) × ((combined m q.sources tables (single []) ≡ Some cs) × (those (holds m q.terms) cs ≡ None))) → QueryLacks m q tables
     unjoined (inl h) = inl (ons_lack q.sources tables (single []) h)
-    unjoined (inr h) = inr (inl (subst (OfIt (OfOne (TermsLack q.terms))) (sym h.1.0) (one_map _ (TermsLack q.terms) (terms_lack q.terms) h.0 (those_lacks (holds m q.terms) h.0 h.1.1))))
+    unjoined (inr h) = inr (inl (subst (λ o. IsSomeAnd o (OfOne (TermsLack q.terms))) (sym h.1.0) (one_map _ (TermsLack q.terms) (terms_lack q.terms) h.0 (those_lacks (holds m q.terms) h.0 h.1.1))))
 
     by : (joined m q tables ≡ None) ⊎ ((cs : List Row) × ((joined m q tables ≡ Some cs) × (shown m q cs ≡ None))) → QueryLacks m q tables
     by (inl h) = unjoined (then_lacks (those (holds m q.terms)) (combined m q.sources tables (single [])) h)
-    by (inr h) = inr (inr (subst (OfIt (KeptLack q.is_grouped q)) (sym h.1.0) (kept_lack q h.0 h.1.1)))
+    by (inr h) = inr (inr (subst (λ o. IsSomeAnd o (KeptLack q.is_grouped q)) (sym h.1.0) (kept_lack q h.0 h.1.1)))
 
   -- ---- writes
 

@@ -1,6 +1,6 @@
 -- Where an expression of a query or of a write has something, as a fault: on each combination and over each group to which the
 -- statement comes with it. Source: this project's own.
-use Rattle.std.specs.Prelude.{◌≡◌, ◌⊎◌, Bool, true, false, List, [], ◌∷◌, ◌++◌, map, Option, Some, None}
+use Rattle.std.specs.Prelude.{◌≡◌, ◌⊎◌, Bool, true, false, List, [], ◌∷◌, ◌++◌, map, Option, Some, None, IsSomeAnd}
 use Rattle.std.specs.Option.{option_and_then, option_to_list}
 use Rattle.cr_bags.specs.Bags.{gather, single}
 use Rattle.cr_query.specs.Query.{Row, Group, Meaning, is_true, quiet_first, holds, with_rows, joined_with, combined, joined, groups, has}
@@ -10,11 +10,6 @@ use Rattle.cr_query.specs.Queries.{Joining, Query, Insert, Update, Delete}
 abbrev pub OfOne : {X : Type 0} → (X → Type 0) → List X → Type 0
 OfOne P [] = ⊥
 OfOne P (x ∷ xs) = P x ⊎ OfOne P xs
-
--- it is there, and it holds of it
-abbrev pub OfIt : {X : Type 0} → (X → Type 0) → Option X → Type 0
-OfIt P None = ⊥
-OfIt P (Some x) = P x
 
 -- what a query shows, and by what it sorts that
 abbrev pub operands : {E : Type 0} → Query E → List E
@@ -35,7 +30,7 @@ module _ {E : Type 0} (m : Meaning E) (on_row : E → Row → Type 0) (over : E 
   abbrev pub OnsHave : List (Joining E) → List (List Row) → List Row → Type 0
   OnsHave [] tables cs = ⊥
   OnsHave (j ∷ js) [] cs = ⊥
-  OnsHave (j ∷ js) (rows ∷ tables) cs = ((j.left ≡ true) × OfOne (λ c. OfOne (TermsHave j.on) (with_rows c rows)) cs) ⊎ OfIt (OnsHave js tables) (gather (joined_with m j rows) cs)
+  OnsHave (j ∷ js) (rows ∷ tables) cs = ((j.left ≡ true) × OfOne (λ c. OfOne (TermsHave j.on) (with_rows c rows)) cs) ⊎ IsSomeAnd (gather (joined_with m j rows) cs) (OnsHave js tables)
 
   -- HAVING does, or what is shown of a group on which it is true
   abbrev pub GroupHas : Query E → Group → Type 0
@@ -43,11 +38,11 @@ module _ {E : Type 0} (m : Meaning E) (on_row : E → Row → Type 0) (over : E 
 
   -- of the combinations that are kept, in groups or not
   abbrev pub KeptHave : Bool → Query E → List Row → Type 0
-  KeptHave true q cs = OfOne (λ c. OfOne (λ e. on_row e c) q.group) cs ⊎ OfIt (OfOne (GroupHas q)) (groups m q.group cs)
+  KeptHave true q cs = OfOne (λ c. OfOne (λ e. on_row e c) q.group) cs ⊎ IsSomeAnd (groups m q.group cs) (OfOne (GroupHas q))
   KeptHave false q cs = OfOne (λ c. OfOne (λ e. on_row e c) (operands q)) cs
 
   abbrev pub QueryHas : Query E → List (List Row) → Type 0
-  QueryHas q tables = OnsHave q.sources tables (single []) ⊎ (OfIt (OfOne (TermsHave q.terms)) (combined m q.sources tables (single [])) ⊎ OfIt (KeptHave q.is_grouped q) (joined m q tables))
+  QueryHas q tables = OnsHave q.sources tables (single []) ⊎ (IsSomeAnd (combined m q.sources tables (single [])) (OfOne (TermsHave q.terms)) ⊎ IsSomeAnd (joined m q tables) (KeptHave q.is_grouped q))
 
   -- of one tuple
   abbrev pub InsertHas : Insert E → Type 0

@@ -384,6 +384,7 @@ impl<C: Cells> Replica<C> {
         ensures device { StaysClean C.is_honest C.is_clean is_want self.old self.new result }
         ensures sound { C.is_clean self.new → IsSound (C.holding self.new) }
         ensures reads { C.is_clean self.new → Reads (C.holding self.old) (C.holding self.new) result (HasNamesOf (C.holding self.old)) }
+        ensures empty { IfOk result (λ names. (names.cells ≡ []) × (names.kept ≡ [])) }
         ensures whole { IfOk result IsWhole }
     {
         let tables = match self.cells.tables(alloc) {

@@ -23,7 +23,7 @@ use std::alloc::Global;
 /// The text in a column, by its place from 0.
 ///
 /// # Errors
-/// Where the column has no text, or for want of memory.
+/// Where there is no such column, or it has no text, or for want of memory.
 pub fn text_at(row: &Row, at: usize) -> Result<String, Error>
     ensures ok { IfOk result (λ t. column row.now at ≡ Text (string_bytes t)) }
     ensures err { IfErr result (λ e. e ≢ SqliteFailure OutOfMemory → at < length row.now → ¬ ((t : List ℕ) × (column row.now at ≡ Text t) × IsUtf8 t)) }
@@ -34,7 +34,7 @@ pub fn text_at(row: &Row, at: usize) -> Result<String, Error>
 /// The blob in a column, by its place from 0.
 ///
 /// # Errors
-/// Where the column has no blob, or for want of memory.
+/// Where there is no such column, or it has no blob, or for want of memory.
 pub fn blob_at(row: &Row, at: usize) -> Result<Vec<u8>, Error>
     ensures ok { IfOk result (λ b. column row.now at ≡ Blob b.items) }
     ensures err { IfErr result (λ e. e ≢ SqliteFailure OutOfMemory → at < length row.now → ¬ ((b : List ℕ) × (column row.now at ≡ Blob b))) }
@@ -45,7 +45,7 @@ pub fn blob_at(row: &Row, at: usize) -> Result<Vec<u8>, Error>
 /// The integer in a column, by its place from 0.
 ///
 /// # Errors
-/// Where the column has no integer.
+/// Where there is no such column, or it has no integer, or for want of memory.
 pub fn int_at(row: &Row, at: usize) -> Result<i64, Error>
     ensures ok { IfOk result (λ n. column row.now at ≡ Int n) }
     ensures err { IfErr result (λ e. e ≢ SqliteFailure OutOfMemory → at < length row.now → ¬ IsInt (column row.now at)) }

@@ -65,7 +65,7 @@ above cells n low =
 -- ---- a query
 
 module _ (means : Means) (params : List Value) (st : State) (name : List ℕ) (terms : List Expr) (version : ℤ)
-    (is : IsNewest means params st.holding.tables name terms version) (snap : Snapshot) (at : IsSeenAbove st version snap) where
+    (is : IsNewest params st.holding.tables name terms version) (snap : Snapshot) (at : IsSeenAbove st version snap) where
   is_changes : same_bytes changes_name name ≡ true
   is_changes = subst (λ (x : List ℕ). same_bytes changes_name x ≡ true) (sym is.changes) (same_itself changes_name)
 
@@ -90,13 +90,13 @@ module _ (means : Means) (params : List Value) (st : State) (name : List ℕ) (t
       (λ i. answer m (query q) (tables_named st (map name_of (one i))))
       ∙ (λ i. answer m (query q) (rows_named st (named i) ∷ []))
       ∙ (λ i. answer m (query q) (rows_there i ∷ []))
-      ∙ answers_above means params regard q j (map row_of (since st.holding.cells (pos 0))) version_place version is.bytes one inner (ap (λ ts. lower_bound params ts version_place) same ∙ is.told)
+      ∙ answers_above means params regard q j (map row_of (since st.holding.cells (pos 0))) version_place version one inner (ap (λ ts. lower_bound params ts version_place) same ∙ is.told)
       ∙ (λ i. answer m (query q) (above_rows i ∷ []))
       ∙ (λ i. answer m (query q) (sym rows_here i ∷ []))
       ∙ (λ i. answer m (query q) (rows_seen snap (sym named i) ∷ []))
       ∙ (λ i. answer m (query q) (map (λ j. rows_seen snap (name_of j)) (sym one i)))
 
 -- the same of tables that are the same
-pub renewed : (means : Means) (params : List Value) (ts us : List Table) (name : List ℕ) (terms : List Expr) (version : ℤ) → ts ≡ us
-    → IsNewest means params ts name terms version → IsNewest means params us name terms version
-renewed means params ts us name terms version e is = subst (λ (x : List Table). IsNewest means params x name terms version) e is
+pub renewed : (params : List Value) (ts us : List Table) (name : List ℕ) (terms : List Expr) (version : ℤ) → ts ≡ us
+    → IsNewest params ts name terms version → IsNewest params us name terms version
+renewed params ts us name terms version e is = subst (λ (x : List Table). IsNewest params x name terms version) e is

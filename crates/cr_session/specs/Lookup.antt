@@ -99,8 +99,7 @@ version_place = 5
 
 -- The terms of a query of the table of changes tell the version above which all changes are stamped on which they can be true;
 -- no table has that name.
-pub record IsNewest (means : Means) (params : List Value) (tables : List Table) (name : List ℕ) (terms : List Expr) (version : ℤ) : Type 0 where
-  pub bytes : OrdersBytes means
+pub record IsNewest (params : List Value) (tables : List Table) (name : List ℕ) (terms : List Expr) (version : ℤ) : Type 0 where
   pub changes : name ≡ changes_name
   pub no_table : find (is_named name) tables ≡ None
   pub from_0 : pos 0 ≤ℤ version

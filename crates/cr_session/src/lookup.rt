@@ -178,21 +178,17 @@ impl<C: Cells> Session<C> {
 
     // The version above which the terms of a query of the table of a name want changes to be stamped, where it is the table of
     // changes and they tell one.
-    fn newest<F: Functions>(
+    fn newest(
         &self,
         alloc: Global,
-        functions: &F,
         tables: &[Table],
         name: &str,
         terms: &[Expr],
         params: &[Value],
     ) -> Result<Option<i64>, AllocError>
-        ensures { IfOk result (λ version. ForSome version (IsNewest (⟦<F as Hosted>⟧.means functions.now) params.now tables.now name.now terms.now)) }
+        ensures { IfOk result (λ version. ForSome version (IsNewest params.now tables.now name.now terms.now)) }
     {
-        if !same_bytes(CHANGES.as_bytes(), name.as_bytes())
-            || table_named(tables, name).is_some()
-            || !compares_bytes(functions)
-        {
+        if !same_bytes(CHANGES.as_bytes(), name.as_bytes()) || table_named(tables, name).is_some() {
             return Ok(None);
         }
         match lower_bound(alloc, terms, params, DB_VERSION)? {
@@ -252,7 +248,7 @@ impl<C: Cells> Session<C> {
         let name = joined.relation.definition.name.as_str();
         let terms = query.filter.as_slice();
         let tables = names.tables.as_slice();
-        match self.newest(alloc, functions, tables, name, terms, params)? {
+        match self.newest(alloc, tables, name, terms, params)? {
             Some(version) => self.see_above(alloc, names, version).map(Seen::Kept),
             None => self.look_once(alloc, functions, names, name, query, params),
         }

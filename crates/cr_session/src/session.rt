@@ -141,6 +141,7 @@ impl<C: Cells> Session<C> {
         ensures device { StaysClean C.is_honest C.is_clean is_want self.old.0 self.new.0 result }
         ensures sound { C.is_clean self.new.0 → IsSound (C.holding self.new.0) }
         ensures names { C.is_clean self.new.0 → Names (standing C.holding self.old) (standing C.holding self.new) result }
+        ensures empty { IfOk result (λ names. (names.cells ≡ []) × (names.kept ≡ [])) }
         ensures whole { IfOk result IsWhole }
     {
         self.replica.names(alloc)

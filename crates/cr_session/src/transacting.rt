@@ -131,7 +131,7 @@ impl<C: Cells> Session<C> {
     }
 
     /// Carries out BEGIN, COMMIT or ROLLBACK, beside any modules. They name no table, so that the store isn't asked which there
-    /// are: it may be broken, and a COMMIT that it refuses ends its transaction. Of the others the store isn't asked anything.
+    /// are: it may be broken, and a COMMIT that it refuses ends its transaction. BEGIN and ROLLBACK leave it untouched.
     ///
     /// # Errors
     /// Why the statement is refused: `Denied`, `Parameters`, `TransactionState`, and of COMMIT what stands against its changes.

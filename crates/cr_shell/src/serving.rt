@@ -317,7 +317,7 @@ fn hear_last<W: Write, T: Served, F: Functions, G: Guarding>(
 /// Runs the commands and the SQL of the lines that it reads, up to `.quit` or the end, and prints the replies: over a fleet of
 /// replicas, or over a session, which is one replica alone and refuses the commands that want others with `NoReplica`. A line that
 /// begins with `.` is a command; the others are SQL, which is run once a line's `;` is its last token, or the input ends. The
-/// host gives functions and collations, and an authorizer, a policy and a commit hook.
+/// host gives functions and collations, and an authorizer, a policy, a commit hook and a listener.
 ///
 /// # Errors
 /// `Read` where the reader failed or the input reached 16,000,000 bytes; an unfinished line isn't run then, nor SQL that no

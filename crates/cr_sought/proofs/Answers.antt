@@ -81,7 +81,7 @@ up_to at n r e = by (get_or r at Null) refl e where
   by (Blob t) is h = absurd cc
 
 pub answers_above : AnswersAbove
-answers_above host params regard q j table at n bytes one inner told =
+answers_above host params regard q j table at n one inner told =
     let m = regarded regard host params in
     let v = view.query q in
     let sources = ap (map view.joining) one in
@@ -89,6 +89,6 @@ answers_above host params regard q j table at n bytes one inner told =
     let front = flat_map view.inner_terms q.joined in
     let none = λ (r : Row) (e : is_above at n r ≡ false).
     (let u = up_to at n r e in
-    ap (option_map (λ b. cond b (single r) [])) (rejects_below host bytes params r regard front q.filter at n u.value told u.is u.low)) in
+    ap (option_map (λ b. cond b (single r) [])) (rejects_below host params r regard front q.filter at n u.value told u.is u.low)) in
     ap (λ o. option_map (finished m v) (option_and_then (shown m v) o))
     (over table ∙ gather_filter (step m v) (is_above at n) none table ∙ sym (over (filter (is_above at n) table)))

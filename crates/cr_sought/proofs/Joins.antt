@@ -235,20 +235,20 @@ module _ (host : Host) (params : List Value) (regard : Regard) (def : TableDef) 
 
   -- on a combination with a row of another key some of the terms is not true
   misses : (f : Row) → Made before front [] f → (r : Row) → Among there r → is_told r ≡ false → (more : Row)
-      → any_missed host bytes params ((f ++ r) ++ more) regard terms ≡ true
+      → any_missed host params ((f ++ r) ++ more) regard terms ≡ true
   misses f made r among out more =
       let k = of_row def kept r among in
       let long = made_long before front f wide made in
       let w : length r ≡ length def.columns = ap length k.2 ∙ row_width def kept k.0 in
       elim (told_or_differs (widths before) def params terms f long r more w (partners before front) (no_row_in f, partners_in before front 0 [] f wide refl made) keys told) [
         | inl so ↦ absurd (let e : true ≡ false = sym so ∙ out in cc)
-        | inr d ↦ differing host bytes params ((f ++ r) ++ more) regard d.0 d.1 terms d.2
+        | inr d ↦ differing host params ((f ++ r) ++ more) regard bytes d.0 d.1 terms d.2
       ]
 
   abbrev missed : Row → Ordered → Bool
-  missed c = is_missed host bytes params c regard
+  missed c = is_missed host params c regard
 
-  of_all : j.is_left ≡ false → (terms ≡ j.on) ⊎ (terms ≡ q.filter) → (c : Row) → any_missed host bytes params c regard terms ≡ true
+  of_all : j.is_left ≡ false → (terms ≡ j.on) ⊎ (terms ≡ q.filter) → (c : Row) → any_missed host params c regard terms ≡ true
       → list_any (missed c) (view.terms q) ≡ true
   of_all inner (inl on) c h =
       of_query (missed c) q.joined before j after (map view.plain q.filter) is inner
@@ -259,17 +259,17 @@ module _ (host : Host) (params : List Value) (regard : Regard) (def : TableDef) 
       (ap (λ (es : List Expr). list_any (missed c) (map view.plain es)) (sym where_) ∙ h)
 
   abbrev Alike : Type 0
-  Alike = LeavesOut host bytes params regard q before j after front there is_told back is wide
+  Alike = LeavesOut host params regard q before j after front there is_told back is wide
 
   inner_alike : j.is_left ≡ false → (terms ≡ j.on) ⊎ (terms ≡ q.filter) → Alike
   inner_alike inner which =
-      inner_leaves_out host bytes params regard q before j after front there is_told back is wide inner
+      inner_leaves_out host params regard q before j after front there is_told back is wide inner
       (all_behind is_safe before j after (ap (list_all is_safe) (sym is) ∙ all_safe))
       (λ f made r among out more. of_all inner which ((f ++ r) ++ more) (misses f made r among out more))
 
   left_alike : j.is_left ≡ true → terms ≡ j.on → Alike
   left_alike brought on =
-      left_leaves_out host bytes params regard q before j after front there is_told back is wide brought
+      left_leaves_out host params regard q before j after front there is_told back is wide brought
       (λ f made r among out more.
       ap (λ (es : List Expr). list_any (missed ((f ++ r) ++ more)) (map view.plain es)) (sym on) ∙ misses f made r among out more)
 

@@ -22,7 +22,6 @@ use Rattle.cr_meaning.specs.View.{Ordered}
 use Rattle.cr_meaning.specs.View as view
 use Rattle.cr_meaning.specs.Meaning.{Regard, regarded}
 use Rattle.cr_meaning.proofs.Limits.{safe}
-use Rattle.cr_exec.specs.Equalities.{OrdersBytes}
 use Rattle.cr_sought.specs.Joins.{AreWide, is_safe, width, widths}
 use Rattle.cr_sought.proofs.Gathered.{all_append, gathered}
 use Rattle.cr_sought.proofs.Pins.{is_missed, missed_rejects}
@@ -257,7 +256,7 @@ module _ (m : Meaning Ordered) where
 as_quiet : (regard : Regard) (host : Host) (params : List Value) (e : Expr) → quiet e ≡ true → (regarded regard host params).quiet (view.plain e) ≡ true
 as_quiet regard host params e h = h
 
-module _ (host : Host) (bytes : OrdersBytes host) (params : List Value) (regard : Regard) (q : Query) (before : List Joined) (j : Joined)
+module _ (host : Host) (params : List Value) (regard : Regard) (q : Query) (before : List Joined) (j : Joined)
     (after : List Joined) (front : List (List Row)) (there : List Row) (p : Row → Bool) (back : List (List Row))
     (is : q.joined ≡ before ++ (j ∷ after)) (wide : AreWide before front) where
   abbrev m : Meaning Ordered
@@ -274,7 +273,7 @@ module _ (host : Host) (bytes : OrdersBytes host) (params : List Value) (regard 
   abbrev pub Misses : List Ordered → Type 0
   Misses terms =
       (f : Row) → Made before front [] f → (r : Row) → Among there r → p r ≡ false → (more : Row)
-      → list_any (is_missed host bytes params ((f ++ r) ++ more) regard) terms ≡ true
+      → list_any (is_missed host params ((f ++ r) ++ more) regard) terms ≡ true
 
   -- on each such combination these terms are not all true, and do not fault
   abbrev pub Rejects : List Ordered → Type 0
@@ -283,7 +282,7 @@ module _ (host : Host) (bytes : OrdersBytes host) (params : List Value) (regard 
       → holds m terms ((f ++ r) ++ more) ≡ Some false
 
   missing_rejects : (terms : List Ordered) → Misses terms → Rejects terms
-  missing_rejects terms misses f made r among out more = missed_rejects host bytes params ((f ++ r) ++ more) regard terms (misses f made r among out more)
+  missing_rejects terms misses f made r among out more = missed_rejects host params ((f ++ r) ++ more) regard terms (misses f made r among out more)
 
   -- a query answers the same without the rows that do not pass
   abbrev pub LeavesOut : Type 0
@@ -331,7 +330,7 @@ module _ (host : Host) (bytes : OrdersBytes host) (params : List Value) (regard 
   rejects_on : Misses ons → (f : Row) → Made before front [] f → (r : Row) → Among there r → p r ≡ false → holds m ons (f ++ r) ≡ Some false
   rejects_on misses f made r among out =
       ap (holds m ons) (sym (append-nil (f ++ r)))
-      ∙ missed_rejects host bytes params ((f ++ r) ++ []) regard ons (misses f made r among out [])
+      ∙ missed_rejects host params ((f ++ r) ++ []) regard ons (misses f made r among out [])
 
   left_step : j.is_left ≡ true → Misses ons → Steps
   left_step brought misses f made =

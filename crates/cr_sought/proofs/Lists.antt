@@ -333,7 +333,7 @@ module _ (host : Host) (params : List Value) (regard : queries.Regard) (limit : 
         let whole : filter (λ t. not (quiet t.expr)) (front ++ map view.plain terms) ≡ view.plain e ∷ f.0 =
         filter-append (λ t. not (quiet t.expr)) front (map view.plain terms) ∙ (λ i. all_quiet i ++ f.1 i) in
         elim (others base def params terms at r c wide stands ws keys g.1 out) [
-          | inl d ↦ rejects host bytes params c regard front terms d
+          | inl d ↦ rejects host params c regard bytes front terms d
           | inr apart ↦
               first_rejects m (safe regard host params) (front ++ map view.plain terms) (view.plain e) f.0 c whole
               (known_so regard (eval_of (queries.at_row (queries.limit_of regard.most e) host params c) e) false (list_misses host bytes params c regard.most limit e at ws list small apart))
@@ -364,7 +364,7 @@ module _ (host : Host) (params : List Value) (regard : queries.Regard) (limit : 
   by_values told_keys r among out =
       elim (told_or_differs (pinned alone params terms) 0 def r r (its_width def kept r among) (stands_alone r) keys told_keys) [
         | inl own ↦ absurd (let e : true ≡ false = sym own ∙ out in cc)
-        | inr d ↦ rejects host bytes params r regard [] terms d
+        | inr d ↦ rejects host params r regard bytes [] terms d
       ]
 
   -- on a row of none of the keys that are sought the terms are not all true, and do not fault
@@ -402,7 +402,7 @@ pub joins_by_list : JoinsByList
 joins_by_list host params regard def q before j after front kept back keys limit bytes keyed are is quiet_on wide inner sought =
     let p = passes def (is_key_of keys) in
     let safe_after = all_behind is_safe before j after (ap (list_all is_safe) (sym is) ∙ all_safe q.joined quiet_on) in
-    rejects_out host bytes params regard q before j after front (rows kept def) p back is wide inner safe_after
+    rejects_out host params regard q before j after front (rows kept def) p back is wide inner safe_after
     (λ f made r among out more.
     listed_rejects host params regard limit bytes def keyed kept are q.filter keys (flat_map view.inner_terms q.joined) (quiet_ons q.joined quiet_on)
     (widths before) sought r ((f ++ r) ++ more) among

@@ -245,7 +245,7 @@ pub then_some : {A B : Type 0} (f : A → Option B) (o : Option A) (b : B) → o
 then_some f None b e = absurd cc
 then_some f (Some a) b e = (a, refl, e)
 
-module _ (host : Host) (bytes : OrdersBytes host) (params : List Value) (row : Row) where
+module _ (host : Host) (params : List Value) (row : Row) where
   abbrev pub here : Setting
   here = queries.at_row None host params row
 
@@ -263,8 +263,8 @@ module _ (host : Host) (bytes : OrdersBytes host) (params : List Value) (row : R
         ∙ untrue (compared host.order op m v w) never,
   )
 
-  misses : (b : Beside) → StandsIn row b → (y : Layer) (at : ℕ) (w : Value) → pin_in b params at y ≡ Some w → (get_or row at Null ≡ w → w ≡ Null) → Misses y
-  misses b stands (Compare c.Equal m x y) at w h differs =
+  misses : (bytes : OrdersBytes host) (b : Beside) → StandsIn row b → (y : Layer) (at : ℕ) (w : Value) → pin_in b params at y ≡ Some w → (get_or row at Null ≡ w → w ≡ Null) → Misses y
+  misses bytes b stands (Compare c.Equal m x y) at w h differs =
       let p = provided (same_bytes m.collation binary) _ w h in
       let v = get_or row at Null in
       elim (chosen (is_column at x) _ _ (Some w) p.1) [
@@ -282,7 +282,7 @@ module _ (host : Host) (bytes : OrdersBytes host) (params : List Value) (row : R
             let same = of_left m.adjusted v k.0 w k.2 (met host bytes m p.0 k.0 v so) in
             null_right host.order m k.0 v (same ∙ differs same) so)))
       ]
-  misses b stands _ at w h differs = absurd cc
+  misses bytes b stands _ at w h differs = absurd cc
 
   misses_above : (y : Layer) (at : ℕ) (n v : ℤ) → bound_in params at y ≡ Some (Int n) → get_or row at Null ≡ Int v → v ≤ℤ n → Misses y
   misses_above (Compare c.Greater m x y) at n v h is low =
@@ -301,10 +301,10 @@ module _ (host : Host) (bytes : OrdersBytes host) (params : List Value) (row : R
     abbrev m : Meant_by Ordered
     m = queries.regarded regard host params
 
-    term_misses : (b : Beside) → StandsIn row b → (e : Expr) (at : ℕ) (w : Value) → pin b params at e ≡ Some w → (get_or row at Null ≡ w → w ≡ Null)
+    term_misses : (bytes : OrdersBytes host) (b : Beside) → StandsIn row b → (e : Expr) (at : ℕ) (w : Value) → pin b params at e ≡ Some w → (get_or row at Null ≡ w → w ≡ Null)
         → (quiet e ≡ true) × (is_true m (view.plain e) row ≡ Some false)
-    term_misses b stands e at w h differs =
-        let k = misses b stands (out-Expr e) at w h differs in
+    term_misses bytes b stands e at w h differs =
+        let k = misses bytes b stands (out-Expr e) at w h differs in
         let so : Meant → Option Bool = λ m. option_and_then (λ v. queries.so_taken regard.truth (truth v)) (queries.taken regard.value m) in
         (k.0, ap (λ b. so (eval_of (queries.at_row (cond b None regard.most) host params row) e)) k.0 ∙ ap so (one_node here e) ∙ known_so regard _ false k.1)
 
@@ -316,18 +316,18 @@ module _ (host : Host) (bytes : OrdersBytes host) (params : List Value) (row : R
     abbrev pub any_missed : List Expr → Bool
     any_missed terms = list_any is_missed (map view.plain terms)
 
-    some_miss : (b : Beside) → StandsIn row b → (terms : List Expr) (at : ℕ) (w : Value) → pinned b params terms at ≡ Some w → (get_or row at Null ≡ w → w ≡ Null)
+    some_miss : (bytes : OrdersBytes host) (b : Beside) → StandsIn row b → (terms : List Expr) (at : ℕ) (w : Value) → pinned b params terms at ≡ Some w → (get_or row at Null ≡ w → w ≡ Null)
         → any_missed terms ≡ true
-    some_miss b stands [] at w h differs = absurd cc
-    some_miss b stands (e ∷ es) at w h differs =
+    some_miss bytes b stands [] at w h differs = absurd cc
+    some_miss bytes b stands (e ∷ es) at w h differs =
         elim (pin b params at e) as (λ o. pin b params at e ≡ o → option_or o (pinned b params es at) ≡ Some w → any_missed (e ∷ es) ≡ true) [
-          | None ↦ λ is k. or_right _ _ (some_miss b stands es at w k differs)
-          | Some u ↦ λ is k. (let t = term_misses b stands e at w (is ∙ k) differs in or_left _ _ (λ i. t.0 i && is_false (t.1 i)))
+          | None ↦ λ is k. or_right _ _ (some_miss bytes b stands es at w k differs)
+          | Some u ↦ λ is k. (let t = term_misses bytes b stands e at w (is ∙ k) differs in or_left _ _ (λ i. t.0 i && is_false (t.1 i)))
         ] refl h
 
     -- some term is not true where the terms pin a column to another value than the combination has there
-    pub differing : (b : Beside) → StandsIn row b → (terms : List Expr) → Differs (pinned b params terms) row → any_missed terms ≡ true
-    differing b stands terms d = some_miss b stands terms d.at d.wanted d.tells d.differs
+    pub differing : (bytes : OrdersBytes host) (b : Beside) → StandsIn row b → (terms : List Expr) → Differs (pinned b params terms) row → any_missed terms ≡ true
+    differing bytes b stands terms d = some_miss bytes b stands terms d.at d.wanted d.tells d.differs
 
     term_misses_above : (e : Expr) (at : ℕ) (n v : ℤ) → bound params at e ≡ Some (Int n) → get_or row at Null ≡ Int v → v ≤ℤ n
         → (quiet e ≡ true) × (is_true m (view.plain e) row ≡ Some false)
@@ -358,11 +358,11 @@ module _ (host : Host) (bytes : OrdersBytes host) (params : List Value) (row : R
         rejected like (record { order_total = λ e. value_total; over_bag = λ e k cs ds s. refl }) (safe regard host params) terms row h
 
     -- terms that pin a column to another value than the row has there are not all true on it, and do not fault
-    pub rejects : (front : List Ordered) (terms : List Expr) → Differs (pinned alone params terms) row
+    pub rejects : (bytes : OrdersBytes host) (front : List Ordered) (terms : List Expr) → Differs (pinned alone params terms) row
         → holds m (front ++ map view.plain terms) row ≡ Some false
-    rejects front terms d =
+    rejects bytes front terms d =
         missed_rejects (front ++ map view.plain terms)
-        (list_any-append is_missed front (map view.plain terms) ∙ or_right _ _ (differing alone (alone_stands row) terms d))
+        (list_any-append is_missed front (map view.plain terms) ∙ or_right _ _ (differing bytes alone (alone_stands row) terms d))
 
     -- so it is with terms that want a column above an integer, where the row has one there that is not
     pub rejects_below : (front : List Ordered) (terms : List Expr) (at : ℕ) (n v : ℤ) → lower_bound params terms at ≡ Some n

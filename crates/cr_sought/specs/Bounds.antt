@@ -15,7 +15,6 @@ use Rattle.cr_bags.specs.Bags.{single}
 use Rattle.cr_query.specs.Query.{Row, answer}
 use Rattle.cr_meaning.specs.View as view
 use Rattle.cr_meaning.specs.Meaning.{Regard, regarded}
-use Rattle.cr_exec.specs.Equalities.{OrdersBytes}
 use Rattle.cr_sought.specs.Sought.{constant, is_column, on_left, on_right}
 
 abbrev pub bound_in : List Value → ℕ → Layer → Option Value
@@ -51,6 +50,6 @@ is_above at n r = not (is_up_to n (get_or r at Null))
 abbrev pub AnswersAbove : Type 0
 AnswersAbove =
     (host : Host) (params : List Value) (regard : Regard) (q : Query) (j : Joined) (rows : List Row) (at : ℕ) (n : ℤ)
-    → OrdersBytes host → q.joined ≡ single j → j.is_left ≡ false → lower_bound params q.filter at ≡ Some n
+    → q.joined ≡ single j → j.is_left ≡ false → lower_bound params q.filter at ≡ Some n
     → answer (regarded regard host params) (view.query q) (single rows)
     ≡ answer (regarded regard host params) (view.query q) (single (filter (is_above at n) rows))

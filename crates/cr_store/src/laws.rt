@@ -18,10 +18,10 @@ pub fn databases_hold_one()
     ensures { HoldsOne }
 {}
 
-/// The store that the connection of a store holds: it holds what that did.
+/// The store that the connection of a store holds: it holds what that did, if that can be read.
 ///
 /// # Errors
-/// `Memory`, or `Store(Refused)`.
+/// `Memory`, or `Store(Refused)`, of what can be read; else what `open` is refused for.
 pub fn reopened<S: Alter>(
     alloc: Global,
     store: Store<S>,

@@ -21,7 +21,7 @@ use Rattle.cr_delta.proofs.WellFormed.{delta_is_well_formed}
 use Rattle.cr_query.specs.Writes.{lacks, has_null, lacks_value, by_key}
 use Rattle.cr_taken.specs.Taken.{IsFitting, AreFitting, AreHeld, Replicates, AreKept}
 use Rattle.cr_taken.proofs.Members.{all_both, all_set}
-use Rattle.cr_taken.proofs.Tables.{in_profile, kept_well_formed, no_fault}
+use Rattle.cr_taken.proofs.Tables.{writable, kept_well_formed, no_fault}
 
 held_so : (fixed lacks : Bool) → fixed ≡ true → lacks ≡ false → (fixed && not lacks) ≡ true
 held_so fixed lacks e f = rw (e, f) refl
@@ -56,5 +56,5 @@ module _ (def : TableDef) (rows : List (List Value)) (whole : lacks_value def ro
   pub changes_are_taken : (tables : List Table) (kept : List Change) (site : List ℕ) → AreKept tables kept → Replicates tables def → AreHeld def rows → IsStrictlySortedBy bytes_cmp (map (key_of def) (by_key def rows)) → first_fault tables (delta def site kept (by_key def rows)) ≡ None
   changes_are_taken tables kept site are there held rise =
       let wanted : AreWanted def (by_key def rows) = record { rows = rows_of held.fitting; in_order = rise } in
-      let formed = delta_is_well_formed def site kept (by_key def rows) (in_profile tables kept def are there) (kept_well_formed tables kept def are there) wanted (small_of held.small) in
+      let formed = delta_is_well_formed def site kept (by_key def rows) (writable tables kept def are there) (kept_well_formed tables kept def are there) wanted (small_of held.small) in
       no_fault tables kept def are there _ (subst (λ cs. AllByRecursion (λ c. IsWellFormed c def) (delta def site cs (by_key def rows))) are.unbeaten formed)

@@ -30,7 +30,7 @@ use Rattle.cr_delta.proofs.Among.{Among}
 use Rattle.cr_delta.proofs.KeyCells.{count_no, place_once, place_within}
 use Rattle.cr_taken.specs.Taken.{IsFitting, AreFitting, Replicates, AreKept}
 use Rattle.cr_taken.proofs.Members.{all_map, all_filter, all_set}
-use Rattle.cr_taken.proofs.Tables.{in_profile, kept_well_formed, well_formed_parts}
+use Rattle.cr_taken.proofs.Tables.{writable, kept_well_formed, well_formed_parts}
 
 abbrev pub Fixed : List ColumnDef → List Value → Type 0
 Fixed cols row = AllByRecursion (λ cell. is_fixed cell.0.affinity cell.1 ≡ true) (zip cols row)
@@ -152,4 +152,4 @@ module _ (tables : List Table) (kept : List Change) (def : TableDef) (are : AreK
 
   pub shown_fit : AreFitting def (rows kept def)
   unfolding rows
-  shown_fit = all_map (λ pk. is_key def pk ≡ true) (IsFitting def) (row kept def) (alive_keys kept def.name) (λ pk is. row_fitting def kept pk (in_profile tables kept def are there).key is) alive_are_keys
+  shown_fit = all_map (λ pk. is_key def pk ≡ true) (IsFitting def) (row kept def) (alive_keys kept def.name) (λ pk is. row_fitting def kept pk (writable tables kept def are there).key is) alive_are_keys

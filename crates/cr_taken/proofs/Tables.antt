@@ -18,7 +18,7 @@ use Rattle.cr_lattice.proofs.ProfileLemmas.{accepted_key, accepted_row, accepted
 use Rattle.cr_lattice.proofs.Tested.{split, and_false, or_false}
 use Rattle.cr_cells.specs.Holding.{Holding, IsSound, kept_of}
 use Rattle.cr_cells.specs.Tables.{is_named, is_table_of, IsFit, IsStored, fault_in, AreWellFormed, first_fault, earlier}
-use Rattle.cr_delta.specs.Wanted.{IsInProfile}
+use Rattle.cr_delta.specs.Wanted.{IsWritable}
 use Rattle.cr_delta.specs.Wanted as wanted
 use Rattle.cr_delta.proofs.Among.{member_has, In_Among, Among_In}
 use Rattle.cr_delta.proofs.Members.{same_is, is_same}
@@ -81,8 +81,8 @@ module _ (tables : List Table) (kept : List Change) (def : TableDef) (are : AreK
   pub fit : IsFit def
   fit = (member_has IsStored tables (replicated def) are.stored (found_member (is_named def.name) tables (replicated def) there)).fit
 
-  pub in_profile : IsInProfile def
-  in_profile = record { key = accepted_key def fit.profile; few = accepted_few def fit.profile; no_row_cid = accepted_row def fit.profile; names = fit.names }
+  pub writable : IsWritable def
+  writable = record { key = accepted_key def fit.profile; few = accepted_few def fit.profile; no_row_cid = accepted_row def fit.profile; names = fit.names }
 
   -- what is kept of the table is well formed for it
   pub kept_well_formed : wanted.AreWellFormed def kept

@@ -18,6 +18,9 @@ returns-clause-reads g c = λ clean.
       };
     }
 
+pub returns-clause-empty : goal.returns-clause-empty
+returns-clause-empty g c = (c.new-3.ensures ∙ c.new-2.ensures.items, c.new-5.ensures ∙ c.new-4.ensures.items)
+
 pub returns-clause-whole : goal.returns-clause-whole
 unfolding keep in_order
 returns-clause-whole g c = record {

@@ -38,7 +38,7 @@ returns-in-Some-clause-finds g c = λ clean.
     let looked = subst (λ (v : ℤ). Looks (IsSeenAbove st v) st new c.see_above.result) (to_z-of_z {w = w64} {z = c.in-Some.version} (search rules)) (c.see_above.ensures.sees clean) in
     seen_as seen.Kept (IsSeenAbove st c.in-Some.version) (Serves by c.args.params.now c.args.query.now st) st new c.see_above.result c.map-in-Some.result c.map-in-Some.ensures.cases
     (λ s l. query_above by c.args.params.now st c.as_str-name.result.now c.as_slice-terms.result.now c.in-Some.version
-    (renewed by c.args.params.now _ _ c.as_str-name.result.now c.as_slice-terms.result.now c.in-Some.version (c.as_slice-tables.ensures ∙ (c.requires.named was).tables) (c.in_ok-version.ensures c.in-Some.version c.in-Some.is)) s l c.args.query.now c.joined-item.result
+    (renewed c.args.params.now _ _ c.as_str-name.result.now c.as_slice-terms.result.now c.in-Some.version (c.as_slice-tables.ensures ∙ (c.requires.named was).tables) (c.in_ok-version.ensures c.in-Some.version c.in-Some.is)) s l c.args.query.now c.joined-item.result
     (sym c.as_slice.ensures ∙ one_of c.as_slice.result.now c.joined-item.result c.in-len1.len_at_least c.in-len1.len_below c.joined-item.is) c.if-joined.false (sym c.as_str-name.ensures.value) (sym c.as_slice-terms.ensures))
     looked.same looked.looks
 
