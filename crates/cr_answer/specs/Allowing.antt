@@ -21,7 +21,7 @@ abbrev pub known_by : (Name → ℕ → Option Definition) → (Name → Bool) �
 known_by function_of has order_of snapshot = record { catalog = catalog_of snapshot; function_of = function_of; has_function = has; has_collation = λ name. is_some (order_of name) }
 
 module _ (known : Known) (answers : Answers) (x : Statement) (count : ℕ) where
-  -- something stands against its names or it is denied; or it has another number of parameters
+  -- something stands against its names or it is denied; or its parameters are not so many, or not from 1 to 999
   abbrev pub IsRefused : Refusal → Type 0
   IsRefused r =
       ((u : Unresolved) × ((resolved known answers x ≡ Err u) × (r ≡ of_unresolved u)))

@@ -56,7 +56,8 @@ fn fitting<T: Drop>(statement: T, is_fit: bool) -> Result<T, Refusal>
 ///
 /// # Errors
 /// The first that stands against its definition or its CASTs, then against its names, then `Denied`, in the order of
-/// `cr_resolved::statement::resolved`; then `Parameters` where it has another number of them; `Memory`.
+/// `cr_resolved::statement::resolved`; then `Parameters` where its greatest parameter has another number, or one's number is none
+/// from 1 to 999; `Memory`.
 pub fn allowed<F: Functions, G: Guarding>(
     alloc: Global,
     functions: &F,

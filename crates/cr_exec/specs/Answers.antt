@@ -21,8 +21,8 @@ pub record IsMeant {Y : Type 0} (host : Host) (params : List Value) (f : Stage Y
 pub record Misses {Y : Type 0} (host : Host) (params : List Value) (f : Stage Y) (e : EvalFault) : Type 0 where
   pub under : (g : Regard) → Counts g e → f (regarded g host params) ≡ None
 
--- The fault that is told is one, and none of the others is needed for it. An evaluation fault is one without a limit on values;
--- a value over its limit is a fault with it.
+-- The fault that is told is one, and none of the others is needed for it. An evaluation fault is one with a limit on values and
+-- without; a value over its limit is a fault with it.
 abbrev pub Faults : {Y : Type 0} → Host → List Value → Stage Y → EvalFault → Type 0
 Faults host params f Overflow = Misses host params f Overflow
 Faults host params f NotANumber = Misses host params f NotANumber

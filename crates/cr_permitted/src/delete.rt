@@ -16,8 +16,8 @@ use cr_questions::sources::Sources;
 use cr_term::query::Delete;
 use std::alloc::{AllocError, Global};
 
-/// The first question of a DELETE that is denied: about the DELETE, and the columns and calls in WHERE. No question behind it
-/// is asked.
+/// The first question of a DELETE that is denied: about the DELETE, and the columns and calls in WHERE. It asks none behind it,
+/// which no clause can say.
 #[tactic(auto, using(crate::proofs::InOrder::delete_from))]
 pub fn delete_denied<'a, G: Answering>(guard: &G, delete: &'a Delete) -> Option<Asked<'a>>
     requires { G.is_faithful guard.now }

@@ -48,7 +48,8 @@ fn or_rows_denied<'a, G: Answering>(
     found
 }
 
-/// The first question of an INSERT that is denied: about the INSERT, and the calls in its rows. No question behind it is asked.
+/// The first question of an INSERT that is denied: about the INSERT, and the calls in its rows. It asks none behind it, which no clause
+/// can say.
 pub fn insert_denied<'a, G: Answering>(guard: &G, insert: &'a Insert) -> Option<Asked<'a>>
     requires { G.is_faithful guard.now }
     ensures { option_map told result ≡ first_denied (G.answers guard.now) (questions (r.Insert insert.now)) }

@@ -20,7 +20,7 @@ use cr_resolve::refusal::Refusal;
 use cr_term::query::Resolved;
 use std::alloc::{AllocError, Global};
 
-/// The first question of a statement that is denied. No question behind it is asked.
+/// The first question of a statement that is denied. It asks none behind it, which no clause can say.
 pub fn denied<'a, G: Answering>(guard: &G, statement: &'a Resolved) -> Option<Asked<'a>>
     requires { G.is_faithful guard.now }
     ensures { option_map told result ≡ first_denied (G.answers guard.now) (questions statement.now) }

@@ -67,7 +67,7 @@ fn or_values_denied<'a, G: Answering>(
 }
 
 /// The first question of an UPDATE that is denied: about its assignments, then about the columns and calls in their values and
-/// in WHERE. No question behind it is asked.
+/// in WHERE. It asks none behind it, which no clause can say.
 pub fn update_denied<'a, G: Answering>(guard: &G, update: &'a Update) -> Option<Asked<'a>>
     requires { G.is_faithful guard.now }
     ensures { option_map told result ≡ first_denied (G.answers guard.now) (questions (r.Update update.now)) }

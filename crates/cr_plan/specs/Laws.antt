@@ -28,7 +28,8 @@ abbrev pub AreOf : Joined → List Row → Type 0
 AreOf j rows = AllByRecursion (λ r. length r ≡ width j) rows
 
 -- Whatever a module chose of the constraints that the terms of a SELECT are which a table of it is told, whatever order it was
--- offered, and whatever stands beside it: the answer over what it gave is that over all its rows, faults included.
+-- offered, and whatever stands beside it: the answer over what it gave is that over all its rows, and there is none just where there is
+-- none over these.
 abbrev pub AnswersByPlan : Type 0
 AnswersByPlan =
     (host : Host) (params : List Value) (most : Option ℕ) (q : Query) (before : List Joined) (j : Joined) (after : List Joined)

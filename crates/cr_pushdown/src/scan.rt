@@ -1,6 +1,6 @@
 //! The rows of a table that a WHERE may keep, read page by page.
 
-ghost use Rattle.std.specs.Prelude.{◌≡◌, ◌<◌, filter, length, IfOk, MatchOption};
+ghost use Rattle.std.specs.Prelude.{◌≡◌, ◌<◌, ◌≤◌, filter, length, IfOk, MatchOption};
 ghost use Rattle.std.specs.List.Sorted.{IsSortedBy};
 ghost use Rattle.std.specs.Option.{ForSome, option_copied};
 ghost use Rattle.cr_lattice.specs.Keep.{join, keep};
@@ -170,7 +170,7 @@ impl<'a> Scan<'a> {
     /// `params` are the parameters' values, from number 1 on.
     ///
     /// # Errors
-    /// `Memory`, or `Store(Refused)`; then the reading is over.
+    /// `Memory`, or `Store(Refused)`; then the reading serves no more.
     pub fn next_page<C: Cells, F: Functions>(
         &mut self,
         alloc: Global,
@@ -235,6 +235,7 @@ pub fn passing_rows<C: Cells, F: Functions>(
         (λ found. MatchOption found
         (most < length (passing (⟦<F as Hosted>⟧.means functions.now) params.now terms.now def.now (join (kept_of (C.holding replica.old)) changes.now)))
         (λ rows. rows ≡ passing (⟦<F as Hosted>⟧.means functions.now) params.now terms.now def.now (join (kept_of (C.holding replica.old)) changes.now))) }
+    ensures few { IfOk result (λ found. ForSome found (λ rows. length rows ≤ most)) }
     ensures wide { IfOk result (λ found. ForSome found (AreWide def.now.columns)) }
 {
     let own = own_changes(alloc, def, changes)?;

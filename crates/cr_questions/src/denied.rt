@@ -57,7 +57,7 @@ fn own_denial<'a, G: Answering>(
 }
 
 /// What was found, else the first question of an expression that is denied: from left to right, a call's before those of
-/// its arguments. No question behind it is asked.
+/// its arguments. It asks none behind it, which no clause can say.
 #[cycle(denied)]
 #[tactic(auto, unfolding(crate::specs::Asked::or_first_denied), using(crate::proofs::Denials::node_denied))]
 pub fn or_denied<'a, G: Answering>(

@@ -159,7 +159,7 @@ fn or_any_bare_denied<'a, G: Answering>(
 }
 
 /// The first question of a SELECT that is denied: about the SELECT, its columns and calls in source order, and the tables
-/// that no column is referred to of. No question behind it is asked.
+/// that no column is referred to of. It asks none behind it, which no clause can say.
 pub fn select_denied<'a, G: Answering>(guard: &G, query: &'a Query) -> Option<Asked<'a>>
     requires { G.is_faithful guard.now }
     ensures { option_map told result ≡ first_denied (G.answers guard.now) (select_questions query.now) }

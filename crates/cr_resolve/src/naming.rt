@@ -6,7 +6,7 @@ use cr_lattice::catalog::Catalog;
 
 /// What a statement may name: tables and modules, functions and collations.
 pub trait Naming {
-    ghost use Rattle.std.specs.Prelude.{◌≡◌};
+    ghost use Rattle.std.specs.Prelude.{◌≡◌, ◌↔◌, ℕ, IsSome, IsTrue};
     ghost use Rattle.cr_resolve.specs.Known.{Known};
 
     /// All that it may name, as one record.
@@ -22,7 +22,8 @@ pub trait Naming {
 
     /// Whether the host has a function of that name, for calls of some number of arguments.
     fn has_function(&self, name: &str) -> bool
-        ensures { result ≡ (known self.now).has_function name.now };
+        ensures value { result ≡ (known self.now).has_function name.now }
+        ensures names { IsTrue result ↔ ((count : ℕ) × IsSome ((known self.now).function_of name.now count)) };
 
     /// Whether there is a collation of that name.
     fn has_collation(&self, name: &str) -> bool

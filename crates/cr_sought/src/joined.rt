@@ -82,9 +82,9 @@ fn keys_by<'a>(
 }
 
 /// The packed keys of the rows that can be joined with rows of other tables, by the first of these by which the terms tell
-/// them, one for each of its rows at most; `None` where they do not tell them by any. They tell them where for each column of
-/// the key one of them is `column = operand` or `operand = column`, the operand a constant or a column of that other table,
-/// compared byte by byte and with the column's value as it is. A NULL joins no row.
+/// them, one for each of its rows at most, and so none by one without rows; `None` where they do not tell them by any. They
+/// tell them where for each column of the key one of them is `column = operand` or `operand = column`, the operand a constant
+/// or a column of that other table, compared byte by byte and with the column's value as it is. A NULL joins no row.
 ///
 /// Fails for want of memory alone.
 pub fn joined_keys<'a>(

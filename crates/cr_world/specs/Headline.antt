@@ -108,7 +108,7 @@ module _ {S E : Type 0} (l : Language S E) (k : Closures) where
       → l.is_select s ≡ true → l.is_free s ≡ true → now st ≡ now new → AllByRecursion (HaveTable st new) (l.names s)
       → Answers l host st params s r ms → Answers l host new params s t ns → SayTheSame r t
 
-  -- Blindness: for each of the query's tables, those of its columns whose READ is answered OK. Two sessions whose names stand
+  -- Blindness: for each of the query's tables some of its columns, those that stand in it among them. Two sessions whose names stand
   -- for the same, and whose tables have the same rows once NULL is put for the other columns, answer the same.
   abbrev pub Blind : Type 0
   Blind = (host : Host) (st new : State) (params : List Value) (s : S) (r t : Result Reply Refusal) (ms ns : List ModuleState)

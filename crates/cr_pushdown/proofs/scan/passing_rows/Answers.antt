@@ -1,4 +1,4 @@
-use Rattle.std.proofs.Common.{◌≡◌, ◌∙◌, ◌++◌, List, [], append-nil, append_assoc, ap, cond, length, refl, rules, subst, sym}
+use Rattle.std.proofs.Common.{◌≡◌, ◌≤◌, ◌∙◌, ◌++◌, List, [], append-nil, append_assoc, ap, cond, length, refl, rules, subst, sym}
 use Rattle.cr_value.proofs.Fields.{some_is}
 use Rattle.cr_lattice.specs.declared.table.TableDef.{TableDef}
 use Rattle.cr_lattice.specs.Keep.{join}
@@ -24,6 +24,7 @@ loop-init g c =
       same = λ clean. refl;
       stands = c.new-scan.ensures.stands;
       table = c.new-scan.ensures.begins.table;
+      few = search rules;
       wide = subst (AreWide c.args.def.now.columns) (sym c.new-out.ensures.items) tt;
       so_far = λ clean.
           let kept = kept_of (g.C.Cells.holding c.args.replica.now) in
@@ -46,6 +47,7 @@ loop-preserved g c =
       same = λ clean. (reads clean).same ∙ inv.same (device.was_clean clean);
       stands = c.in-Ok.ensures.stands;
       table = c.next_page.ensures.table ∙ inv.table;
+      few = search rules;
       wide =
           subst (AreWide c.args.def.now.columns) (sym added)
           (all_append (λ r. length r ≡ length c.args.def.now.columns) c.loop.out.items c.in-Ok.page.items inv.wide
@@ -77,3 +79,7 @@ returns-then-is_at_end-clause-reads g c clean =
 pub returns-then-is_at_end-clause-wide : goal.returns-then-is_at_end-clause-wide
 returns-then-is_at_end-clause-wide g c = λ x is.
     subst (AreWide c.args.def.now.columns) (sym c.new.ensures ∙ some_is _ x is) c.loop.invariant.wide
+
+pub returns-then-is_at_end-clause-few : goal.returns-then-is_at_end-clause-few
+returns-then-is_at_end-clause-few g c = λ x is.
+    subst (λ (rows : List Row). length rows ≤ c.args.most) (sym c.new.ensures ∙ some_is _ x is) c.loop.invariant.few

@@ -1,4 +1,4 @@
-use Rattle.std.proofs.Common.{◌≡◌, ◌++◌}
+use Rattle.std.proofs.Common.{◌≡◌, ◌≤◌, ◌++◌, length}
 use Rattle.cr_lattice.specs.Keep.{join}
 use Rattle.cr_cells.specs.Holding.{kept_of}
 use Rattle.cr_module.specs.Lawful.{AreWide}
@@ -18,6 +18,7 @@ invariant-loop g l =
       same : g.C.Cells.is_clean l.replica → g.C.Cells.holding l.replica ≡ g.C.Cells.holding l.fn.replica;
       stands : Stands l.scan;
       table : l.scan.def.now ≡ l.def;
+      few : length l.out.items ≤ l.most;
       wide : AreWide l.def.columns l.out.items;
       so_far : g.C.Cells.is_clean l.replica → l.out.items ++ rows_left by l.params l.terms kept l.scan ≡ passing by l.params l.terms l.def (join kept l.changes);
     }
