@@ -1,17 +1,14 @@
 -- What is told of a file whose database gives no store.
 use Rattle.std.proofs.Common.{◌≡◌, ℕ, Bool, true, false, List, Option, Some, None, Result, Ok, Err, refl, sym, subst}
-use Rattle.std.specs.Prelude.{IfOk, IfErr, MatchResult}
-use Rattle.sqlite.specs.Effect.{Database}
+use Rattle.std.specs.Prelude.{IfErr, MatchResult}
 use Rattle.cr_cells.specs.declared.store.CellsError.{CellsError}
 use Rattle.cr_cells.specs.declared.store.CellsError.TheVariants as error
 use Rattle.cr_cells.specs.declared.store.StoreFault.TheVariants as fault
 use Rattle.cr_cells.specs.Calls.{IsRefusal}
-use Rattle.cr_cells.specs.Holding.{Holding}
-use Rattle.cr_store.specs.Making.{has_store}
-use Rattle.cr_store.specs.Opening.{IsHeld, IsOpenError}
+use Rattle.cr_store.specs.Opening.{IsOpenError}
 use Rattle.cr_file.specs.declared.FileFault.{FileFault}
 use Rattle.cr_file.specs.declared.FileFault.TheVariants.{NoSite, Unopened, Cells}
-use Rattle.cr_file.specs.Opening.{FailsInFile, FailsToMake, FailsToOpen, IsOfDatabase, IsStoreOf}
+use Rattle.cr_file.specs.Opening.{FailsInFile, FailsToMake, FailsToOpen}
 
 apart : (P : Type 0) → ((P → ⊥) → ⊥) → (P → ⊥) → ⊥
 apart P f g = f g
@@ -31,13 +28,6 @@ refused_by error.VersionLimit false P busy foreign why =
     absurd (apart P (λ no. (let e = foreign refl no in let z : ⊥ = cc in z)) (λ p. why refl p))
 
 -- ---- the store of a file
-
-pub of_database : {A : Type 0} (is_clean : A → Type 0) (holding : A → Holding) (site : Option (List ℕ)) (db : Database) (result : Result A FileFault) (b : Bool) → has_store db.schema ≡ b
-    → (b ≡ true → MatchResult result (λ m. is_clean m → IsHeld db (holding m)) FailsToOpen) → (b ≡ false → MatchResult result (λ m. is_clean m → IsStoreOf site (holding m)) (FailsToMake site))
-    → IfOk result (λ m. is_clean m → (x : Database) × IsOfDatabase site x (holding m))
-of_database is_clean holding site db (Ok m) true e opens makes = λ clean. (db, rw e (opens refl clean))
-of_database is_clean holding site db (Ok m) false e opens makes = λ clean. (db, rw e (makes refl clean))
-of_database is_clean holding site db (Err f) b e opens makes = tt
 
 by_opening : (e : CellsError) → IsRefusal e → IsOpenError e
 by_opening error.Memory told = tt

@@ -1,10 +1,8 @@
 -- What becomes of a file's database as a store. Source: this project's own.
-use Rattle.std.specs.Prelude.{◌≡◌, ℕ, List, Option, Some, None, MatchBool}
-use Rattle.sqlite.specs.Effect.{Database}
+use Rattle.std.specs.Prelude.{◌≡◌, ℕ, List, Option, Some, None}
 use Rattle.cr_cells.specs.Calls.{IsRefusal}
 use Rattle.cr_cells.specs.Holding.{Holding, empty_holding}
-use Rattle.cr_store.specs.Making.{has_store}
-use Rattle.cr_store.specs.Opening.{IsHeld, IsOpenError}
+use Rattle.cr_store.specs.Opening.{IsOpenError}
 use Rattle.cr_file.specs.declared.FileFault.{FileFault}
 use Rattle.cr_file.specs.declared.FileFault.TheVariants.{NoSite, Unopened, Cells}
 
@@ -31,7 +29,3 @@ FailsInFile site (Cells e) = IsOpenError e
 abbrev pub IsStoreOf : Option (List ℕ) → Holding → Type 0
 IsStoreOf None h = ⊥
 IsStoreOf (Some site) h = h ≡ empty_holding site
-
--- what a database that has tables of a store holds, or else a new store of the site
-abbrev pub IsOfDatabase : Option (List ℕ) → Database → Holding → Type 0
-IsOfDatabase site db h = MatchBool (has_store db.schema) (IsHeld db h) (IsStoreOf site h)

@@ -2,7 +2,6 @@
 #![tactic(auto)]
 
 ghost use Rattle.std.specs.Prelude.{◌≡◌, ◌≢◌, true, false, None, Err, IfOk, IfErr, MatchResult};
-ghost use Rattle.sqlite.specs.Effect.{Database};
 ghost use Rattle.sqlite.specs.Held.{state};
 ghost use Rattle.sqlite.specs.Files.{over_files};
 ghost use Rattle.cr_rows.specs.Schema.{no_schema};
@@ -15,7 +14,7 @@ ghost use Rattle.cr_store.specs.Opening.{IsHeld, IsOpenError};
 ghost use Rattle.cr_store.specs.Opening as opening;
 ghost use Rattle.cr_store.specs.Schema.{schema_of};
 ghost use Rattle.cr_file.specs.declared.FileFault.TheVariants.{NoSite};
-ghost use Rattle.cr_file.specs.Opening.{FailsInFile, FailsToMake, FailsToOpen, IsOfDatabase, IsStoreOf};
+ghost use Rattle.cr_file.specs.Opening.{FailsInFile, FailsToMake, FailsToOpen, IsStoreOf};
 
 use cr_cells::page::Page;
 use cr_cells::store::{Cells, CellsError};
@@ -196,8 +195,11 @@ impl FileCells {
         }
     }
 
-    // The store that a database holds, or, where it has none of a store's tables, a new one of the site.
-    fn open_or_create(
+    /// The store that a database holds, or, where it has none of a store's tables, a new one of the site.
+    ///
+    /// # Errors
+    /// `NoSite` where a store is to be made and there is no site; else `Cells` with what `open` or `create` tells.
+    pub fn open_or_create(
         alloc: Global,
         conn: Connection<FileStore<File>>,
         site: Option<Site>,
@@ -224,15 +226,14 @@ impl FileCells {
         }
     }
 
-    /// The store that a file holds. Where it holds none of a store's tables, one of the site is made there; a file that isn't
-    /// there becomes a new database.
+    /// The store that a file holds, as `open_or_create` gives it of the file's database. Where it holds none of a store's tables, one
+    /// of the site is made there; a file that isn't there becomes a new database.
     ///
     /// # Errors
     /// `NoSite` where a store is to be made and there is no site; then no file is made, and one without a byte stays so.
     /// `Unopened` where the file can't be opened as a database, for want of memory, too. `Cells` with what `open` and `create` tell,
     /// as where its store is damaged or it holds something else. To be opened, a database is left in WAL mode.
     pub fn in_file(rt: &HostRuntime, path: &str, site: Option<Site>) -> Result<FileCells, FileFault>
-        ensures holds { IfOk result (λ m. ⟦<FileCells as Cells>⟧.is_clean m → (db : Database) × IsOfDatabase site db (⟦<FileCells as Cells>⟧.holding m)) }
         ensures why { IfErr result (FailsInFile site) }
         ensures clean { IfOk result (λ m. ⟦<FileCells as Cells>⟧.is_honest m → ⟦<FileCells as Cells>⟧.is_clean m) }
     {

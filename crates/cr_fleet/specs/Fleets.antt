@@ -5,9 +5,11 @@ use Rattle.cr_lattice.specs.Check.{same_bytes}
 use Rattle.cr_lattice.specs.Sync.{Knows}
 use Rattle.cr_cells.specs.Holding.{kept_of}
 use Rattle.cr_cells.specs.Marks.{seen_of}
-use Rattle.cr_guard.specs.Policy.{Rules}
+use Rattle.cr_guard.specs.Policy.{Rules, with_rule}
 use Rattle.cr_world.specs.declared.command.Command.{Command}
+use Rattle.cr_world.specs.declared.command.Command.TheVariants.{Policy}
 use Rattle.cr_world.specs.declared.command.FleetReply.{FleetReply}
+use Rattle.cr_world.specs.declared.command.FleetReply.TheVariants.{Done}
 use Rattle.cr_world.specs.Language.{Language}
 use Rattle.cr_world.specs.State.{State, in_transaction}
 use Rattle.cr_world.specs.World.{World, Member, Closures, AllKeep}
@@ -64,6 +66,11 @@ pub record Steps {S E C : Type 0} (l : Language S E) (k : Closures) (is_clean : 
   pub was_clean : AreClean is_clean new → AreClean is_clean old
   pub stays_clean : AreClean is_clean old → tells_want reply ≡ false → AreClean is_clean new
   pub steps : AreClean is_clean new → (w : World) → Shows stands w before old → Answers l k w command reply × Shows stands (after l k w command reply) rules new
+
+-- the policy behind a command: a rule that was added is in it, whatever becomes of the stores
+abbrev pub rules_after : Command → FleetReply → Rules → Rules
+rules_after (Policy rule) Done rules = with_rule rule rules
+rules_after command reply rules = rules
 
 -- the place of the replica of a name
 abbrev pub place_in : {C : Type 0} → FleetOf C → List ℕ → Option ℕ

@@ -95,8 +95,8 @@ impl<C: NewCells> Fleet<C> {
     ghost use Rattle.cr_session.specs.Sessions.{clean, is_own, reply_of, standing};
     ghost use Rattle.cr_world.specs.Headline.{Converges, RowsConverge};
     ghost use Rattle.cr_world.specs.Run.{Run, world_after};
-    ghost use Rattle.cr_fleet.specs.Hearing.{HearsRun, HearsStep};
-    ghost use Rattle.cr_fleet.specs.Fleets.{Steps, AreClean, IsUnharmed, Shows, IsOffered, is_free_name};
+    ghost use Rattle.cr_fleet.specs.Hearing.{AreSteps, HearsRun, HearsStep};
+    ghost use Rattle.cr_fleet.specs.Fleets.{Steps, AreClean, IsUnharmed, Shows, IsOffered, is_free_name, rules_after};
 
     /// A fleet without replicas.
     pub fn new(alloc: Global) -> Fleet<C>
@@ -133,7 +133,8 @@ impl<C: NewCells> Fleet<C> {
     /// `BadName` where the name is not of 1 to 64 ASCII letters and digits, or is a replica's; `Limit` where there are 64
     /// replicas; `SameSite` where a replica has the site; `Memory`, or `Store`. Then nothing is changed.
     pub fn open(&mut self, alloc: Global, name: &Text, site: Site) -> Result<(), Refusal>
-        ensures { (l : Language Statement Ordered) (k : Closures) (rules : Rules) → Steps l k (clean C.is_clean) (standing C.holding) rules self.old (Open name.now site) (reply_of result) rules self.new }
+        ensures steps { (l : Language Statement Ordered) (k : Closures) (rules : Rules) → Steps l k (clean C.is_clean) (standing C.holding) rules self.old (Open name.now site) (reply_of result) rules self.new }
+        ensures refused { OnErr result (self.new ≡ self.old) }
     {
         if !self.is_free(name.as_str()) {
             return Err(Refusal::BadName(name.copy(alloc)?));
@@ -163,6 +164,7 @@ impl<C: NewCells> Fleet<C> {
         requires { G.is_faithful guard.old }
         ensures steps { (l : Language Statement Ordered) → Steps l (⟦<G as Watching>⟧.closures guard.old) (clean C.is_clean) (standing C.holding) (G.rules guard.old) self.now (Policy rule.now) result (G.rules guard.new) self.now }
         ensures heard { (l : Language Statement Ordered) → HearsStep l (⟦<G as Watching>⟧.closures guard.old) (⟦<G as Watching>⟧.hears) (clean C.is_clean) (standing C.holding) guard.old (G.rules guard.old) self.now (Policy rule.now) result self.now guard.new }
+        ensures rules { G.rules guard.new ≡ rules_after (Policy rule.now) result (G.rules guard.old) }
         ensures closures { ⟦<G as Watching>⟧.closures guard.new ≡ ⟦<G as Watching>⟧.closures guard.old }
         ensures noting { G.noting guard.new ≡ G.noting guard.old }
         ensures faithful { G.is_faithful guard.new }
@@ -188,6 +190,7 @@ impl<C: NewCells> Fleet<C> {
         ensures steps { (has : List ℕ → Bool) → ⟦<F as Speaking>⟧.are_names functions.now has
             → Steps (⟦<F as Speaking>⟧.language functions.now has) (⟦<G as Watching>⟧.closures guard.old) (clean C.is_clean) (standing C.holding) (G.rules guard.old) self.old command.now result (G.rules guard.new) self.new
             × HearsStep (⟦<F as Speaking>⟧.language functions.now has) (⟦<G as Watching>⟧.closures guard.old) (⟦<G as Watching>⟧.hears) (clean C.is_clean) (standing C.holding) guard.old (G.rules guard.old) self.old command.now result self.new guard.new }
+        ensures rules { G.rules guard.new ≡ G.rules guard.old }
         ensures closures { ⟦<G as Watching>⟧.closures guard.new ≡ ⟦<G as Watching>⟧.closures guard.old }
         ensures noting { G.noting guard.new ≡ G.noting guard.old }
         ensures faithful { G.is_faithful guard.new }
@@ -205,6 +208,7 @@ impl<C: NewCells> Fleet<C> {
         requires { G.is_faithful guard.old }
         ensures steps { (l : Language Statement Ordered) → Steps l (⟦<G as Watching>⟧.closures guard.old) (clean C.is_clean) (standing C.holding) (G.rules guard.old) self.old (Pull name.now) result (G.rules guard.new) self.new
             × HearsStep l (⟦<G as Watching>⟧.closures guard.old) (⟦<G as Watching>⟧.hears) (clean C.is_clean) (standing C.holding) guard.old (G.rules guard.old) self.old (Pull name.now) result self.new guard.new }
+        ensures rules { G.rules guard.new ≡ G.rules guard.old }
         ensures closures { ⟦<G as Watching>⟧.closures guard.new ≡ ⟦<G as Watching>⟧.closures guard.old }
         ensures noting { G.noting guard.new ≡ G.noting guard.old }
         ensures faithful { G.is_faithful guard.new }
@@ -284,6 +288,7 @@ impl<C: NewCells> Fleet<C> {
         requires { G.is_faithful guard.old }
         ensures steps { (l : Language Statement Ordered) → Steps l (⟦<G as Watching>⟧.closures guard.old) (clean C.is_clean) (standing C.holding) (G.rules guard.old) self.old (PullSince name.now) result (G.rules guard.new) self.new
             × HearsStep l (⟦<G as Watching>⟧.closures guard.old) (⟦<G as Watching>⟧.hears) (clean C.is_clean) (standing C.holding) guard.old (G.rules guard.old) self.old (PullSince name.now) result self.new guard.new }
+        ensures rules { G.rules guard.new ≡ G.rules guard.old }
         ensures closures { ⟦<G as Watching>⟧.closures guard.new ≡ ⟦<G as Watching>⟧.closures guard.old }
         ensures noting { G.noting guard.new ≡ G.noting guard.old }
         ensures faithful { G.is_faithful guard.new }
@@ -332,6 +337,7 @@ impl<C: NewCells> Fleet<C> {
             → Steps (⟦<F as Speaking>⟧.language functions.now has) (⟦<G as Watching>⟧.closures guard.old) (clean C.is_clean) (standing C.holding) (G.rules guard.old) self.old command.now result (G.rules guard.new) self.new }
         ensures heard { (has : List ℕ → Bool) → ⟦<F as Speaking>⟧.are_names functions.now has
             → HearsStep (⟦<F as Speaking>⟧.language functions.now has) (⟦<G as Watching>⟧.closures guard.old) (⟦<G as Watching>⟧.hears) (clean C.is_clean) (standing C.holding) guard.old (G.rules guard.old) self.old command.now result self.new guard.new }
+        ensures rules { G.rules guard.new ≡ rules_after command.now result (G.rules guard.old) }
         ensures closures { ⟦<G as Watching>⟧.closures guard.new ≡ ⟦<G as Watching>⟧.closures guard.old }
         ensures noting { G.noting guard.new ≡ G.noting guard.old }
         ensures faithful { G.is_faithful guard.new }
@@ -379,6 +385,8 @@ impl<C: NewCells> Fleet<C> {
         ensures heard { IfOk result (λ replies. (has : List ℕ → Bool) → ⟦<F as Speaking>⟧.are_names functions.now has
             → IsUnharmed (clean C.is_clean) self.old replies.items self.new → (w : World) → Shows (standing C.holding) w (G.rules guard.old) self.old
             → HearsRun (⟦<F as Speaking>⟧.language functions.now has) (⟦<G as Watching>⟧.closures guard.old) (⟦<G as Watching>⟧.hears) guard.old w commands.now replies.items guard.new) }
+        ensures steps { IfOk result (λ replies. (has : List ℕ → Bool) → ⟦<F as Speaking>⟧.are_names functions.now has
+            → AreSteps (⟦<F as Speaking>⟧.language functions.now has) (⟦<G as Watching>⟧.closures guard.old) (⟦<G as Watching>⟧.hears) (clean C.is_clean) (standing C.holding) G.rules guard.old self.old commands.now replies.items guard.new self.new) }
         ensures refused { OnErr result (self.new ≡ self.old) }
         ensures unasked { OnErr result (guard.new ≡ guard.old) }
         ensures closures { ⟦<G as Watching>⟧.closures guard.new ≡ ⟦<G as Watching>⟧.closures guard.old }

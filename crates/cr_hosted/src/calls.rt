@@ -35,7 +35,7 @@ fn of_taken_name(alloc: Global, def: &TableDef) -> Refusal
 }
 
 impl<C: Cells, M: Module> HostedSession<C, M> {
-    ghost use Rattle.std.specs.Prelude.{◌≤ℤ◌, ℕ, Bool, List, None, Some, pos, true};
+    ghost use Rattle.std.specs.Prelude.{◌≤ℤ◌, ℕ, Bool, List, None, Some, Err, pos, true, is_some};
     ghost use Rattle.cr_cells.specs.Calls.{Reads, StaysClean, is_want};
     ghost use Rattle.cr_cells.specs.Marks.{seen_of};
     ghost use Rattle.cr_cells.specs.Tables.{has_folded_names};
@@ -45,6 +45,7 @@ impl<C: Cells, M: Module> HostedSession<C, M> {
     ghost use Rattle.cr_tree.specs.declared.statement.Statement.{Statement};
     ghost use Rattle.cr_world.specs.declared.command.Command.TheVariants.{Define, Rows, Changes};
     ghost use Rattle.cr_world.specs.declared.command.Declaration.TheVariants as declared;
+    ghost use Rattle.cr_world.specs.declared.refusal.Refusal.TheVariants as refusal;
     ghost use Rattle.cr_world.specs.Language.{Language};
     ghost use Rattle.cr_world.specs.State.{heard_between};
     ghost use Rattle.cr_world.specs.Statement.{Host};
@@ -62,6 +63,7 @@ impl<C: Cells, M: Module> HostedSession<C, M> {
     ) -> Result<(), Refusal>
         requires { has_folded_names def.now ≡ true }
         ensures does { (has : List ℕ → Bool) (host : Host) → Does (⟦<F as Speaking>⟧.language functions.now has) host (⟦<HostedSession<C, M> as Executor>⟧.is_honest) (⟦<HostedSession<C, M> as Executor>⟧.is_clean) (⟦<HostedSession<C, M> as Executor>⟧.stands) self.old (Define (declared.Table def.now)) (reply_of result) self.new }
+        ensures pending { self.new.session.1 ≡ self.old.session.1 }
         ensures modules { self.new.modules ≡ self.old.modules }
     {
         if self.modules.has(def.name.as_str()) {
@@ -104,6 +106,7 @@ impl<C: Cells, M: Module> HostedSession<C, M> {
     /// `NoSuchTable` where no table has the name, which is looked up as it stands; `Memory`, or `Store`.
     pub fn rows_of(&mut self, alloc: Global, name: &str) -> Result<Items<Row>, Refusal>
         ensures does { (l : Language Statement Ordered) (host : Host) → Does l host (honest C.is_honest) (clean C.is_clean) (standing C.holding) self.old.session (Rows name.now) (rows_reply result) self.new.session }
+        ensures pending { self.new.session.1 ≡ self.old.session.1 }
         ensures modules { self.new.modules ≡ self.old.modules }
     {
         self.session.rows_of(alloc, name)
@@ -115,6 +118,7 @@ impl<C: Cells, M: Module> HostedSession<C, M> {
     /// `Memory`, or `Store(Refused)`.
     pub fn changes_since(&mut self, alloc: Global, version: i64) -> Result<Items<Stamped>, Refusal>
         ensures does { (l : Language Statement Ordered) (host : Host) → Does l host (honest C.is_honest) (clean C.is_clean) (standing C.holding) self.old.session (Changes version) (changes_reply result) self.new.session }
+        ensures pending { self.new.session.1 ≡ self.old.session.1 }
         ensures modules { self.new.modules ≡ self.old.modules }
     {
         self.session.changes_since(alloc, version)
@@ -132,9 +136,10 @@ impl<C: Cells, M: Module> HostedSession<C, M> {
     ) -> Result<(), Refusal>
         requires { G.is_faithful guard.old }
         ensures takes { TakesUnless (honest C.is_honest) (clean C.is_clean) (standing C.holding) (λ st. take_cause (⟦<G as Watching>⟧.host guard.old) st changes.now None) self.old.session changes.now None result self.new.session }
-        ensures at_once { C.is_clean self.old.session.0 → IsToldAtOnce (at_once (standing C.holding self.old.session) None) self.old.session result self.new.session }
+        ensures at_once { IsToldAtOnce (at_once (standing C.holding self.old.session) None) self.old.session result self.new.session }
         ensures guard { ⟦<G as Watching>⟧.stays guard.old guard.new }
         ensures heard { C.is_clean self.new.session.0 → Hears (⟦<G as Watching>⟧.hears guard.old guard.new) (heard_between (standing C.holding self.old.session) (standing C.holding self.new.session)) result }
+        ensures pending { self.new.session.1 ≡ self.old.session.1 }
         ensures modules { self.new.modules ≡ self.old.modules }
     {
         self.session.take(alloc, guard, changes)
@@ -156,8 +161,10 @@ impl<C: Cells, M: Module> HostedSession<C, M> {
         requires from_0 { pos 0 ≤ℤ mark.1 }
         ensures takes { TakesUnless (honest C.is_honest) (clean C.is_clean) (standing C.holding) (λ st. take_cause (⟦<G as Watching>⟧.host guard.old) st changes.now (Some mark)) self.old.session changes.now (Some mark) result self.new.session }
         ensures at_once { C.is_clean self.old.session.0 → IsToldAtOnce (at_once (standing C.holding self.old.session) (Some mark)) self.old.session result self.new.session }
+        ensures inside { is_some self.old.session.1 ≡ true → (result ≡ Err refusal.TransactionState) × (self.new.session ≡ self.old.session) }
         ensures guard { ⟦<G as Watching>⟧.stays guard.old guard.new }
         ensures heard { C.is_clean self.new.session.0 → Hears (⟦<G as Watching>⟧.hears guard.old guard.new) (heard_between (standing C.holding self.old.session) (standing C.holding self.new.session)) result }
+        ensures pending { self.new.session.1 ≡ self.old.session.1 }
         ensures modules { self.new.modules ≡ self.old.modules }
     {
         self.session.take_from(alloc, guard, changes, mark)
@@ -174,12 +181,15 @@ impl<C: Cells, M: Module> HostedSession<C, M> {
         peer: &mut Session<D>,
     ) -> Result<(), Refusal>
         requires { G.is_faithful guard.old }
-        ensures pulls { PullsUnless (honest C.is_honest) (clean C.is_clean) (standing C.holding) (honest D.is_honest) (clean D.is_clean) (standing D.holding) (pull_cause (⟦<G as Watching>⟧.host guard.old))
+        ensures pulls { PullsUnless (⟦<G as Watching>⟧.host guard.old) false (honest C.is_honest) (clean C.is_clean) (standing C.holding) (honest D.is_honest) (clean D.is_clean) (standing D.holding) (pull_cause (⟦<G as Watching>⟧.host guard.old))
             (λ st from. changes_above from (pos 0)) (λ from. None) self.old.session peer.old result self.new.session peer.new }
         ensures at_once { C.is_clean self.old.session.0 → D.is_clean peer.old.0
             → IsToldAtOnce (at_once (standing C.holding self.old.session) (Some ((standing D.holding peer.old).holding.site, pos 0))) self.old.session result self.new.session }
+        ensures inside { is_some self.old.session.1 ≡ true → (result ≡ Err refusal.TransactionState) × (self.new.session ≡ self.old.session) × (peer.new ≡ peer.old) }
+        ensures peer { peer.new.1 ≡ peer.old.1 }
         ensures guard { ⟦<G as Watching>⟧.stays guard.old guard.new }
         ensures heard { C.is_clean self.new.session.0 → Hears (⟦<G as Watching>⟧.hears guard.old guard.new) (heard_between (standing C.holding self.old.session) (standing C.holding self.new.session)) result }
+        ensures pending { self.new.session.1 ≡ self.old.session.1 }
         ensures modules { self.new.modules ≡ self.old.modules }
     {
         self.session.pull(alloc, guard, peer)
@@ -197,12 +207,15 @@ impl<C: Cells, M: Module> HostedSession<C, M> {
         peer: &mut Session<D>,
     ) -> Result<(), Refusal>
         requires { G.is_faithful guard.old }
-        ensures pulls { PullsUnless (honest C.is_honest) (clean C.is_clean) (standing C.holding) (honest D.is_honest) (clean D.is_clean) (standing D.holding) (pull_since_cause (⟦<G as Watching>⟧.host guard.old))
+        ensures pulls { PullsUnless (⟦<G as Watching>⟧.host guard.old) true (honest C.is_honest) (clean C.is_clean) (standing C.holding) (honest D.is_honest) (clean D.is_clean) (standing D.holding) (pull_since_cause (⟦<G as Watching>⟧.host guard.old))
             (λ st from. changes_above from (seen_at st from)) (λ from. Some (from.site, from.version)) self.old.session peer.old result self.new.session peer.new }
         ensures at_once { C.is_clean self.old.session.0 → D.is_clean peer.old.0
             → IsToldAtOnce (at_once (standing C.holding self.old.session) (Some ((standing D.holding peer.old).holding.site, pos 0))) self.old.session result self.new.session }
+        ensures inside { is_some self.old.session.1 ≡ true → (result ≡ Err refusal.TransactionState) × (self.new.session ≡ self.old.session) × (peer.new ≡ peer.old) }
+        ensures peer { peer.new.1 ≡ peer.old.1 }
         ensures guard { ⟦<G as Watching>⟧.stays guard.old guard.new }
         ensures heard { C.is_clean self.new.session.0 → Hears (⟦<G as Watching>⟧.hears guard.old guard.new) (heard_between (standing C.holding self.old.session) (standing C.holding self.new.session)) result }
+        ensures pending { self.new.session.1 ≡ self.old.session.1 }
         ensures modules { self.new.modules ≡ self.old.modules }
     {
         self.session.pull_since(alloc, guard, peer)

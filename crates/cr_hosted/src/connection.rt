@@ -31,7 +31,7 @@ pub struct Connection<C: Cells, F: Functions + Drop, G: Guarding + Drop, M: Drop
 }
 
 impl<C: Cells, F: Functions + Drop, G: Guarding + Drop, M: Module> Connection<C, F, G, M> {
-    ghost use Rattle.std.specs.Prelude.{◌≡◌, ◌<◌, ◌≤ℤ◌, ℕ, Bool, List, [], None, Some, Err, length, pos, true, is_some, OnErr};
+    ghost use Rattle.std.specs.Prelude.{◌≡◌, ◌<◌, ◌≤ℤ◌, ℕ, Bool, List, [], None, Some, Err, ◌++◌, ◌∷◌, length, pos, true, false, is_some, OnErr, OnOk};
     ghost use Rattle.std.specs.Str.{str_to_ascii_lowercase};
     ghost use Rattle.cr_cells.specs.Calls.{Reads, StaysClean, is_want};
     ghost use Rattle.cr_cells.specs.Marks.{seen_of};
@@ -102,7 +102,9 @@ impl<C: Cells, F: Functions + Drop, G: Guarding + Drop, M: Module> Connection<C,
     pub fn register_module(&mut self, alloc: Global, name: &str, host: M) -> Result<(), Refusal>
         ensures device { StaysClean C.is_honest C.is_clean refusals.is_want self.old.hosted.session.0 self.new.hosted.session.0 result }
         ensures registers { C.is_clean self.new.hosted.session.0 → IsRegistered (⟦<HostedSession<C, M> as Executor>⟧.stands self.old.hosted) (made (str_to_ascii_lowercase name.now) (M.columns_of host) (M.rows_of host) (M.updated host)) result (⟦<HostedSession<C, M> as Executor>⟧.stands self.new.hosted) }
+        ensures registered { OnOk result (⟦<Modules<M> as StandAll>⟧.states self.new.hosted.modules ≡ ⟦<Modules<M> as StandAll>⟧.states self.old.hosted.modules ++ (made (str_to_ascii_lowercase name.now) (M.columns_of host) (M.rows_of host) (M.updated host) ∷ [])) }
         ensures refused { OnErr result (⟦<Modules<M> as StandAll>⟧.states self.new.hosted.modules ≡ ⟦<Modules<M> as StandAll>⟧.states self.old.hosted.modules) }
+        ensures pending { self.new.hosted.session.1 ≡ self.old.hosted.session.1 }
         ensures functions { self.new.functions ≡ self.old.functions }
         ensures guard { self.new.guard ≡ self.old.guard }
     {
@@ -116,6 +118,7 @@ impl<C: Cells, F: Functions + Drop, G: Guarding + Drop, M: Module> Connection<C,
     pub fn define(&mut self, alloc: Global, def: &TableDef) -> Result<(), Refusal>
         requires { has_folded_names def.now ≡ true }
         ensures does { (has : List ℕ → Bool) (host : Host) → Does (⟦<F as Speaking>⟧.language self.old.functions has) host ⟦<HostedSession<C, M> as Executor>⟧.is_honest ⟦<HostedSession<C, M> as Executor>⟧.is_clean ⟦<HostedSession<C, M> as Executor>⟧.stands self.old.hosted (Define (declared.Table def.now)) (reply_of result) self.new.hosted }
+        ensures pending { self.new.hosted.session.1 ≡ self.old.hosted.session.1 }
         ensures modules { self.new.hosted.modules ≡ self.old.hosted.modules }
         ensures functions { self.new.functions ≡ self.old.functions }
         ensures guard { self.new.guard ≡ self.old.guard }
@@ -190,6 +193,7 @@ impl<C: Cells, F: Functions + Drop, G: Guarding + Drop, M: Module> Connection<C,
     /// `NoSuchTable` where no table has the name, which is looked up as it stands; `Memory`, or `Store`.
     pub fn rows_of(&mut self, alloc: Global, name: &str) -> Result<Items<Row>, Refusal>
         ensures does { (l : Language Statement Ordered) (host : Host) → Does l host (honest C.is_honest) (clean C.is_clean) (standing C.holding) self.old.hosted.session (Rows name.now) (rows_reply result) self.new.hosted.session }
+        ensures pending { self.new.hosted.session.1 ≡ self.old.hosted.session.1 }
         ensures modules { self.new.hosted.modules ≡ self.old.hosted.modules }
         ensures functions { self.new.functions ≡ self.old.functions }
         ensures guard { self.new.guard ≡ self.old.guard }
@@ -203,6 +207,7 @@ impl<C: Cells, F: Functions + Drop, G: Guarding + Drop, M: Module> Connection<C,
     /// `Memory`, or `Store(Refused)`.
     pub fn changes_since(&mut self, alloc: Global, version: i64) -> Result<Items<Stamped>, Refusal>
         ensures does { (l : Language Statement Ordered) (host : Host) → Does l host (honest C.is_honest) (clean C.is_clean) (standing C.holding) self.old.hosted.session (Changes version) (changes_reply result) self.new.hosted.session }
+        ensures pending { self.new.hosted.session.1 ≡ self.old.hosted.session.1 }
         ensures modules { self.new.hosted.modules ≡ self.old.hosted.modules }
         ensures functions { self.new.functions ≡ self.old.functions }
         ensures guard { self.new.guard ≡ self.old.guard }
@@ -217,9 +222,10 @@ impl<C: Cells, F: Functions + Drop, G: Guarding + Drop, M: Module> Connection<C,
     pub fn take(&mut self, alloc: Global, changes: &[Change]) -> Result<(), Refusal>
         requires { G.is_faithful self.old.guard }
         ensures takes { TakesUnless (honest C.is_honest) (clean C.is_clean) (standing C.holding) (λ st. take_cause (⟦<G as Watching>⟧.host self.old.guard) st changes.now None) self.old.hosted.session changes.now None result self.new.hosted.session }
-        ensures at_once { C.is_clean self.old.hosted.session.0 → IsToldAtOnce (at_once (standing C.holding self.old.hosted.session) None) self.old.hosted.session result self.new.hosted.session }
+        ensures at_once { IsToldAtOnce (at_once (standing C.holding self.old.hosted.session) None) self.old.hosted.session result self.new.hosted.session }
         ensures guard { ⟦<G as Watching>⟧.stays self.old.guard self.new.guard }
         ensures heard { C.is_clean self.new.hosted.session.0 → Hears (⟦<G as Watching>⟧.hears self.old.guard self.new.guard) (heard_between (standing C.holding self.old.hosted.session) (standing C.holding self.new.hosted.session)) result }
+        ensures pending { self.new.hosted.session.1 ≡ self.old.hosted.session.1 }
         ensures modules { self.new.hosted.modules ≡ self.old.hosted.modules }
         ensures functions { self.new.functions ≡ self.old.functions }
     {
@@ -241,8 +247,10 @@ impl<C: Cells, F: Functions + Drop, G: Guarding + Drop, M: Module> Connection<C,
         requires from_0 { pos 0 ≤ℤ mark.1 }
         ensures takes { TakesUnless (honest C.is_honest) (clean C.is_clean) (standing C.holding) (λ st. take_cause (⟦<G as Watching>⟧.host self.old.guard) st changes.now (Some mark)) self.old.hosted.session changes.now (Some mark) result self.new.hosted.session }
         ensures at_once { C.is_clean self.old.hosted.session.0 → IsToldAtOnce (at_once (standing C.holding self.old.hosted.session) (Some mark)) self.old.hosted.session result self.new.hosted.session }
+        ensures inside { is_some self.old.hosted.session.1 ≡ true → (result ≡ Err refusal.TransactionState) × (self.new.hosted.session ≡ self.old.hosted.session) }
         ensures guard { ⟦<G as Watching>⟧.stays self.old.guard self.new.guard }
         ensures heard { C.is_clean self.new.hosted.session.0 → Hears (⟦<G as Watching>⟧.hears self.old.guard self.new.guard) (heard_between (standing C.holding self.old.hosted.session) (standing C.holding self.new.hosted.session)) result }
+        ensures pending { self.new.hosted.session.1 ≡ self.old.hosted.session.1 }
         ensures modules { self.new.hosted.modules ≡ self.old.hosted.modules }
         ensures functions { self.new.functions ≡ self.old.functions }
     {
@@ -259,12 +267,15 @@ impl<C: Cells, F: Functions + Drop, G: Guarding + Drop, M: Module> Connection<C,
         peer: &mut Connection<D, E, H, N>,
     ) -> Result<(), Refusal>
         requires { G.is_faithful self.old.guard }
-        ensures pulls { PullsUnless (honest C.is_honest) (clean C.is_clean) (standing C.holding) (honest D.is_honest) (clean D.is_clean) (standing D.holding) (pull_cause (⟦<G as Watching>⟧.host self.old.guard))
+        ensures pulls { PullsUnless (⟦<G as Watching>⟧.host self.old.guard) false (honest C.is_honest) (clean C.is_clean) (standing C.holding) (honest D.is_honest) (clean D.is_clean) (standing D.holding) (pull_cause (⟦<G as Watching>⟧.host self.old.guard))
             (λ st from. changes_above from (pos 0)) (λ from. None) self.old.hosted.session peer.old.hosted.session result self.new.hosted.session peer.new.hosted.session }
         ensures at_once { C.is_clean self.old.hosted.session.0 → D.is_clean peer.old.hosted.session.0
             → IsToldAtOnce (at_once (standing C.holding self.old.hosted.session) (Some ((standing D.holding peer.old.hosted.session).holding.site, pos 0))) self.old.hosted.session result self.new.hosted.session }
+        ensures inside { is_some self.old.hosted.session.1 ≡ true → (result ≡ Err refusal.TransactionState) × (self.new.hosted.session ≡ self.old.hosted.session) × (peer.new.hosted.session ≡ peer.old.hosted.session) }
+        ensures peer { peer.new.hosted.session.1 ≡ peer.old.hosted.session.1 }
         ensures guard { ⟦<G as Watching>⟧.stays self.old.guard self.new.guard }
         ensures heard { C.is_clean self.new.hosted.session.0 → Hears (⟦<G as Watching>⟧.hears self.old.guard self.new.guard) (heard_between (standing C.holding self.old.hosted.session) (standing C.holding self.new.hosted.session)) result }
+        ensures pending { self.new.hosted.session.1 ≡ self.old.hosted.session.1 }
         ensures modules { self.new.hosted.modules ≡ self.old.hosted.modules }
         ensures functions { self.new.functions ≡ self.old.functions }
         ensures peer_functions { peer.new.functions ≡ peer.old.functions }
@@ -286,12 +297,15 @@ impl<C: Cells, F: Functions + Drop, G: Guarding + Drop, M: Module> Connection<C,
         peer: &mut Connection<D, E, H, N>,
     ) -> Result<(), Refusal>
         requires { G.is_faithful self.old.guard }
-        ensures pulls { PullsUnless (honest C.is_honest) (clean C.is_clean) (standing C.holding) (honest D.is_honest) (clean D.is_clean) (standing D.holding) (pull_since_cause (⟦<G as Watching>⟧.host self.old.guard))
+        ensures pulls { PullsUnless (⟦<G as Watching>⟧.host self.old.guard) true (honest C.is_honest) (clean C.is_clean) (standing C.holding) (honest D.is_honest) (clean D.is_clean) (standing D.holding) (pull_since_cause (⟦<G as Watching>⟧.host self.old.guard))
             (λ st from. changes_above from (seen_at st from)) (λ from. Some (from.site, from.version)) self.old.hosted.session peer.old.hosted.session result self.new.hosted.session peer.new.hosted.session }
         ensures at_once { C.is_clean self.old.hosted.session.0 → D.is_clean peer.old.hosted.session.0
             → IsToldAtOnce (at_once (standing C.holding self.old.hosted.session) (Some ((standing D.holding peer.old.hosted.session).holding.site, pos 0))) self.old.hosted.session result self.new.hosted.session }
+        ensures inside { is_some self.old.hosted.session.1 ≡ true → (result ≡ Err refusal.TransactionState) × (self.new.hosted.session ≡ self.old.hosted.session) × (peer.new.hosted.session ≡ peer.old.hosted.session) }
+        ensures peer { peer.new.hosted.session.1 ≡ peer.old.hosted.session.1 }
         ensures guard { ⟦<G as Watching>⟧.stays self.old.guard self.new.guard }
         ensures heard { C.is_clean self.new.hosted.session.0 → Hears (⟦<G as Watching>⟧.hears self.old.guard self.new.guard) (heard_between (standing C.holding self.old.hosted.session) (standing C.holding self.new.hosted.session)) result }
+        ensures pending { self.new.hosted.session.1 ≡ self.old.hosted.session.1 }
         ensures modules { self.new.hosted.modules ≡ self.old.hosted.modules }
         ensures functions { self.new.functions ≡ self.old.functions }
         ensures peer_functions { peer.new.functions ≡ peer.old.functions }

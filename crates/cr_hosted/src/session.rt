@@ -32,7 +32,7 @@ pub struct HostedSession<C: Cells, M: Drop> {
 }
 
 impl<C: Cells, M: Module> HostedSession<C, M> {
-    ghost use Rattle.std.specs.Prelude.{◌<◌, ℕ, Bool, List, [], Some, Err, IfOk, OnErr, is_some, length, map};
+    ghost use Rattle.std.specs.Prelude.{◌<◌, ◌++◌, ◌∷◌, ℕ, Bool, List, [], Some, Err, IfOk, OnErr, OnOk, is_some, length, map};
     ghost use Rattle.std.specs.Str.{str_to_ascii_lowercase};
     ghost use Rattle.cr_cells.specs.Calls.{is_want, StaysClean};
     ghost use Rattle.cr_cells.specs.Holding.{IsSound};
@@ -132,7 +132,9 @@ impl<C: Cells, M: Module> HostedSession<C, M> {
     pub fn register_module(&mut self, alloc: Global, name: &str, host: M) -> Result<(), Refusal>
         ensures device { StaysClean C.is_honest C.is_clean refusals.is_want self.old.session.0 self.new.session.0 result }
         ensures registers { C.is_clean self.new.session.0 → IsRegistered (⟦<HostedSession<C, M> as Executor>⟧.stands self.old) (made (str_to_ascii_lowercase name.now) (M.columns_of host) (M.rows_of host) (M.updated host)) result (⟦<HostedSession<C, M> as Executor>⟧.stands self.new) }
+        ensures registered { OnOk result (⟦<Modules<M> as StandAll>⟧.states self.new.modules ≡ ⟦<Modules<M> as StandAll>⟧.states self.old.modules ++ (made (str_to_ascii_lowercase name.now) (M.columns_of host) (M.rows_of host) (M.updated host) ∷ [])) }
         ensures refused { OnErr result (⟦<Modules<M> as StandAll>⟧.states self.new.modules ≡ ⟦<Modules<M> as StandAll>⟧.states self.old.modules) }
+        ensures pending { self.new.session.1 ≡ self.old.session.1 }
     {
         let names = match self.session.names(alloc) {
             Ok(names) => names,

@@ -1,5 +1,5 @@
 -- What an expression of a query or of a write has, it has of whatever follows from it.
-use Rattle.std.proofs.Common.{◌≡◌, ◌⊎◌, inl, inr, Bool, true, false, List, [], ◌∷◌, Option, Some, None}
+use Rattle.std.proofs.Common.{◌≡◌, ◌⊎◌, inl, inr, Bool, true, false, List, [], ◌∷◌, Option, Some, None, IsSomeAnd}
 use Rattle.std.specs.Option.{option_to_list}
 use Rattle.cr_bags.specs.Bags.{gather, single}
 use Rattle.cr_query.specs.Queries.{Query, Joining, Insert, Update, Delete}

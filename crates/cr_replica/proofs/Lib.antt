@@ -1,3 +1,4 @@
+pub mod Committing
 pub mod Definitions
 pub mod Shown
 pub mod Above

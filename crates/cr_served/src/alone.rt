@@ -2,6 +2,7 @@
 
 ghost use Rattle.std.specs.Prelude.{◌≡◌, ◌∷◌, [], ℕ, Bool, List};
 ghost use Rattle.cr_session.specs.Sessions.{clean, honest, is_own, standing};
+ghost use Rattle.cr_fleet.specs.Fleets.{rules_after};
 ghost use Rattle.cr_world.specs.Answers.{IsReady};
 ghost use Rattle.cr_served.specs.Running.{policy_of, hears, watch};
 ghost use Rattle.cr_served.specs.Alone.{RanAlone};
@@ -28,6 +29,7 @@ pub(crate) fn step_alone<C: Cells, F: Functions, G: Guarding>(
     requires ready { IsReady command.now }
     ensures ran { (has : List ℕ → Bool) → ⟦<F as Speaking>⟧.are_names functions.now has
         → RanAlone policy_of hears (⟦<F as Speaking>⟧.language functions.now has) (⟦<G as Watching>⟧.closures guard.old) (honest C.is_honest) (clean C.is_clean) (standing C.holding) (session.old, watch G.rules G.noted G.noting guard.old) (session.new, watch G.rules G.noted G.noting guard.new) (command.now ∷ []) (result ∷ []) }
+    ensures rules { G.rules guard.new ≡ rules_after command.now result (G.rules guard.old) }
     ensures closures { ⟦<G as Watching>⟧.closures guard.new ≡ ⟦<G as Watching>⟧.closures guard.old }
     ensures noting { G.noting guard.new ≡ G.noting guard.old }
     ensures faithful { G.is_faithful guard.new }

@@ -23,6 +23,7 @@ pub trait Served {
     ghost use Rattle.cr_world.specs.Answers.{IsReady};
     ghost use Rattle.cr_world.specs.Language.{Language};
     ghost use Rattle.cr_world.specs.World.{Closures};
+    ghost use Rattle.cr_fleet.specs.Fleets.{rules_after};
 
     /// These commands ran with these replies, from a state and what it is under to others, where statements are in this
     /// language, and authorizer and commit hook answer so.
@@ -41,6 +42,7 @@ pub trait Served {
         requires ready { IsReady command.now }
         ensures ran { (has : List ℕ → Bool) → ⟦<F as Speaking>⟧.are_names functions.now has
             → ran (⟦<F as Speaking>⟧.language functions.now has) (⟦<G as Watching>⟧.closures guard.old) (self.old, watch G.rules G.noted G.noting guard.old) (self.new, watch G.rules G.noted G.noting guard.new) (command.now ∷ []) (result ∷ []) }
+        ensures rules { G.rules guard.new ≡ rules_after command.now result (G.rules guard.old) }
         ensures closures { ⟦<G as Watching>⟧.closures guard.new ≡ ⟦<G as Watching>⟧.closures guard.old }
         ensures noting { G.noting guard.new ≡ G.noting guard.old }
         ensures faithful { G.is_faithful guard.new };

@@ -1,5 +1,5 @@
 -- Pulls by a call: what was read of the peer is taken, or nothing is changed.
-use Rattle.std.proofs.Common.{◌≡◌, false, List, Option, Some, None, Result, Ok, Err, inl, inr, refl, sym, ap, subst, ◌∙◌}
+use Rattle.std.proofs.Common.{◌≡◌, Bool, false, is_some, List, Option, Some, None, Result, Ok, Err, inl, inr, refl, sym, ap, subst, ◌∙◌}
 use Rattle.cr_lattice.specs.declared.change.Change.{Change}
 use Rattle.cr_cells.specs.declared.store.CellsError.{CellsError}
 use Rattle.cr_cells.specs.Calls as calls
@@ -37,14 +37,14 @@ stays_here is_honest is_clean stands s = record { was_honest = λ h. h; was_clea
 pub stands_still : {C : Type 0} (holding : C → Holding) (old new : SessionOf C) → holding new.0 ≡ holding old.0 → new.1 ≡ old.1 → standing holding new ≡ standing holding old
 stands_still holding old new e p = λ i. state_of (e i) (p i)
 
-module _ {C D : Type 0} (host : Host) (more : State → Holding → List Change) (first mark : Holding → Option Mark)
+module _ {C D : Type 0} (host : Host) (is_marked : Bool) (more : State → Holding → List Change) (first mark : Holding → Option Mark)
     (is_honest is_clean : C → Type 0) (stands : C → State) (peer_honest peer_clean : D → Type 0) (peer_stands : D → State) (old : C) (peer : D) where
   abbrev from : Holding
   from = (peer_stands peer).holding
 
   abbrev Pulls : Result (Unit {0}) Refusal → C → D → Type 0
   Pulls result new peer_new =
-      PullsUnless is_honest is_clean stands peer_honest peer_clean peer_stands (λ st h. take_cause host st (more st h) (first h)) more mark old peer result new peer_new
+      PullsUnless host is_marked is_honest is_clean stands peer_honest peer_clean peer_stands (λ st h. take_cause host st (more st h) (first h)) more mark old peer result new peer_new
 
   -- nothing was read
   pub pull_stopped : (r : Refusal) → (is_clean old → peer_clean peer → at_once (stands old) (first from) ≡ Some r) → Pulls (Err r) old peer
@@ -99,8 +99,9 @@ module _ {C D : Type 0} (host : Host) (more : State → Holding → List Change)
       -- what it sent is taken
       pub pull_taken : (is_clean old → peer_clean peer → at_once (stands old) (first from) ≡ None) → (changes : List Change) (m : Option Mark)
           → (is_clean mid → peer_clean peer_new → changes ≡ more (stands old) from) → (peer_clean peer_new → m ≡ mark from)
+          → (is_clean old → at_once (stands old) m ≡ None) → is_some m ≡ is_marked
           → (result : Result (Unit {0}) Refusal) (new : C) → TakesAll host is_honest is_clean stands mid changes m result new → Pulls result new peer_new
-      pull_taken free changes m sent marked result new k = record {
+      pull_taken free changes m sent marked alone marks result new k = record {
         device = record { was_honest = λ h. s.was_honest (k.device.was_honest h); was_clean = λ c. s.was_clean (k.device.was_clean c); stays_clean = λ h c. k.device.stays_clean h (s.lasts (k.device.was_honest h) c) };
         peer_device = record { was_honest = t.was_honest; was_clean = t.was_clean; stays_clean = lasting result };
         peer_same = t.same;
@@ -108,12 +109,17 @@ module _ {C D : Type 0} (host : Host) (more : State → Holding → List Change)
             let was = k.device.was_clean c in
             goes_on host (stands old) (first from) (more (stands old) from) (mark from) result (stands new) (free (s.was_clean was) (t.was_clean d))
             (moved (stands mid) changes m result (stands new) (s.same was) (sent was d) (marked d) (k.takes c));
-        all_or_none = λ c. whole result (stands new) (s.same (k.device.was_clean c)) (k.takes c);
+        all_or_none = λ c. (let was = k.device.was_clean c in whole result (stands new) (alone (s.was_clean was)) (s.same was) (k.takes c));
         not_both = inr t.lasts;
       } where
-        whole : (result : Result (Unit {0}) Refusal) (new : State) → stands mid ≡ stands old → TakenUnless (taking_cause host (stands mid) changes) (stands mid) changes m result new → AllOrNone (stands old) result new
-        whole (Ok u) new e x = (changes, m, x.1 ∙ ap (taking changes m) e)
-        whole (Err r) new e x = x.1 ∙ e
+        told : (result : Result (Unit {0}) Refusal) (new : State) → TakenUnless (take_cause host (stands old) changes m) (stands old) changes m result new → AllOrNone host is_marked (stands old) result new
+        told (Ok u) new x = (changes, m, marks, x.0, x.1)
+        told (Err r) new x = x.1
+
+        whole : (result : Result (Unit {0}) Refusal) (new : State) → at_once (stands old) m ≡ None → stands mid ≡ stands old → TakenUnless (taking_cause host (stands mid) changes) (stands mid) changes m result new
+            → AllOrNone host is_marked (stands old) result new
+        whole result new free e x =
+            told result new (goes_on host (stands old) m changes m result new free (subst (λ (st : State). TakenUnless (taking_cause host st changes) st changes m result new) e x))
 
         lasting : (result : Result (Unit {0}) Refusal) → peer_honest peer_new → peer_clean peer → calls.UnlessWant is_want result (peer_clean peer_new)
         lasting (Ok u) h c = t.lasts h c

@@ -198,6 +198,14 @@ at_once_inside st mark e = ap (λ (b : Bool). opened_cause b (own_site st mark))
 pub at_once_outside : (st : State) (mark : Option Mark) → is_some st.pending ≡ false → at_once st mark ≡ own_site st mark
 at_once_outside st mark e = ap (λ (b : Bool). opened_cause b (own_site st mark)) e
 
+-- what stands against no taking with a mark stands against none without
+pub unmarked : (st : State) (mark : Mark) → at_once st (Some mark) ≡ None → at_once st None ≡ None
+unmarked st mark e =
+    elim (is_some st.pending) as (λ b. opened_cause b (own_site st (Some mark)) ≡ None → opened_cause b None ≡ None) [
+      | true ↦ λ told. told
+      | false ↦ λ told. refl
+    ] e
+
 abbrev own_cause : Bool → Option Refusal
 own_cause own = if own then Some refusal.SameSite else None
 

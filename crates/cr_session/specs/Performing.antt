@@ -1,11 +1,12 @@
 -- What a session makes of a statement that may be carried out. Source: this project's own.
-use Rattle.std.specs.Prelude.{◌≡◌, ◌⊎◌, ◌&&◌, ℕ, Bool, true, false, not, cond, List, [], ◌∷◌, unwrap_or, Option, None, is_some, Result, Ok, Err}
+use Rattle.std.specs.Prelude.{◌≡◌, ◌⊎◌, ◌&&◌, ℕ, Bool, true, false, not, cond, List, [], ◌∷◌, unwrap_or, Option, Some, None, is_some, Result, Ok, Err}
 use Rattle.cr_value.specs.declared.value.Value.{Value}
 use Rattle.cr_lattice.specs.declared.change.Change.{Change}
 use Rattle.cr_cells.specs.Calls.{StaysClean, is_past_limit}
 use Rattle.cr_cells.specs.Holding.{kept_of}
 use Rattle.cr_cells.specs.Commit.{newly_kept}
 use Rattle.cr_tree.specs.declared.statement.Statement.{Statement}
+use Rattle.cr_tree.specs.declared.statement.Statement.TheVariants as s
 use Rattle.cr_questions.specs.Questions.{Answers}
 use Rattle.cr_resolve.specs.Known.{Known}
 use Rattle.cr_answer.specs.Allowing.{Allows}
@@ -64,6 +65,11 @@ refused st x f = cond (is_commit x && (in_transaction st && not (is_memory f))) 
 abbrev pub Permits : Known → Answers → Statement → ℕ → Result (Unit {0}) Refusal → Type 0
 Permits known answers x count (Ok u) = (y : Resolved) × Allows known answers x count (Ok y)
 Permits known answers x count (Err f) = Allows known answers x count (Err f)
+
+-- what an accepted BEGIN, COMMIT or ROLLBACK leaves of a transaction, whatever becomes of the store
+abbrev pub left_open : Statement → Option (List Change)
+left_open (s.Begin mode) = Some []
+left_open x = None
 
 -- ---- what is carried out
 

@@ -1,5 +1,5 @@
 -- What a replica replies to a command that looks at no other, and where it then stands. Source: this project's own.
-use Rattle.std.specs.Prelude.{◌≡◌, ◌⊎◌, ℕ, Bool, true, false, List, [], ◌++◌, find, Option, Some, None, Result, Ok, Err, IfErr, MatchResult}
+use Rattle.std.specs.Prelude.{◌≡◌, ◌⊎◌, ℕ, Bool, true, false, List, [], ◌++◌, find, Option, Some, None, Result, Ok, Err, IfErr, MatchResult, is_some}
 use Rattle.cr_lattice.specs.declared.change.Change.{Change}
 use Rattle.cr_lattice.specs.declared.stamped.Stamped.{Stamped}
 use Rattle.cr_cells.specs.declared.store.CellsError.{CellsError}
@@ -33,7 +33,7 @@ use Rattle.cr_world.specs.Statement.{Host}
 use Rattle.cr_world.specs.Scripts.{Runs, after_script, added_by_script}
 use Rattle.cr_world.specs.World.{Member}
 use Rattle.cr_world.specs.Answers.{IsDone, Takes, ShowsRows, ShowsChanges, tells_want}
-use Rattle.cr_world.specs.Takings.{taking_cause, taking, define_cause, defining, taking_row}
+use Rattle.cr_world.specs.Takings.{take_cause, taking_cause, taking, define_cause, defining, taking_row}
 
 -- the reply that tells whether a command was carried out
 abbrev pub reply_of : Result (Unit {0}) Refusal → FleetReply
@@ -115,21 +115,22 @@ pub record CommitsTaking {C : Type 0} (is_honest is_clean : C → Type 0) (stand
   pub device : StaysClean is_honest is_clean is_want old new result
   pub commits : is_clean new → IsCommitted (stands old) more mark result (stands new)
 
--- some changes were taken at once, with a mark or without, or nothing is changed
-abbrev pub AllOrNone : State → Result (Unit {0}) Refusal → State → Type 0
-AllOrNone old (Ok u) new = (sent : List Change) × (mark : Option Mark) × (new ≡ taking sent mark old)
-AllOrNone old (Err r) new = new ≡ old
+-- Some changes were taken at once, against which nothing stood, with a mark just where one is asked for; or nothing is changed.
+abbrev pub AllOrNone : Host → Bool → State → Result (Unit {0}) Refusal → State → Type 0
+AllOrNone host is_marked old (Ok u) new =
+    (sent : List Change) × (mark : Option Mark) × (is_some mark ≡ is_marked) × (take_cause host old sent mark ≡ Free) × (new ≡ taking sent mark old)
+AllOrNone host is_marked old (Err r) new = new ≡ old
 
 -- A session takes what a peer holds, which stands where it stood. Where the peer is read and its store fails, that is want; whatever
--- becomes of the peer's store, what is refused changes nothing, and no failure is of both stores.
-pub record PullsUnless {C D : Type 0} (is_honest is_clean : C → Type 0) (stands : C → State) (peer_honest peer_clean : D → Type 0) (peer_stands : D → State)
+-- becomes of the peer's store, nothing stands against what is taken, what is refused changes nothing, and no failure is of both stores.
+pub record PullsUnless {C D : Type 0} (host : Host) (is_marked : Bool) (is_honest is_clean : C → Type 0) (stands : C → State) (peer_honest peer_clean : D → Type 0) (peer_stands : D → State)
     (cause : State → Holding → Cause) (more : State → Holding → List Change) (mark : Holding → Option Mark) (old : C) (peer : D) (result : Result (Unit {0}) Refusal) (new : C) (peer_new : D) : Type 0 where
   pub device : StaysClean is_honest is_clean is_want old new result
   pub peer_device : StaysClean peer_honest peer_clean is_want peer peer_new result
   pub peer_same : peer_clean peer_new → peer_stands peer_new ≡ peer_stands peer
   pub takes : is_clean new → peer_clean peer_new
       → TakenUnless (cause (stands old) (peer_stands peer).holding) (stands old) (more (stands old) (peer_stands peer).holding) (mark (peer_stands peer).holding) result (stands new)
-  pub all_or_none : is_clean new → AllOrNone (stands old) result (stands new)
+  pub all_or_none : is_clean new → AllOrNone host is_marked (stands old) result (stands new)
   pub not_both : (is_honest new → is_clean old → is_clean new) ⊎ (peer_honest peer_new → peer_clean peer → peer_clean peer_new)
 
 -- done, or the refusal that there is

@@ -14,10 +14,11 @@ use cr_world::refusal::{Refusal, of_definition, of_rows};
 use std::alloc::Global;
 
 impl<C: Cells> Session<C> {
-    ghost use Rattle.std.specs.Prelude.{◌≡◌, ◌≤ℤ◌, ℕ, ℤ, Bool, List, None, Some, pos, true};
+    ghost use Rattle.std.specs.Prelude.{◌≡◌, ◌≤ℤ◌, ℕ, ℤ, Bool, List, None, Some, Err, pos, true, false, is_some};
     ghost use Rattle.cr_cells.specs.Tables.{has_folded_names};
     ghost use Rattle.cr_world.specs.declared.command.Command.TheVariants.{Define, Rows, Changes};
     ghost use Rattle.cr_world.specs.declared.command.Declaration.TheVariants as declared;
+    ghost use Rattle.cr_world.specs.declared.refusal.Refusal.TheVariants as refusal;
     ghost use Rattle.cr_world.specs.Language.{Language};
     ghost use Rattle.cr_world.specs.State.{heard_between};
     ghost use Rattle.cr_world.specs.Statement.{Host};
@@ -41,7 +42,8 @@ impl<C: Cells> Session<C> {
         def: &TableDef,
     ) -> Result<(), Refusal>
         requires { has_folded_names def.now ≡ true }
-        ensures { (has : List ℕ → Bool) (host : Host) → Does (⟦<F as Speaking>⟧.language functions.now has) host (honest C.is_honest) (clean C.is_clean) (standing C.holding) self.old (Define (declared.Table def.now)) (reply_of result) self.new }
+        ensures does { (has : List ℕ → Bool) (host : Host) → Does (⟦<F as Speaking>⟧.language functions.now has) host (honest C.is_honest) (clean C.is_clean) (standing C.holding) self.old (Define (declared.Table def.now)) (reply_of result) self.new }
+        ensures pending { self.new.1 ≡ self.old.1 }
     {
         if self.in_transaction() {
             return Err(self.refuse_definition(alloc, functions, def));
@@ -57,7 +59,8 @@ impl<C: Cells> Session<C> {
     /// # Errors
     /// `NoSuchTable` where no table has the name, which is looked up as it stands; `Memory`, or `Store`.
     pub fn rows_of(&mut self, alloc: Global, name: &str) -> Result<Items<Row>, Refusal>
-        ensures { (l : Language Statement Ordered) (host : Host) → Does l host (honest C.is_honest) (clean C.is_clean) (standing C.holding) self.old (Rows name.now) (rows_reply result) self.new }
+        ensures does { (l : Language Statement Ordered) (host : Host) → Does l host (honest C.is_honest) (clean C.is_clean) (standing C.holding) self.old (Rows name.now) (rows_reply result) self.new }
+        ensures pending { self.new.1 ≡ self.old.1 }
     {
         match self.replica.rows_of(alloc, name) {
             Ok(rows) => Ok(rows),
@@ -71,7 +74,8 @@ impl<C: Cells> Session<C> {
     /// # Errors
     /// `Memory`, or `Store(Refused)`.
     pub fn changes_since(&mut self, alloc: Global, version: i64) -> Result<Items<Stamped>, Refusal>
-        ensures { (l : Language Statement Ordered) (host : Host) → Does l host (honest C.is_honest) (clean C.is_clean) (standing C.holding) self.old (Changes version) (changes_reply result) self.new }
+        ensures does { (l : Language Statement Ordered) (host : Host) → Does l host (honest C.is_honest) (clean C.is_clean) (standing C.holding) self.old (Changes version) (changes_reply result) self.new }
+        ensures pending { self.new.1 ≡ self.old.1 }
     {
         match self.replica.changes_since(alloc, version) {
             Ok(changes) => Ok(Items::new(changes)),
@@ -81,7 +85,8 @@ impl<C: Cells> Session<C> {
 
     // What is told before the store is asked for anything: an open transaction, and then a peer's site that is this replica's own.
     fn check_peer(&self, site: &Site) -> Result<(), Refusal>
-        ensures { (version : ℤ) → C.is_clean self.now.0 → result ≡ unless (at_once (standing C.holding self.now) (Some (site.now, version))) }
+        ensures told { (version : ℤ) → C.is_clean self.now.0 → result ≡ unless (at_once (standing C.holding self.now) (Some (site.now, version))) }
+        ensures inside { is_some self.now.1 ≡ true → result ≡ Err refusal.TransactionState }
     {
         if self.in_transaction() {
             return Err(Refusal::TransactionState);
@@ -104,9 +109,10 @@ impl<C: Cells> Session<C> {
     ) -> Result<(), Refusal>
         requires { G.is_faithful guard.old }
         ensures takes { TakesUnless (honest C.is_honest) (clean C.is_clean) (standing C.holding) (λ st. take_cause (⟦<G as Watching>⟧.host guard.old) st changes.now None) self.old changes.now None result self.new }
-        ensures at_once { C.is_clean self.old.0 → IsToldAtOnce (at_once (standing C.holding self.old) None) self.old result self.new }
+        ensures at_once { IsToldAtOnce (at_once (standing C.holding self.old) None) self.old result self.new }
         ensures guard { ⟦<G as Watching>⟧.stays guard.old guard.new }
         ensures heard { C.is_clean self.new.0 → Hears (⟦<G as Watching>⟧.hears guard.old guard.new) (heard_between (standing C.holding self.old) (standing C.holding self.new)) result }
+        ensures pending { self.new.1 ≡ self.old.1 }
     {
         if self.in_transaction() {
             return Err(Refusal::TransactionState);
@@ -130,8 +136,10 @@ impl<C: Cells> Session<C> {
         requires from_0 { pos 0 ≤ℤ mark.1 }
         ensures takes { TakesUnless (honest C.is_honest) (clean C.is_clean) (standing C.holding) (λ st. take_cause (⟦<G as Watching>⟧.host guard.old) st changes.now (Some mark)) self.old changes.now (Some mark) result self.new }
         ensures at_once { C.is_clean self.old.0 → IsToldAtOnce (at_once (standing C.holding self.old) (Some mark)) self.old result self.new }
+        ensures inside { is_some self.old.1 ≡ true → (result ≡ Err refusal.TransactionState) × (self.new ≡ self.old) }
         ensures guard { ⟦<G as Watching>⟧.stays guard.old guard.new }
         ensures heard { C.is_clean self.new.0 → Hears (⟦<G as Watching>⟧.hears guard.old guard.new) (heard_between (standing C.holding self.old) (standing C.holding self.new)) result }
+        ensures pending { self.new.1 ≡ self.old.1 }
     {
         match self.check_peer(&mark.0) {
             Ok(()) => self.take_all(alloc, guard, changes, Some(mark)),
@@ -152,12 +160,15 @@ impl<C: Cells> Session<C> {
         peer: &mut Session<D>,
     ) -> Result<(), Refusal>
         requires { G.is_faithful guard.old }
-        ensures pulls { PullsUnless (honest C.is_honest) (clean C.is_clean) (standing C.holding) (honest D.is_honest) (clean D.is_clean) (standing D.holding) (pull_cause (⟦<G as Watching>⟧.host guard.old))
+        ensures pulls { PullsUnless (⟦<G as Watching>⟧.host guard.old) false (honest C.is_honest) (clean C.is_clean) (standing C.holding) (honest D.is_honest) (clean D.is_clean) (standing D.holding) (pull_cause (⟦<G as Watching>⟧.host guard.old))
             (λ st from. changes_above from (pos 0)) (λ from. None) self.old peer.old result self.new peer.new }
         ensures at_once { C.is_clean self.old.0 → D.is_clean peer.old.0
             → IsToldAtOnce (at_once (standing C.holding self.old) (Some ((standing D.holding peer.old).holding.site, pos 0))) self.old result self.new }
+        ensures inside { is_some self.old.1 ≡ true → (result ≡ Err refusal.TransactionState) × (self.new ≡ self.old) × (peer.new ≡ peer.old) }
+        ensures peer { peer.new.1 ≡ peer.old.1 }
         ensures guard { ⟦<G as Watching>⟧.stays guard.old guard.new }
         ensures heard { C.is_clean self.new.0 → Hears (⟦<G as Watching>⟧.hears guard.old guard.new) (heard_between (standing C.holding self.old) (standing C.holding self.new)) result }
+        ensures pending { self.new.1 ≡ self.old.1 }
     {
         if let Err(refusal) = self.check_peer(&peer.site_id()) {
             return Err(refusal);
@@ -180,12 +191,15 @@ impl<C: Cells> Session<C> {
         peer: &mut Session<D>,
     ) -> Result<(), Refusal>
         requires { G.is_faithful guard.old }
-        ensures pulls { PullsUnless (honest C.is_honest) (clean C.is_clean) (standing C.holding) (honest D.is_honest) (clean D.is_clean) (standing D.holding) (pull_since_cause (⟦<G as Watching>⟧.host guard.old))
+        ensures pulls { PullsUnless (⟦<G as Watching>⟧.host guard.old) true (honest C.is_honest) (clean C.is_clean) (standing C.holding) (honest D.is_honest) (clean D.is_clean) (standing D.holding) (pull_since_cause (⟦<G as Watching>⟧.host guard.old))
             (λ st from. changes_above from (seen_at st from)) (λ from. Some (from.site, from.version)) self.old peer.old result self.new peer.new }
         ensures at_once { C.is_clean self.old.0 → D.is_clean peer.old.0
             → IsToldAtOnce (at_once (standing C.holding self.old) (Some ((standing D.holding peer.old).holding.site, pos 0))) self.old result self.new }
+        ensures inside { is_some self.old.1 ≡ true → (result ≡ Err refusal.TransactionState) × (self.new ≡ self.old) × (peer.new ≡ peer.old) }
+        ensures peer { peer.new.1 ≡ peer.old.1 }
         ensures guard { ⟦<G as Watching>⟧.stays guard.old guard.new }
         ensures heard { C.is_clean self.new.0 → Hears (⟦<G as Watching>⟧.hears guard.old guard.new) (heard_between (standing C.holding self.old) (standing C.holding self.new)) result }
+        ensures pending { self.new.1 ≡ self.old.1 }
     {
         let site = peer.site_id();
         if let Err(refusal) = self.check_peer(&site) {

@@ -32,7 +32,7 @@ fn check_changes(alloc: Global, tables: &[Table], changes: &[Change]) -> Result<
 }
 
 impl<C: Cells> Session<C> {
-    ghost use Rattle.std.specs.Prelude.{[], ◌∷◌};
+    ghost use Rattle.std.specs.Prelude.{◌≡◌, [], ◌∷◌};
     ghost use Rattle.cr_cells.specs.Holding.{IsSound};
     ghost use Rattle.cr_session.specs.Listening.{FindsEvents, TellsListener};
     ghost use Rattle.cr_session.specs.Sessions.{clean, honest, standing};
@@ -45,7 +45,8 @@ impl<C: Cells> Session<C> {
         changes: &[Change],
     ) -> Result<Vec<Event>, Refusal>
         requires sound { C.is_clean self.old.0 → IsSound (C.holding self.old.0) }
-        ensures { FindsEvents (λ v. v.items) (honest C.is_honest) (clean C.is_clean) (standing C.holding) self.old (touched.now ∷ []) changes.now result self.new }
+        ensures finds { FindsEvents (λ v. v.items) (honest C.is_honest) (clean C.is_clean) (standing C.holding) self.old (touched.now ∷ []) changes.now result self.new }
+        ensures pending { self.new.1 ≡ self.old.1 }
     {
         let table = touched.definition.name.as_str();
         let kept = match self.see_keys(alloc, table, touched.keys.as_slice()) {
@@ -67,7 +68,8 @@ impl<C: Cells> Session<C> {
         changes: &[Change],
     ) -> Result<Vec<Event>, Refusal>
         requires sound { C.is_clean self.old.0 → IsSound (C.holding self.old.0) }
-        ensures { FindsEvents (λ v. v.items) (honest C.is_honest) (clean C.is_clean) (standing C.holding) self.old touched.now changes.now result self.new }
+        ensures finds { FindsEvents (λ v. v.items) (honest C.is_honest) (clean C.is_clean) (standing C.holding) self.old touched.now changes.now result self.new }
+        ensures pending { self.new.1 ≡ self.old.1 }
     {
         let mut events = Vec::new(alloc);
         for keys in touched {
@@ -93,6 +95,7 @@ impl<C: Cells> Session<C> {
         requires { G.is_faithful guard.old }
         ensures tells { TellsListener (honest C.is_honest) (clean C.is_clean) (standing C.holding) (⟦<G as Watching>⟧.hears guard.old guard.new) self.old changes.now result self.new }
         ensures guard { ⟦<G as Watching>⟧.stays guard.old guard.new }
+        ensures pending { self.new.1 ≡ self.old.1 }
     {
         if !guard.listens() {
             return Ok(());

@@ -58,7 +58,7 @@ impl<C: Cells> Model for Session<C> {
 }
 
 impl<C: Cells> Session<C> {
-    ghost use Rattle.std.specs.Prelude.{◌≡◌, ◌≤ℤ◌, ℕ, Bool, List, None, pos, true, is_some, IfOk, IsTrue};
+    ghost use Rattle.std.specs.Prelude.{◌≡◌, ◌≤ℤ◌, ℕ, Bool, List, [], None, pos, true, is_some, IfOk, IsTrue};
     ghost use Rattle.std.specs.Option.{ForSome};
     ghost use Rattle.cr_cells.specs.Calls.{Reads, is_want, StaysClean};
     ghost use Rattle.cr_cells.specs.Holding.{IsSound, since, changes_of};
@@ -143,6 +143,7 @@ impl<C: Cells> Session<C> {
         ensures names { C.is_clean self.new.0 → Names (standing C.holding self.old) (standing C.holding self.new) result }
         ensures empty { IfOk result (λ names. (names.cells ≡ []) × (names.kept ≡ [])) }
         ensures whole { IfOk result IsWhole }
+        ensures pending { self.new.1 ≡ self.old.1 }
     {
         self.replica.names(alloc)
     }
@@ -191,6 +192,7 @@ impl<C: Cells> Session<C> {
         ensures device { StaysClean C.is_honest C.is_clean is_want self.old.0 self.new.0 result }
         ensures sees { C.is_clean self.new.0 → SeesKeys (λ v. v.items) (standing C.holding self.old) (standing C.holding self.new) table.now keys.now result }
         ensures kept { IfOk result (λ kept. keep kept.items ≡ kept.items) }
+        ensures pending { self.new.1 ≡ self.old.1 }
     {
         let kept = match self.replica.kept_of_keys(alloc, table, keys) {
             Ok(kept) => kept,
@@ -227,6 +229,7 @@ impl<C: Cells> Session<C> {
         requires { G.is_faithful guard.now }
         ensures approves { Approves (⟦<G as Watching>⟧.host guard.now) (honest C.is_honest) (clean C.is_clean) (standing C.holding) self.old changes.now result self.new }
         ensures changes { IfOk result (λ taking. taking.changes.now ≡ changes.now) }
+        ensures pending { self.new.1 ≡ self.old.1 }
     {
         let taking = match self.replica.prepare(alloc, changes) {
             Ok(taking) => taking,
@@ -247,7 +250,8 @@ impl<C: Cells> Session<C> {
     ) -> Result<(), Refusal>
         requires ready { C.is_clean self.old.0 → takings.IsReady (C.holding self.old.0) taking.now.changes.now taking.now.newly_kept }
         requires from_0 { ForSome mark (λ m. pos 0 ≤ℤ m.1) }
-        ensures { CommitsTaking (honest C.is_honest) (clean C.is_clean) (standing C.holding) self.old taking.now.changes.now mark result self.new }
+        ensures commits { CommitsTaking (honest C.is_honest) (clean C.is_clean) (standing C.holding) self.old taking.now.changes.now mark result self.new }
+        ensures pending { self.new.1 ≡ self.old.1 }
     {
         match self.replica.commit(alloc, taking, mark) {
             Ok(()) => Ok(()),
@@ -274,6 +278,7 @@ impl<C: Cells> Session<C> {
         ensures takes { TakesAll (⟦<G as Watching>⟧.host guard.old) (honest C.is_honest) (clean C.is_clean) (standing C.holding) self.old changes.now mark result self.new }
         ensures guard { ⟦<G as Watching>⟧.stays guard.old guard.new }
         ensures heard { C.is_clean self.new.0 → Hears (⟦<G as Watching>⟧.hears guard.old guard.new) (heard_between (standing C.holding self.old) (standing C.holding self.new)) result }
+        ensures pending { self.new.1 ≡ self.old.1 }
     {
         let taking = match self.approve(alloc, guard, changes) {
             Ok(taking) => taking,
@@ -293,7 +298,8 @@ impl<C: Cells> Session<C> {
         changes: &[Change],
     ) -> Result<(), Refusal>
         requires { G.is_faithful guard.now }
-        ensures { TakesAll (⟦<G as Watching>⟧.host guard.now) (honest C.is_honest) (clean C.is_clean) (standing C.holding) self.old changes.now None result self.new }
+        ensures takes { TakesAll (⟦<G as Watching>⟧.host guard.now) (honest C.is_honest) (clean C.is_clean) (standing C.holding) self.old changes.now None result self.new }
+        ensures pending { self.new.1 ≡ self.old.1 }
     {
         match self.approve(alloc, guard, changes) {
             Ok(taking) => self.commit_taking(alloc, &taking, None),
@@ -309,7 +315,8 @@ impl<C: Cells> Session<C> {
         def: &TableDef,
     ) -> Refusal
         requires { is_some self.old.1 ≡ true }
-        ensures { (has : List ℕ → Bool) (host : Host) → Does (⟦<F as Speaking>⟧.language functions.now has) host (honest C.is_honest) (clean C.is_clean) (standing C.holding) self.old (Define (declared.Table def.now)) (Refused result) self.new }
+        ensures does { (has : List ℕ → Bool) (host : Host) → Does (⟦<F as Speaking>⟧.language functions.now has) host (honest C.is_honest) (clean C.is_clean) (standing C.holding) self.old (Define (declared.Table def.now)) (Refused result) self.new }
+        ensures pending { self.new.1 ≡ self.old.1 }
     {
         let names = match self.replica.names(alloc) {
             Ok(names) => names,

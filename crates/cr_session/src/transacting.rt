@@ -78,13 +78,13 @@ pub fn is_transaction(statement: &Statement) -> bool
 }
 
 impl<C: Cells> Session<C> {
-    ghost use Rattle.std.specs.Prelude.{◌≡◌, true, false, ℕ, Bool, List};
+    ghost use Rattle.std.specs.Prelude.{◌≡◌, ◌⊎◌, true, false, ℕ, Bool, List, [], None, Some, MatchResult};
     ghost use Rattle.cr_scalar.specs.Host.{Host as Means};
     ghost use Rattle.cr_value.specs.declared.value.Value.{Value};
     ghost use Rattle.cr_world.specs.State.{ModuleState};
     ghost use Rattle.cr_world.specs.Statement.{Host};
     ghost use Rattle.cr_term.specs.declared.query.Resolved.TheVariants as r;
-    ghost use Rattle.cr_session.specs.Performing.{Performed, beside};
+    ghost use Rattle.cr_session.specs.Performing.{Performed, beside, left_open};
     ghost use Rattle.cr_script.specs.Scripts.{Carries};
     ghost use Rattle.cr_session.specs.Sessions.{clean, honest, standing};
 
@@ -92,6 +92,7 @@ impl<C: Cells> Session<C> {
     fn begin(&mut self, alloc: Global) -> Result<Reply, Refusal>
         ensures performs { (means : Means) (params : List Value) (host : Host) → Performed means params host (honest C.is_honest) (clean C.is_clean) (standing C.holding) self.old r.Begin result self.new }
         ensures store { self.new.0 ≡ self.old.0 }
+        ensures opened { MatchResult result (λ _. self.new.1 ≡ Some []) (λ _. self.new.1 ≡ self.old.1) }
     {
         if self.in_transaction() {
             return Err(Refusal::TransactionState);
@@ -103,7 +104,8 @@ impl<C: Cells> Session<C> {
     // Commits the changes of the open transaction, all or none, and ends it; where memory is wanting, it stays open.
     fn commit<G: Guarding>(&mut self, alloc: Global, guard: &G) -> Result<Reply, Refusal>
         requires { G.is_faithful guard.now }
-        ensures { (means : Means) (params : List Value) → Performed means params (⟦<G as Watching>⟧.host guard.now) (honest C.is_honest) (clean C.is_clean) (standing C.holding) self.old r.Commit result self.new }
+        ensures performs { (means : Means) (params : List Value) → Performed means params (⟦<G as Watching>⟧.host guard.now) (honest C.is_honest) (clean C.is_clean) (standing C.holding) self.old r.Commit result self.new }
+        ensures ended { MatchResult result (λ _. self.new.1 ≡ None) (λ why. (is_memory why ≡ true → self.new.1 ≡ self.old.1) × (is_memory why ≡ false → self.new.1 ≡ None)) }
     {
         let Some(pending) = self.pending.take() else {
             return Err(Refusal::TransactionState);
@@ -123,6 +125,7 @@ impl<C: Cells> Session<C> {
     fn rollback(&mut self) -> Result<Reply, Refusal>
         ensures performs { (means : Means) (params : List Value) (host : Host) → Performed means params host (honest C.is_honest) (clean C.is_clean) (standing C.holding) self.old r.Rollback result self.new }
         ensures store { self.new.0 ≡ self.old.0 }
+        ensures ended { self.new.1 ≡ None }
     {
         match self.pending.take() {
             Some(_) => Ok(Reply::Done),
@@ -148,6 +151,7 @@ impl<C: Cells> Session<C> {
         ensures carries { (ms : List ModuleState) (has : List ℕ → Bool) → ⟦<F as Speaking>⟧.are_names functions.now has
             → Carries (⟦<F as Speaking>⟧.language functions.now has) (⟦<G as Watching>⟧.host guard.now) (honest C.is_honest) (clean C.is_clean) (beside ms (standing C.holding)) self.old params.now statement.now result self.new }
         ensures store { asks_commit statement.now ≡ false → self.new.0 ≡ self.old.0 }
+        ensures opened { MatchResult result (λ _. self.new.1 ≡ left_open statement.now) (λ _. (self.new.1 ≡ self.old.1) ⊎ ((asks_commit statement.now ≡ true) × (self.new.1 ≡ None))) }
     {
         let nothing = empty_snapshot(alloc, self.site_id());
         if let Err(refusal) = check_allowed(

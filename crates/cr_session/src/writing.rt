@@ -85,7 +85,8 @@ impl<C: Cells> Session<C> {
         changes: &[Change],
     ) -> Result<Reply, Refusal>
         requires { G.is_faithful guard.now }
-        ensures { Commits (⟦<G as Watching>⟧.host guard.now) (honest C.is_honest) (clean C.is_clean) (standing C.holding) self.old changes.now result self.new }
+        ensures commits { Commits (⟦<G as Watching>⟧.host guard.now) (honest C.is_honest) (clean C.is_clean) (standing C.holding) self.old changes.now result self.new }
+        ensures pending { self.new.1 ≡ self.old.1 }
     {
         match self.take_shown(alloc, guard, changes) {
             Ok(()) => Ok(Reply::Done),

@@ -1,8 +1,10 @@
-use Rattle.std.proofs.Common.{rules, ◌≡◌, true}
+use Rattle.std.proofs.Common.{rules, ◌≡◌, ◌∙◌, sym, true}
+use Rattle.cr_world.specs.declared.refusal.Refusal.TheVariants.{NoReplica}
 use Rattle.cr_script.specs.Speaking.{HasHeard, closures, host_under, spoken}
 use Rattle.cr_script.proofs.Staying.{same_closures}
 use Rattle.cr_session.specs.Sessions.{clean, honest, is_own, standing}
 use Rattle.cr_served.specs.Running.{watch, policy_of, hears}
+use Rattle.cr_served.proofs.Ruling.{own_rules, refused_rules}
 use Rattle.cr_served.proofs.Steps.{own_ran}
 use Rattle.cr_served.proofs.Watching.{own_over}
 use Rattle.cr_served.proofs.alone.step_alone.Goals as goal
@@ -19,3 +21,11 @@ returns-then-is_own-clause-ran g c = λ has names.
 
 pub returns-then-is_own-clause-closures : goal.returns-then-is_own-clause-closures
 returns-then-is_own-clause-closures g c = same_closures g.G.Guarding.is_faithful g.G.Guarding.rules g.G.Guarding.allows g.G.Guarding.refuses g.G.Guarding.noting _ _ c.step.ensures.guard
+
+pub returns-then-is_own-clause-rules : goal.returns-then-is_own-clause-rules
+returns-then-is_own-clause-rules g c =
+    let own : is_own c.args.command.now ≡ true = search rules in
+    c.step.ensures.guard.same_rules ∙ sym (own_rules c.args.command.now c.step.result (g.G.Guarding.rules c.args.guard.now) own)
+
+pub returns-in_default-clause-rules : goal.returns-in_default-clause-rules
+returns-in_default-clause-rules g c = sym (refused_rules c.args.command.now NoReplica (g.G.Guarding.rules c.args.guard.now))

@@ -14,35 +14,35 @@ use Rattle.cr_world.specs.State.{new_state}
 use Rattle.cr_session.proofs.Takings.{wanting}
 use Rattle.cr_fleet.proofs.fleet.Fleet.open.Goals as goal
 
-pub returns-then-not-is_free : goal.returns-then-not-is_free
-returns-then-not-is_free g c = λ l k policy.
+pub returns-then-not-is_free-clause-steps : goal.returns-then-not-is_free-clause-steps
+returns-then-not-is_free-clause-steps g c = λ l k policy.
     let taken : is_free_name c.args.name.now c.args.self.now ≡ false = ap (λ (n : List ℕ). is_free_name n c.args.self.now) (sym c.as_str.ensures.value) ∙ sym c.is_free.ensures ∙ c.if-not-is_free.true in
     let copied : c.in_ok-copy.field-0 ≡ c.args.name.now = search rules in
     subst (λ (n : List ℕ). Steps l k (clean g.C.Cells.is_clean) (standing g.C.Cells.holding) policy c.args.self.now (Open c.args.name.now c.args.site) (Refused (BadName n)) policy c.args.self.now) (sym copied) (open_name l k (clean g.C.Cells.is_clean) (standing g.C.Cells.holding) policy c.args.self.now c.args.name.now c.args.site taken)
 
-pub returns-then-len-ge-REPLICA_LIMIT : goal.returns-then-len-ge-REPLICA_LIMIT
-returns-then-len-ge-REPLICA_LIMIT g c = λ l k policy.
+pub returns-then-len-ge-REPLICA_LIMIT-clause-steps : goal.returns-then-len-ge-REPLICA_LIMIT-clause-steps
+returns-then-len-ge-REPLICA_LIMIT-clause-steps g c = λ l k policy.
     let replicas = c.self.inside.replicas in
     let free : is_free_name c.args.name.now c.args.self.now ≡ true = ap (λ (n : List ℕ). is_free_name n c.args.self.now) (sym c.as_str.ensures.value) ∙ sym c.is_free.ensures ∙ c.if-not-is_free.false in
     let full : 64 ≤ length replicas.items = (let h = c.if-len-ge-REPLICA_LIMIT.true in let l = c.len.ensures in let n = replicas.ok.0 in omega arith) in
     rw (← c.self.view_is) (open_full l k (clean g.C.Cells.is_clean) (standing g.C.Cells.holding) policy _ c.args.name.now c.args.site (rw (← c.self.view_is) at free) (full_paired (clean g.C.Cells.is_clean) (standing g.C.Cells.holding) replicas.items c.args.site full))
 
-pub returns-then-has_site : goal.returns-then-has_site
-returns-then-has_site g c = λ l k policy.
+pub returns-then-has_site-clause-steps : goal.returns-then-has_site-clause-steps
+returns-then-has_site-clause-steps g c = λ l k policy.
     let replicas = c.self.inside.replicas in
     let free : is_free_name c.args.name.now c.args.self.now ≡ true = ap (λ (n : List ℕ). is_free_name n c.args.self.now) (sym c.as_str.ensures.value) ∙ sym c.is_free.ensures ∙ c.if-not-is_free.false in
     let room : length replicas.items < 64 = (let h = c.if-len-ge-REPLICA_LIMIT.false in let l = c.len.ensures in let n = replicas.ok.0 in omega arith) in
     rw (← c.self.view_is) (open_site l k (clean g.C.Cells.is_clean) (standing g.C.Cells.holding) policy _ c.args.name.now c.args.site (rw (← c.self.view_is) at free) (room_paired (clean g.C.Cells.is_clean) (standing g.C.Cells.holding) replicas.items c.args.site room)
     (site_paired (clean g.C.Cells.is_clean) (standing g.C.Cells.holding) replicas.items c.args.site true (λ clean. sym c.if-has_site.true ∙ rw c.deref.ensures.value at (c.has_site.ensures (subst (AllByRecursion (λ r. g.C.Cells.is_clean r.session.0)) (sym c.deref.ensures.value) clean))) c.self.inside.in_use))
 
-pub returns-in_err-copy : goal.returns-in_err-copy
-returns-in_err-copy g c = λ l k policy.
+pub returns-in_err-copy-clause-steps : goal.returns-in_err-copy-clause-steps
+returns-in_err-copy-clause-steps g c = λ l k policy.
     let taken : is_free_name c.args.name.now c.args.self.now ≡ false = ap (λ (n : List ℕ). is_free_name n c.args.self.now) (sym c.as_str.ensures.value) ∙ sym c.is_free.ensures ∙ c.if-not-is_free.true in
     let told = err_from_is_err_and c.from_residual.result c.from_residual.ensures.1 in
     rw (told.1, told.2) (open_nameless l k (clean g.C.Cells.is_clean) (standing g.C.Cells.holding) policy c.args.self.now c.args.name.now c.args.site taken)
 
-pub returns-in_err-name : goal.returns-in_err-name
-returns-in_err-name g c = λ l k policy.
+pub returns-in_err-name-clause-steps : goal.returns-in_err-name-clause-steps
+returns-in_err-name-clause-steps g c = λ l k policy.
     let replicas = c.self.inside.replicas in
     let free : is_free_name c.args.name.now c.args.self.now ≡ true = ap (λ (n : List ℕ). is_free_name n c.args.self.now) (sym c.as_str.ensures.value) ∙ sym c.is_free.ensures ∙ c.if-not-is_free.false in
     let room : length replicas.items < 64 = (let h = c.if-len-ge-REPLICA_LIMIT.false in let l = c.len.ensures in let n = replicas.ok.0 in omega arith) in
@@ -51,8 +51,8 @@ returns-in_err-name g c = λ l k policy.
     rw (told.1, told.2, ← c.self.view_is)
     (not_opened l k (clean g.C.Cells.is_clean) (standing g.C.Cells.holding) policy replicas.items replicas.items c.self.inside.in_use c.args.name.now c.args.site Memory refl (inl refl) (rw (← c.self.view_is) at free) (room_paired (clean g.C.Cells.is_clean) (standing g.C.Cells.holding) replicas.items c.args.site room) other)
 
-pub returns-in-Err : goal.returns-in-Err
-returns-in-Err g c = λ l k policy.
+pub returns-in-Err-clause-steps : goal.returns-in-Err-clause-steps
+returns-in-Err-clause-steps g c = λ l k policy.
     let replicas = c.self.inside.replicas in
     let free : is_free_name c.args.name.now c.args.self.now ≡ true = ap (λ (n : List ℕ). is_free_name n c.args.self.now) (sym c.as_str.ensures.value) ∙ sym c.is_free.ensures ∙ c.if-not-is_free.false in
     let room : length replicas.items < 64 = (let h = c.if-len-ge-REPLICA_LIMIT.false in let l = c.len.ensures in let n = replicas.ok.0 in omega arith) in
@@ -60,8 +60,8 @@ returns-in-Err g c = λ l k policy.
     rw (c.from.ensures, ← c.self.view_is)
     (not_opened l k (clean g.C.Cells.is_clean) (standing g.C.Cells.holding) policy replicas.items replicas.items c.self.inside.in_use c.args.name.now c.args.site (of_store c.in-Err.error) refl (wanting c.in-Err.error c.in-Err.ensures.made) (rw (← c.self.view_is) at free) (room_paired (clean g.C.Cells.is_clean) (standing g.C.Cells.holding) replicas.items c.args.site room) other)
 
-pub returns-then-is_err : goal.returns-then-is_err
-returns-then-is_err g c = λ l k policy.
+pub returns-then-is_err-clause-steps : goal.returns-then-is_err-clause-steps
+returns-then-is_err-clause-steps g c = λ l k policy.
     let replicas = c.self.inside.replicas in
     let free : is_free_name c.args.name.now c.args.self.now ≡ true = ap (λ (n : List ℕ). is_free_name n c.args.self.now) (sym c.as_str.ensures.value) ∙ sym c.is_free.ensures ∙ c.if-not-is_free.false in
     let room : length replicas.items < 64 = (let h = c.if-len-ge-REPLICA_LIMIT.false in let l = c.len.ensures in let n = replicas.ok.0 in omega arith) in
@@ -70,8 +70,8 @@ returns-then-is_err g c = λ l k policy.
     rw (← c.self.view_is)
     (not_opened l k (clean g.C.Cells.is_clean) (standing g.C.Cells.holding) policy replicas.items c.push.new.self.items c.self.inside.in_use c.args.name.now c.args.site Memory same (inl refl) (rw (← c.self.view_is) at free) (room_paired (clean g.C.Cells.is_clean) (standing g.C.Cells.holding) replicas.items c.args.site room) other)
 
-pub returns : goal.returns
-returns g c = λ l k policy.
+pub returns-clause-steps : goal.returns-clause-steps
+returns-clause-steps g c = λ l k policy.
     let replicas = c.self.inside.replicas in
     let free : is_free_name c.args.name.now c.args.self.now ≡ true = ap (λ (n : List ℕ). is_free_name n c.args.self.now) (sym c.as_str.ensures.value) ∙ sym c.is_free.ensures ∙ c.if-not-is_free.false in
     let room : length replicas.items < 64 = (let h = c.if-len-ge-REPLICA_LIMIT.false in let l = c.len.ensures in let n = replicas.ok.0 in omega arith) in

@@ -28,7 +28,7 @@ returns-clause-does g c = λ has host.
     let ms : List ModuleState = map (λ r. made r.name (g.M.Module.columns_of r.host) (g.M.Module.rows_of r.host) (g.M.Module.updated r.host)) c.args.self.now.modules.list.items in
     let l : Language Statement Ordered = spoken (g.F.Functions.function_of c.args.functions.now) (g.F.Functions.scalar c.args.functions.now) (g.F.Functions.step c.args.functions.now) (g.F.Functions.finish c.args.functions.now) (g.F.Functions.order_of c.args.functions.now) (g.F.Functions.orders_total c.args.functions.now) has in
     let free : is_some (module_in ms c.args.def.now.name) ≡ false = ap (λ (n : List ℕ). is_some (module_in ms n)) (sym c.as_str.ensures.value) ∙ sym c.has.ensures ∙ c.if-has.false in
-    let d = c.define.ensures has host in
+    let d = c.define.ensures.does has host in
     record {
       was_honest = d.was_honest;
       was_clean = d.was_clean;

@@ -1,5 +1,5 @@
 use Rattle.std.proofs.Common.{[]}
-use Rattle.cr_cells.proofs.CallerLemmas.{kept-once_more}
+use Rattle.cr_replica.proofs.Committing.{kept-once_more}
 use Rattle.cr_replica.proofs.replica.Replica.commit.Goals.{in-Ok, in-Err}
 use Rattle.cr_replica.proofs.replica.Replica.commit.Goals as goal
 

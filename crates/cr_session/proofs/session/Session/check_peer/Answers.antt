@@ -4,18 +4,18 @@ use Rattle.cr_session.specs.Sessions.{standing, unless}
 use Rattle.cr_session.proofs.Takings.{at_once_inside, at_once_outside, own_is}
 use Rattle.cr_session.proofs.session.Session.check_peer.Goals as goal
 
-pub returns-then-in_transaction : goal.returns-then-in_transaction
-returns-then-in_transaction g c = λ version clean.
+pub returns-then-in_transaction-clause-told : goal.returns-then-in_transaction-clause-told
+returns-then-in_transaction-clause-told g c = λ version clean.
     sym (ap unless (at_once_inside (standing g.C.Cells.holding c.args.self.now) (Some (c.args.site.now, version)) (sym c.in_transaction.ensures ∙ c.if-in_transaction.true)))
 
-pub returns-then-same_bytes : goal.returns-then-same_bytes
-returns-then-same_bytes g c = λ version clean.
+pub returns-then-same_bytes-clause-told : goal.returns-then-same_bytes-clause-told
+returns-then-same_bytes-clause-told g c = λ version clean.
     let st = standing g.C.Cells.holding c.args.self.now in
     sym (ap unless (at_once_outside st (Some (c.args.site.now, version)) (sym c.in_transaction.ensures ∙ c.if-in_transaction.false)
     ∙ own_is st c.args.site.now version _ (ap (same_bytes c.args.site.now) (sym (c.site_id.ensures clean)) ∙ sym c.same_bytes.ensures ∙ c.if-same_bytes.true)))
 
-pub returns : goal.returns
-returns g c = λ version clean.
+pub returns-clause-told : goal.returns-clause-told
+returns-clause-told g c = λ version clean.
     let st = standing g.C.Cells.holding c.args.self.now in
     sym (ap unless (at_once_outside st (Some (c.args.site.now, version)) (sym c.in_transaction.ensures ∙ c.if-in_transaction.false)
     ∙ own_is st c.args.site.now version _ (ap (same_bytes c.args.site.now) (sym (c.site_id.ensures clean)) ∙ sym c.same_bytes.ensures ∙ c.if-same_bytes.false)))

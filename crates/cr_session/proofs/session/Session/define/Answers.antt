@@ -7,8 +7,8 @@ use Rattle.cr_session.proofs.Scripting.{collations_are}
 use Rattle.cr_session.proofs.session.Session.define.Goals.{in-Ok, in-Err}
 use Rattle.cr_session.proofs.session.Session.define.Goals as goal
 
-pub returns : goal.returns
-returns g c = λ has host.
+pub returns-clause-does : goal.returns-clause-does
+returns-clause-does g c = λ has host.
     let pending : Option (List Change) = option_map (λ p. p.1) c.self.inside.pending in
     let none : is_some pending ≡ false = ap (λ (s : SessionOf g.row.C.Denot). is_some s.1) c.self.view_is ∙ sym c.in_transaction.ensures ∙ c.if-in_transaction.false in
     let known = collations_are (g.F.Functions.function_of c.args.functions.now) (g.F.Functions.scalar c.args.functions.now) (g.F.Functions.step c.args.functions.now) (g.F.Functions.finish c.args.functions.now)

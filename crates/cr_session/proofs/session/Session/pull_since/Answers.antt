@@ -1,4 +1,4 @@
-use Rattle.std.proofs.Common.{rules, ◌∙◌, ℕ, List, Option, Some, Err, pos, sym, ap, to_z, of_z, to_z-of_z, w64, SFits}
+use Rattle.std.proofs.Common.{rules, ◌∙◌, ℕ, List, Option, Some, Err, pos, true, refl, sym, ap, to_z, of_z, to_z-of_z, w64, SFits}
 use Rattle.cr_lattice.specs.declared.change.Change.{Change}
 use Rattle.cr_cells.specs.Holding.{Holding}
 use Rattle.cr_cells.specs.Marks.{Mark, seen_of}
@@ -23,9 +23,9 @@ unfolding more mark
 returns-in-Err-clause-pulls g c =
     let at = standing g.C.Cells.holding c.args.self.now in
     let version = (g.D.Cells.holding c.args.peer.now.0).version in
-    pull_stopped (host_under (closures (g.G.Guarding.allows c.args.guard.now) (g.G.Guarding.refuses c.args.guard.now)) (g.G.Guarding.rules c.args.guard.now)) more mark mark (honest g.C.Cells.is_honest) (clean g.C.Cells.is_clean) (standing g.C.Cells.holding) (honest g.D.Cells.is_honest) (clean g.D.Cells.is_clean) (standing g.D.Cells.holding)
+    pull_stopped (host_under (closures (g.G.Guarding.allows c.args.guard.now) (g.G.Guarding.refuses c.args.guard.now)) (g.G.Guarding.rules c.args.guard.now)) true more mark mark (honest g.C.Cells.is_honest) (clean g.C.Cells.is_clean) (standing g.C.Cells.holding) (honest g.D.Cells.is_honest) (clean g.D.Cells.is_clean) (standing g.D.Cells.holding)
     c.args.self.now c.args.peer.now c.in-Err.refusal
-    (λ own theirs. ap (λ (site : List ℕ). at_once at (Some (site, version))) (sym (c.site_id-site.ensures theirs)) ∙ unless_some _ _ (c.in-Err.ensures version own))
+    (λ own theirs. ap (λ (site : List ℕ). at_once at (Some (site, version))) (sym (c.site_id-site.ensures theirs)) ∙ unless_some _ _ (c.in-Err.ensures.told version own))
 
 pub returns-clause-pulls : goal.returns-clause-pulls
 unfolding more mark
@@ -34,7 +34,7 @@ returns-clause-pulls g c =
     let old = g.D.Cells.holding c.args.peer.now.0 in
     let fits : SFits w64 c.db_version-version.result = search rules in
     let seen_fits : SFits w64 c.in-Ok.seen = search rules in
-    pull_taken (host_under (closures (g.G.Guarding.allows c.args.guard.now) (g.G.Guarding.refuses c.args.guard.now)) (g.G.Guarding.rules c.args.guard.now)) more mark mark (honest g.C.Cells.is_honest) (clean g.C.Cells.is_clean) (standing g.C.Cells.holding) (honest g.D.Cells.is_honest) (clean g.D.Cells.is_clean) (standing g.D.Cells.holding)
+    pull_taken (host_under (closures (g.G.Guarding.allows c.args.guard.now) (g.G.Guarding.refuses c.args.guard.now)) (g.G.Guarding.rules c.args.guard.now)) true more mark mark (honest g.C.Cells.is_honest) (clean g.C.Cells.is_clean) (standing g.C.Cells.holding) (honest g.D.Cells.is_honest) (clean g.D.Cells.is_clean) (standing g.D.Cells.holding)
     c.args.self.now c.args.peer.now c.seen.new.self
     (record {
       was_honest = c.seen.ensures.device.was_honest;
@@ -49,7 +49,7 @@ returns-clause-pulls g c =
       lasts = λ honest_now was. c.in-Ok-changes_above.ensures.device.stays_clean honest_now was;
       same = λ clean_now. stands_still g.D.Cells.holding c.args.peer.now c.changes_above.new.self (c.in-Ok-changes_above.ensures.reads clean_now).same c.changes_above.ensures.pending;
     })
-    (λ own theirs. ap (λ (site : List ℕ). at_once at (Some (site, old.version))) (sym (c.site_id-site.ensures theirs)) ∙ unless_none _ _ (c.in_default.ensures old.version own))
+    (λ own theirs. ap (λ (site : List ℕ). at_once at (Some (site, old.version))) (sym (c.site_id-site.ensures theirs)) ∙ unless_none _ _ (c.in_default.ensures.told old.version own))
     c.deref.result.now (Some (c.site_id-site.result, to_z w64 (of_z w64 c.db_version-version.result)))
     (λ own theirs. c.deref.ensures.value ∙ (c.in-Ok-changes_above.ensures.reads theirs).answers
     ∙ ap (changes_above old) (to_z-of_z seen_fits ∙ (c.in-Ok.ensures.reads own).answers ∙ ap (seen_of (g.C.Cells.holding c.args.self.now.0).marks) (c.site_id-site.ensures (c.changes_above.ensures.device.was_clean theirs))))
@@ -57,29 +57,29 @@ returns-clause-pulls g c =
       c.site_id-site.ensures (c.changes_above.ensures.device.was_clean theirs) i,
       (to_z-of_z fits ∙ c.db_version-version.ensures theirs ∙ ap (λ (h : Holding). h.version) (c.in-Ok-changes_above.ensures.reads theirs).same) i,
     ))
-    c.take_all.result c.take_all.new.self c.take_all.ensures.takes
+    (λ own. unless_none _ _ (c.in_default.ensures.told (to_z w64 (of_z w64 c.db_version-version.result)) own)) refl c.take_all.result c.take_all.new.self c.take_all.ensures.takes
 
 pub returns-in-Err-clause-at_once : goal.returns-in-Err-clause-at_once
 returns-in-Err-clause-at_once g c =
     let at = standing g.C.Cells.holding c.args.self.now in
-    λ own theirs. tells_at_once _ c.in-Err.refusal c.args.self.now (ap (λ (site : List ℕ). at_once at (Some (site, pos 0))) (sym (c.site_id-site.ensures theirs)) ∙ unless_some _ _ (c.in-Err.ensures (pos 0) own))
+    λ own theirs. tells_at_once _ c.in-Err.refusal c.args.self.now (ap (λ (site : List ℕ). at_once at (Some (site, pos 0))) (sym (c.site_id-site.ensures theirs)) ∙ unless_some _ _ (c.in-Err.ensures.told (pos 0) own))
 
 pub returns-in-Err-seen-clause-at_once : goal.returns-in-Err-seen-clause-at_once
 returns-in-Err-seen-clause-at_once g c =
     let at = standing g.C.Cells.holding c.args.self.now in
-    λ own theirs. not_told_at_once _ c.args.self.now (Err c.from.result) c.seen.new.self (ap (λ (site : List ℕ). at_once at (Some (site, pos 0))) (sym (c.site_id-site.ensures theirs)) ∙ unless_none _ _ (c.in_default.ensures (pos 0) own))
+    λ own theirs. not_told_at_once _ c.args.self.now (Err c.from.result) c.seen.new.self (ap (λ (site : List ℕ). at_once at (Some (site, pos 0))) (sym (c.site_id-site.ensures theirs)) ∙ unless_none _ _ (c.in_default.ensures.told (pos 0) own))
 
 pub returns-in-Err-changes_above-clause-at_once : goal.returns-in-Err-changes_above-clause-at_once
 returns-in-Err-changes_above-clause-at_once g c =
     let at = standing g.C.Cells.holding c.args.self.now in
-    λ own theirs. not_told_at_once _ c.args.self.now (Err c.from-in-Err-changes_above.result) c.seen.new.self (ap (λ (site : List ℕ). at_once at (Some (site, pos 0))) (sym (c.site_id-site.ensures theirs)) ∙ unless_none _ _ (c.in_default.ensures (pos 0) own))
+    λ own theirs. not_told_at_once _ c.args.self.now (Err c.from-in-Err-changes_above.result) c.seen.new.self (ap (λ (site : List ℕ). at_once at (Some (site, pos 0))) (sym (c.site_id-site.ensures theirs)) ∙ unless_none _ _ (c.in_default.ensures.told (pos 0) own))
 
 pub returns-then-version-lt0-clause-at_once : goal.returns-then-version-lt0-clause-at_once
 returns-then-version-lt0-clause-at_once g c =
     let at = standing g.C.Cells.holding c.args.self.now in
-    λ own theirs. not_told_at_once _ c.args.self.now (Err (refusal.Store Refused)) c.seen.new.self (ap (λ (site : List ℕ). at_once at (Some (site, pos 0))) (sym (c.site_id-site.ensures theirs)) ∙ unless_none _ _ (c.in_default.ensures (pos 0) own))
+    λ own theirs. not_told_at_once _ c.args.self.now (Err (refusal.Store Refused)) c.seen.new.self (ap (λ (site : List ℕ). at_once at (Some (site, pos 0))) (sym (c.site_id-site.ensures theirs)) ∙ unless_none _ _ (c.in_default.ensures.told (pos 0) own))
 
 pub returns-clause-at_once : goal.returns-clause-at_once
 returns-clause-at_once g c =
     let at = standing g.C.Cells.holding c.args.self.now in
-    λ own theirs. not_told_at_once _ c.args.self.now c.take_all.result c.take_all.new.self (ap (λ (site : List ℕ). at_once at (Some (site, pos 0))) (sym (c.site_id-site.ensures theirs)) ∙ unless_none _ _ (c.in_default.ensures (pos 0) own))
+    λ own theirs. not_told_at_once _ c.args.self.now c.take_all.result c.take_all.new.self (ap (λ (site : List ℕ). at_once at (Some (site, pos 0))) (sym (c.site_id-site.ensures theirs)) ∙ unless_none _ _ (c.in_default.ensures.told (pos 0) own))

@@ -6,8 +6,8 @@ use Rattle.cr_session.proofs.Defining.{define_forbidden, define_forbidden_first,
 use Rattle.cr_session.proofs.Scripting.{collations_are}
 use Rattle.cr_session.proofs.session.Session.refuse_definition.Goals as goal
 
-pub returns-in-Ok-accept : goal.returns-in-Ok-accept
-returns-in-Ok-accept g c = λ has host.
+pub returns-in-Ok-accept-clause-does : goal.returns-in-Ok-accept-clause-does
+returns-in-Ok-accept-clause-does g c = λ has host.
     let pending : Option (List Change) = option_map (λ p. p.1) c.self.inside.pending in
     let some : is_some pending ≡ true = ap (λ (s : SessionOf g.row.C.Denot). is_some s.1) c.self.view_is ∙ c.requires in
     let known = collations_are (g.F.Functions.function_of c.args.functions.now) (g.F.Functions.scalar c.args.functions.now) (g.F.Functions.step c.args.functions.now) (g.F.Functions.finish c.args.functions.now)
@@ -17,8 +17,8 @@ returns-in-Ok-accept g c = λ has host.
     (λ honest clean. c.in-Ok.ensures.device.stays_clean honest clean) (λ clean. (c.in-Ok.ensures.reads clean).same) c.as_slice.result.now (λ clean. c.as_slice.ensures ∙ (c.in-Ok.ensures.reads clean).answers.tables)
     c.in-Ok-accept.ensures)
 
-pub returns : goal.returns
-returns g c = λ has host.
+pub returns-clause-does : goal.returns-clause-does
+returns-clause-does g c = λ has host.
     let pending : Option (List Change) = option_map (λ p. p.1) c.self.inside.pending in
     let some : is_some pending ≡ true = ap (λ (s : SessionOf g.row.C.Denot). is_some s.1) c.self.view_is ∙ c.requires in
     let known = collations_are (g.F.Functions.function_of c.args.functions.now) (g.F.Functions.scalar c.args.functions.now) (g.F.Functions.step c.args.functions.now) (g.F.Functions.finish c.args.functions.now)
@@ -28,8 +28,8 @@ returns g c = λ has host.
     (λ honest clean. c.in-Ok.ensures.device.stays_clean honest clean) (λ clean. (c.in-Ok.ensures.reads clean).same) c.as_slice.result.now (λ clean. c.as_slice.ensures ∙ (c.in-Ok.ensures.reads clean).answers.tables)
     c.in-Err-accept.error (sym c.is_early.ensures ∙ c.if-is_early.false) c.in-Err-accept.ensures.1)
 
-pub returns-then-is_early : goal.returns-then-is_early
-returns-then-is_early g c = λ has host.
+pub returns-then-is_early-clause-does : goal.returns-then-is_early-clause-does
+returns-then-is_early-clause-does g c = λ has host.
     let pending : Option (List Change) = option_map (λ p. p.1) c.self.inside.pending in
     let some : is_some pending ≡ true = ap (λ (s : SessionOf g.row.C.Denot). is_some s.1) c.self.view_is ∙ c.requires in
     let known = collations_are (g.F.Functions.function_of c.args.functions.now) (g.F.Functions.scalar c.args.functions.now) (g.F.Functions.step c.args.functions.now) (g.F.Functions.finish c.args.functions.now)

@@ -20,7 +20,7 @@ returns-in-Begin-clause-carries g c = λ ms has names.
 pub returns-in-Commit-clause-carries : goal.returns-in-Commit-clause-carries
 returns-in-Commit-clause-carries g c = λ ms has names.
     carries_transacted _ _ _ _ _ _ has _ names _ (honest g.C.Cells.is_honest) (clean g.C.Cells.is_clean) (beside ms (standing g.C.Cells.holding)) c.args.params.now c.args.self.now c.commit.new.self c.args.statement.now c.empty_snapshot-nothing.result r.Commit c.commit.result c.requires.form
-    (λ answers known. ap (λ x. left_of answers (read known x).made) c.in-Commit.is) (performed_beside _ _ _ g.C.Cells.is_honest g.C.Cells.is_clean g.C.Cells.holding ms _ _ _ _ refl (λ clean. refl) (c.commit.ensures _ _)) c.in_default.ensures
+    (λ answers known. ap (λ x. left_of answers (read known x).made) c.in-Commit.is) (performed_beside _ _ _ g.C.Cells.is_honest g.C.Cells.is_clean g.C.Cells.holding ms _ _ _ _ refl (λ clean. refl) (c.commit.ensures.performs _ _)) c.in_default.ensures
 
 pub returns-clause-carries : goal.returns-clause-carries
 returns-clause-carries g c = λ ms has names.
