@@ -12,7 +12,8 @@ use Rattle.cr_world.specs.Answers.{tells_want, AreAnswered}
 use Rattle.cr_world.specs.Run.{Run, world_after}
 use Rattle.cr_world.proofs.Running.{rows_converge, run_converges}
 use Rattle.cr_fleet.specs.Hearing.{HearsRun}
-use Rattle.cr_served.specs.RunningLaws.{all_both, run_both, hears_both}
+use Rattle.cr_served.specs.Running.{InSteps}
+use Rattle.cr_served.specs.RunningLaws.{all_both, run_both, hears_both, steps_ran}
 use Rattle.cr_served.specs.Alone.{wants_others, unless, own, own_replies, OthersAreRefused, ShowsAlone, RanAlone}
 
 unless_more : {X : Type 0} (b : Bool) (x : X) (xs ys : List X) → unless b x (xs ++ ys) ≡ unless b x xs ++ ys
@@ -73,3 +74,7 @@ module _ {E C G : Type 0} (rules : G → Rules) (hears : G → G → List Event 
       let heard = hears_both l k hears s0.1 s1.1 s2.1 w (own cs) (own_replies cs rs) (own ds) (own_replies ds ss) (p.heard (q.was_clean clean) w s) (q.heard clean between a.1) in
       let shows : ShowsAlone stands (world_after l k w (own cs ++ own ds) (own_replies cs rs ++ own_replies ds ss)) (rules s2.1) s2.0 = subst (λ (v : World). ShowsAlone stands v (rules s2.1) s2.0) (sym t.1) b.1 in
       rw (own_more cs ds, replies_more cs ds rs ss p.refused) (t.0, shows, heard))
+
+  -- what ran one command after another ran as a list
+  pub alone_ran_steps : (s0 s1 : C × G) (cs : List Command) (rs : List FleetReply) → InSteps Becomes s0 s1 cs rs → Becomes s0 s1 cs rs
+  alone_ran_steps s0 s1 cs rs p = steps_ran Becomes alone_ran_none alone_ran_more s0 s1 cs rs p

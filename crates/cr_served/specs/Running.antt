@@ -1,5 +1,5 @@
 -- What becomes of a fleet and its policy over commands, and what is heard of them. Source: this project's own.
-use Rattle.std.specs.Prelude.{List, Option}
+use Rattle.std.specs.Prelude.{◌≡◌, List, [], ◌∷◌, Option}
 use Rattle.cr_guard.specs.Policy.{Rules}
 use Rattle.cr_guard.specs.declared.event.Event.{Event}
 use Rattle.cr_tree.specs.declared.statement.Statement.{Statement}
@@ -40,3 +40,10 @@ pub record Ran {E C G : Type 0} (rules : G → Rules) (hears : G → G → List 
   pub heard : IsUnharmed is_clean s0.0 rs s1.0 → (w : World) → Shows stands w (rules s0.1) s0.0 → HearsRun l k hears s0.1 w cs rs s1.1
   pub rows_converge : IsUnharmed is_clean s0.0 rs s1.0 → (w : World) → Shows stands w (rules s0.1) s0.0 → RowsConverge l k w cs rs
   pub converges : IsLanguage l → IsUnharmed is_clean s0.0 rs s1.0 → (w : World) → Shows stands w (rules s0.1) s0.0 → Converges l k w cs rs
+
+-- One command after another ran so, with its reply.
+abbrev pub InSteps : {S : Type 0} → (S → S → List Command → List FleetReply → Type 0) → S → S → List Command → List FleetReply → Type 0
+InSteps ran s0 s1 [] [] = s1 ≡ s0
+InSteps {S} ran s0 s1 (c ∷ cs) (r ∷ rs) = (mid : S) × ran s0 mid (c ∷ []) (r ∷ []) × InSteps ran mid s1 cs rs
+InSteps ran s0 s1 [] (r ∷ rs) = ⊥
+InSteps ran s0 s1 (c ∷ cs) [] = ⊥

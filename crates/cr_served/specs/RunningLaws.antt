@@ -15,7 +15,24 @@ use Rattle.cr_world.proofs.Running.{rows_converge, run_converges}
 use Rattle.cr_fleet.specs.Fleets.{FleetOf, AreClean, Shows, Steps}
 use Rattle.cr_fleet.specs.Hearing.{HearsRun, HearsStep}
 use Rattle.cr_fleet.proofs.Running.{clean_after_run}
-use Rattle.cr_served.specs.Running.{Ran}
+use Rattle.cr_served.specs.Running.{InSteps, Ran}
+
+-- one list of steps after another
+pub steps_more : {S : Type 0} (ran : S → S → List Command → List FleetReply → Type 0) (s0 s1 s2 : S) (cs ds : List Command) (rs ss : List FleetReply)
+    → InSteps ran s0 s1 cs rs → InSteps ran s1 s2 ds ss → InSteps ran s0 s2 (cs ++ ds) (rs ++ ss)
+steps_more {S} ran s0 s1 s2 [] ds [] ss p q = subst (λ (s : S). InSteps ran s s2 ds ss) p q
+steps_more ran s0 s1 s2 [] ds (r ∷ rs) ss p q = absurd p
+steps_more ran s0 s1 s2 (c ∷ cs) ds [] ss p q = absurd p
+steps_more ran s0 s1 s2 (c ∷ cs) ds (r ∷ rs) ss p q = (p.0, p.1, steps_more ran p.0 s1 s2 cs ds rs ss p.2 q)
+
+-- steps are what ran, where none may run, and one list after another
+pub steps_ran : {S : Type 0} (ran : S → S → List Command → List FleetReply → Type 0) → ((s : S) → ran s s [] [])
+    → ((s0 s1 s2 : S) (cs ds : List Command) (rs ss : List FleetReply) → ran s0 s1 cs rs → ran s1 s2 ds ss → ran s0 s2 (cs ++ ds) (rs ++ ss))
+    → (s0 s1 : S) (cs : List Command) (rs : List FleetReply) → InSteps ran s0 s1 cs rs → ran s0 s1 cs rs
+steps_ran {S} ran none more s0 s1 [] [] p = subst (λ (s : S). ran s0 s [] []) (sym p) (none s0)
+steps_ran ran none more s0 s1 [] (r ∷ rs) p = absurd p
+steps_ran ran none more s0 s1 (c ∷ cs) [] p = absurd p
+steps_ran ran none more s0 s1 (c ∷ cs) (r ∷ rs) p = more s0 p.0 s1 (c ∷ []) cs (r ∷ []) rs p.1 (steps_ran ran none more p.0 s1 cs rs p.2)
 
 pub all_both : {X : Type 0} (P : X → Type 0) (xs ys : List X) → AllByRecursion P (xs ++ ys) → AllByRecursion P xs × AllByRecursion P ys
 all_both P [] ys a = (tt, a)
@@ -75,3 +92,7 @@ module _ {E C G : Type 0} (rules : G → Rules) (hears : G → G → List Event 
         subst (λ (v : World). Shows stands v (rules s2.1) s2.0) (sym t.1) b.1,
         hears_both l k hears s0.1 s1.1 s2.1 w cs rs ds ss (p.heard (inl (q.was_clean clean)) w s) (q.heard (inl clean) (world_after l k w cs rs) a.1),
       ))
+
+  -- what ran one command after another ran as a list
+  pub fleet_ran_steps : (s0 s1 : FleetOf C × G) (cs : List Command) (rs : List FleetReply) → InSteps Becomes s0 s1 cs rs → Becomes s0 s1 cs rs
+  fleet_ran_steps s0 s1 cs rs p = steps_ran Becomes fleet_ran_none fleet_ran_more s0 s1 cs rs p

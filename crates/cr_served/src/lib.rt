@@ -2,4 +2,5 @@
 #![tactic(auto)]
 
 mod alone;
+pub mod laws;
 pub mod served;

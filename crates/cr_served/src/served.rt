@@ -57,10 +57,11 @@ pub trait Served {
 
 impl<C: NewCells> Served for Fleet<C> {
     ghost use Rattle.cr_session.specs.Sessions.{clean, standing};
-    ghost use Rattle.cr_served.specs.Running.{Ran, policy_of, hears};
-    ghost use Rattle.cr_served.specs.RunningLaws.{fleet_ran_none, fleet_ran_more};
+    ghost use Rattle.std.proofs.Common.{refl};
+    ghost use Rattle.cr_served.specs.Running.{InSteps, Ran, policy_of, hears};
+    ghost use Rattle.cr_served.specs.RunningLaws.{steps_more};
 
-    ghost ran = { λ l k s0 s1 cs rs. Ran policy_of hears l k (clean C.is_clean) (standing C.holding) s0 s1 cs rs };
+    ghost ran = { λ l k s0 s1 cs rs. InSteps (Ran policy_of hears l k (clean C.is_clean) (standing C.holding)) s0 s1 cs rs };
 
     fn carry_out<F: Functions, G: Guarding>(
         &mut self,
@@ -72,18 +73,19 @@ impl<C: NewCells> Served for Fleet<C> {
         self.step(alloc, functions, guard, command)
     }
 
-    ghost ran_none = { λ l k s. fleet_ran_none policy_of hears l k (clean C.is_clean) (standing C.holding) s };
+    ghost ran_none = { λ l k s. refl };
 
-    ghost ran_more = { λ l k s0 s1 s2 cs ds rs ss p q. fleet_ran_more policy_of hears l k (clean C.is_clean) (standing C.holding) s0 s1 s2 cs ds rs ss p q };
+    ghost ran_more = { λ l k s0 s1 s2 cs ds rs ss p q. steps_more (Ran policy_of hears l k (clean C.is_clean) (standing C.holding)) s0 s1 s2 cs ds rs ss p q };
 }
 
 impl<C: Cells> Served for Session<C> {
     ghost use Rattle.cr_session.specs.Sessions.{clean, honest, standing};
-    ghost use Rattle.cr_served.specs.Running.{policy_of, hears};
+    ghost use Rattle.std.proofs.Common.{refl};
+    ghost use Rattle.cr_served.specs.Running.{InSteps, policy_of, hears};
     ghost use Rattle.cr_served.specs.Alone.{RanAlone};
-    ghost use Rattle.cr_served.specs.AloneLaws.{alone_ran_none, alone_ran_more};
+    ghost use Rattle.cr_served.specs.RunningLaws.{steps_more};
 
-    ghost ran = { λ l k s0 s1 cs rs. RanAlone policy_of hears l k (honest C.is_honest) (clean C.is_clean) (standing C.holding) s0 s1 cs rs };
+    ghost ran = { λ l k s0 s1 cs rs. InSteps (RanAlone policy_of hears l k (honest C.is_honest) (clean C.is_clean) (standing C.holding)) s0 s1 cs rs };
 
     fn carry_out<F: Functions, G: Guarding>(
         &mut self,
@@ -95,7 +97,7 @@ impl<C: Cells> Served for Session<C> {
         step_alone(alloc, self, functions, guard, command)
     }
 
-    ghost ran_none = { λ l k s. alone_ran_none policy_of hears l k (honest C.is_honest) (clean C.is_clean) (standing C.holding) s };
+    ghost ran_none = { λ l k s. refl };
 
-    ghost ran_more = { λ l k s0 s1 s2 cs ds rs ss p q. alone_ran_more policy_of hears l k (honest C.is_honest) (clean C.is_clean) (standing C.holding) s0 s1 s2 cs ds rs ss p q };
+    ghost ran_more = { λ l k s0 s1 s2 cs ds rs ss p q. steps_more (RanAlone policy_of hears l k (honest C.is_honest) (clean C.is_clean) (standing C.holding)) s0 s1 s2 cs ds rs ss p q };
 }

@@ -19,7 +19,7 @@ use Rattle.cr_exec.proofs.Stages.{faults_on}
 use Rattle.cr_exec.specs.Answers.{Faults, IsMeant}
 use Rattle.cr_taken.specs.Taken.{AreKept, Replicates, replicated}
 use Rattle.cr_taken.proofs.Members.{found_member}
-use Rattle.cr_taken.proofs.Tables.{in_profile, kept_well_formed}
+use Rattle.cr_taken.proofs.Tables.{writable, kept_well_formed}
 use Rattle.cr_touched.specs.Parts.{is_key_of, keys_of, part}
 use Rattle.cr_touched.specs.Shown.{AreKeptOf}
 use Rattle.cr_touched.specs.Inserts.{Verdict, verdict_with}
@@ -90,7 +90,7 @@ module _ (means : Means) (params : List Value) (i : Insert) (more : List Row) (b
 -- Tables and what is kept of them, as a sound store has them, or a transaction: so is what is kept of one of them.
 module _ (tables : List Table) (kept : List Change) (def : TableDef) (are : AreKept tables kept) (there : Replicates tables def) where
   keyed : has_key def ≡ true
-  keyed = (in_profile tables kept def are there).key
+  keyed = (writable tables kept def are there).key
 
   defaults : has_defaults def ≡ true
   defaults = (member_has IsStored tables (replicated def) are.stored (found_member (is_named def.name) tables (replicated def) there)).defaults

@@ -1,6 +1,6 @@
 -- A statement is carried out as what it is once its names are resolved.
 use Rattle.std.proofs.Common.{◌≡◌, ◌⊎◌, inl, inr, ℕ, Bool, true, false, ◌&&◌, cond, List, [], Option, Some, None, option_map, Result, Ok, Err, length, refl, sym, ap, subst, ◌∙◌}
-use Rattle.std.specs.Prelude.{not, unwrap_or}
+use Rattle.std.specs.Prelude.{MatchResult, not, unwrap_or}
 use Rattle.std.specs.Option.{option_and_then, option_map_or}
 use Rattle.cr_value.specs.declared.value.Value.{Value}
 use Rattle.cr_lattice.specs.declared.catalog.Catalog.{Catalog}
@@ -43,8 +43,8 @@ use Rattle.cr_language.specs.Sql.{known as known_in, view, viewed, of_unresolved
 use Rattle.cr_answer.specs.Allowing.{Allows, IsRefused, known_by}
 use Rattle.cr_resolve.specs.declared.refusal.Refusal.{Refusal as Unresolved}
 use Rattle.cr_world.specs.Refusals.{is_want, of_store}
-use Rattle.cr_script.specs.Hearing.{is_transaction}
-use Rattle.cr_session.specs.Performing.{Performs, Performed, PerformsWith, PerformedWith, Permits, against, is_commit, is_performed, refused, with_limit}
+use Rattle.cr_script.specs.Hearing.{asks_commit, is_transaction}
+use Rattle.cr_session.specs.Performing.{Performs, Performed, PerformsWith, PerformedWith, Permits, against, is_commit, is_performed, left_open, refused, with_limit}
 use Rattle.cr_session.specs.Sessions.{Names, SessionOf, clean, honest, standing, state_of}
 use Rattle.cr_session.proofs.Making.{store_finds}
 use Rattle.cr_session.proofs.Selecting.{found_as}
@@ -135,6 +135,12 @@ rollback_is (s.Update u) e no_begin no_commit = absurd (let z : ⊥ = cc in z)
 rollback_is (s.Delete d) e no_begin no_commit = absurd (let z : ⊥ = cc in z)
 rollback_is (s.Create c) e no_begin no_commit = absurd (let z : ⊥ = cc in z)
 rollback_is (s.Alter a) e no_begin no_commit = absurd (let z : ⊥ = cc in z)
+
+-- it leaves none open
+pub rolled_back : (result : Result Reply Refusal) (x : Statement) (old new : Option (List Change)) → x ≡ s.Rollback
+    → MatchResult result (λ _. new ≡ None) (λ _. new ≡ old) → MatchResult result (λ _. new ≡ left_open x) (λ _. (new ≡ old) ⊎ ((asks_commit x ≡ true) × (new ≡ None)))
+rolled_back (Ok y) x old new is left = left ∙ ap left_open (sym is)
+rolled_back (Err r) x old new is left = inl left
 
 -- ---- a statement of any language
 

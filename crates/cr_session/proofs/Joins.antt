@@ -25,7 +25,7 @@ use Rattle.cr_meaning.specs.View as view
 use Rattle.cr_meaning.specs.Meaning.{IsLimit, Regard, regarded}
 use Rattle.cr_snapshot.specs.Seen.{name_of}
 use Rattle.cr_taken.specs.Taken.{AreKept, Replicates}
-use Rattle.cr_taken.proofs.Tables.{in_profile, kept_well_formed}
+use Rattle.cr_taken.proofs.Tables.{writable, kept_well_formed}
 use Rattle.cr_touched.specs.Parts.{is_key_of, part}
 use Rattle.cr_touched.specs.Shown.{AreKeptOf}
 use Rattle.cr_pushdown.specs.Passing.{passes, passing}
@@ -219,7 +219,7 @@ module _ (means : Means) (params : List Value) (q : Query) (h : Holding) (sound 
     told_alike keys r told f regard limit =
         let def = t.definition in
         let there = is_replicated_table r in
-        let keyed : has_key def ≡ true = (in_profile h.tables (now st) def are there).key in
+        let keyed : has_key def ≡ true = (writable h.tables (now st) def are there).key in
         let kept_of_it : AreKeptOf def (now st) = record { unbeaten = are.unbeaten; well_formed = kept_well_formed h.tables (now st) def are there } in
         ap (λ (rs : List Row). over regard (ts ++ (rs ∷ map shown after)))
         (all_rows ∙ ap (λ (b : Bool). if b then rows (now st) def else []) r)

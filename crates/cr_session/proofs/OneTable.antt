@@ -23,7 +23,7 @@ use Rattle.cr_replica.specs.declared.snapshot.Snapshot.{Snapshot}
 use Rattle.cr_snapshot.specs.Seen.{IsNamed, name_of, rows_listed, rows_seen}
 use Rattle.cr_taken.specs.Taken.{AreKept, Replicates, replicated}
 use Rattle.cr_taken.proofs.Members.{found_member}
-use Rattle.cr_taken.proofs.Tables.{in_profile, kept_well_formed}
+use Rattle.cr_taken.proofs.Tables.{writable, kept_well_formed}
 use Rattle.cr_touched.specs.Shown.{AreKeptOf}
 use Rattle.cr_world.specs.State.{State, changes_name, now, other_rows, row_of, rows_named, rows_or, tables_named}
 use Rattle.cr_session.specs.Lookup.{ShowsQuery}
@@ -50,7 +50,7 @@ module _ (h : Holding) (sound : IsSound h) (pending : Option (List Change)) (nam
   are = now_kept h pending sound fit
 
   pub keyed : has_key def ≡ true
-  keyed = (in_profile h.tables (now st) def are there).key
+  keyed = (writable h.tables (now st) def are there).key
 
   pub defaults : has_defaults def ≡ true
   defaults = (member_has IsStored h.tables (replicated def) are.stored (found_member (is_named def.name) h.tables (replicated def) there)).defaults

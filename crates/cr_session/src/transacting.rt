@@ -125,7 +125,7 @@ impl<C: Cells> Session<C> {
     fn rollback(&mut self) -> Result<Reply, Refusal>
         ensures performs { (means : Means) (params : List Value) (host : Host) → Performed means params host (honest C.is_honest) (clean C.is_clean) (standing C.holding) self.old r.Rollback result self.new }
         ensures store { self.new.0 ≡ self.old.0 }
-        ensures ended { self.new.1 ≡ None }
+        ensures ended { MatchResult result (λ _. self.new.1 ≡ None) (λ _. self.new.1 ≡ self.old.1) }
     {
         match self.pending.take() {
             Some(_) => Ok(Reply::Done),

@@ -5,7 +5,7 @@ use Rattle.cr_resolve.specs.Resolve.{read}
 use Rattle.cr_session.specs.Sessions.{clean, honest, standing}
 use Rattle.cr_session.specs.Performing.{beside}
 use Rattle.cr_session.proofs.Beside.{performed_beside}
-use Rattle.cr_session.proofs.Carrying.{carries_transacted, refuses_permitted, rollback_is}
+use Rattle.cr_session.proofs.Carrying.{carries_transacted, refuses_permitted, rollback_is, rolled_back}
 use Rattle.cr_session.proofs.session.Session.transact.Goals as goal
 
 pub returns-in-Err-clause-carries : goal.returns-in-Err-clause-carries
@@ -26,3 +26,7 @@ pub returns-clause-carries : goal.returns-clause-carries
 returns-clause-carries g c = λ ms has names.
     carries_transacted _ _ _ _ _ _ has _ names _ (honest g.C.Cells.is_honest) (clean g.C.Cells.is_clean) (beside ms (standing g.C.Cells.holding)) c.args.params.now c.args.self.now c.rollback.new.self c.args.statement.now c.empty_snapshot-nothing.result r.Rollback c.rollback.result c.requires.form
     (λ answers known. ap (λ x. left_of answers (read known x).made) (rollback_is c.args.statement.now c.requires.form c.in_default-statement.not-Begin c.in_default-statement.not-Commit)) (performed_beside _ _ _ g.C.Cells.is_honest g.C.Cells.is_clean g.C.Cells.holding ms _ _ _ _ refl (λ clean. refl) (c.rollback.ensures.performs _ _ _)) c.in_default.ensures
+
+pub returns-clause-opened : goal.returns-clause-opened
+returns-clause-opened g c =
+    rolled_back c.rollback.result c.args.statement.now c.args.self.now.1 c.rollback.new.self.1 (rollback_is c.args.statement.now c.requires.form c.in_default-statement.not-Begin c.in_default-statement.not-Commit) c.rollback.ensures.ended
