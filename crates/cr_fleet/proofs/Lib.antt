@@ -1,12 +1,11 @@
 pub mod Honest
 pub mod Places
+pub mod TwoPlaces
 pub mod Marking
 pub mod Stepping
 pub mod Hearing
 pub mod Opening
-pub mod Reading
 pub mod Pulling
-pub mod PullingSince
 pub mod Running
 pub mod Converging
 pub mod Using

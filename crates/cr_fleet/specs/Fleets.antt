@@ -11,7 +11,7 @@ use Rattle.cr_world.specs.declared.command.Command.TheVariants.{Policy}
 use Rattle.cr_world.specs.declared.command.FleetReply.{FleetReply}
 use Rattle.cr_world.specs.declared.command.FleetReply.TheVariants.{Done}
 use Rattle.cr_world.specs.Language.{Language}
-use Rattle.cr_world.specs.State.{State, in_transaction}
+use Rattle.cr_world.specs.State.{State}
 use Rattle.cr_world.specs.World.{World, Member, Closures, AllKeep}
 use Rattle.cr_world.specs.Answers.{Answers, after, tells_want, AreAnswered, is_replica_name, has_site}
 
@@ -79,16 +79,3 @@ place_in f name = position (λ r. same_bytes r.0 name) f.0
 -- a new replica may have the name
 abbrev pub is_free_name : {C : Type 0} → List ℕ → FleetOf C → Bool
 is_free_name name f = is_replica_name name && not (is_some (place_in f name))
-
--- What the replica in use takes of the one of that name: the mark that it keeps for that one's site is at this version. They
--- have different sites, and the one in use has no open transaction.
-pub record IsOffered {C : Type 0} (is_clean : C → Type 0) (stands : C → State) (f : FleetOf C) (name : List ℕ) (at from : ℕ) (version : ℤ) : Type 0 where
-  pub taker : List ℕ × C
-  pub peer : List ℕ × C
-  pub in_use : f.1 ≡ Some at
-  pub named : place_in f name ≡ Some from
-  pub taker_at : slice_get f.0 at ≡ Some taker
-  pub peer_at : slice_get f.0 from ≡ Some peer
-  pub outside : in_transaction (stands taker.1) ≡ false
-  pub apart : AreClean is_clean f → same_bytes (stands peer.1).holding.site (stands taker.1).holding.site ≡ false
-  pub seen : AreClean is_clean f → version ≡ seen_of (stands taker.1).holding.marks (stands peer.1).holding.site

@@ -1,2 +1,3 @@
 pub mod Fleets
 pub mod Hearing
+pub mod Pulls

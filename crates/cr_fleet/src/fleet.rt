@@ -1,12 +1,14 @@
 //! A fleet of replicas that take and pull changes and run scripts.
 
-ghost use Rattle.std.specs.Prelude.{◌≡◌, IfOk, OnErr, position};
+ghost use Rattle.std.specs.Prelude.{◌≡◌, ◌<◌, ◌≢◌, IfOk, OnErr, length, map, position};
 ghost use Rattle.std.specs.List.{list_any, list_all, AllByRecursion};
 ghost use Rattle.std.specs.Char.{is_ascii_alphanumeric};
 ghost use Rattle.cr_lattice.specs.Check.{same_bytes};
 ghost use Rattle.cr_world.specs.Answers.{is_replica_name};
+ghost use Rattle.cr_session.specs.Sessions.{clean, honest, standing};
+ghost use Rattle.cr_fleet.specs.Pulls.{PullsAt, PullsFrom};
 
-use cr_cells::store::{Cells, NewCells, StoreFault};
+use cr_cells::store::{Cells, NewCells};
 use cr_guard::guarding::Guarding;
 use cr_guard::policy::PolicyRule;
 use cr_host::functions::Functions;
@@ -54,7 +56,6 @@ pub struct Fleet<C: Cells> {
 }
 
 impl<C: Cells> Model for Fleet<C> {
-    ghost use Rattle.std.specs.Prelude.{map};
     ghost use Rattle.cr_session.specs.Sessions.{SessionOf};
     ghost use Rattle.cr_fleet.specs.Fleets.{FleetOf};
 
@@ -83,20 +84,76 @@ fn has_site<C: NewCells>(replicas: &[Named<C>], site: &Site) -> bool
     false
 }
 
+// One session pulls from another.
+fn pull_from<C: Cells, G: Guarding>(
+    taker: &mut Session<C>,
+    peer: &mut Session<C>,
+    alloc: Global,
+    guard: &mut G,
+    is_incremental: bool,
+) -> Result<(), Refusal>
+    requires { G.is_faithful guard.old }
+    ensures pulls { PullsFrom (⟦<G as Watching>⟧.host guard.old) is_incremental (honest C.is_honest) (clean C.is_clean) (standing C.holding) (⟦<G as Watching>⟧.hears guard.old guard.new) taker.old peer.old result taker.new peer.new }
+    ensures guard { ⟦<G as Watching>⟧.stays guard.old guard.new }
+{
+    if is_incremental {
+        taker.pull_since(alloc, guard, peer)
+    } else {
+        taker.pull(alloc, guard, peer)
+    }
+}
+
+// The replica at one place pulls from the one at another.
+fn pull_between<C: Cells, G: Guarding>(
+    replicas: &mut [Named<C>],
+    at: usize,
+    from: usize,
+    alloc: Global,
+    guard: &mut G,
+    is_incremental: bool,
+) -> Result<(), Refusal>
+    requires faithful { G.is_faithful guard.old }
+    requires places { (at < length replicas.old) × (from < length replicas.old) × (at ≢ from) }
+    ensures pulls { PullsAt (λ taker peer. PullsFrom (⟦<G as Watching>⟧.host guard.old) is_incremental (honest C.is_honest) (clean C.is_clean) (standing C.holding) (⟦<G as Watching>⟧.hears guard.old guard.new) taker peer result)
+        at from (map (λ r. (r.name, r.session)) replicas.old) (map (λ r. (r.name, r.session)) replicas.new) }
+    ensures guard { ⟦<G as Watching>⟧.stays guard.old guard.new }
+{
+    if at < from {
+        let (front, back) = replicas.split_at_mut(from);
+        pull_from(
+            &mut front[at].session,
+            &mut back[0].session,
+            alloc,
+            guard,
+            is_incremental,
+        )
+    } else {
+        let (front, back) = replicas.split_at_mut(at);
+        pull_from(
+            &mut back[0].session,
+            &mut front[from].session,
+            alloc,
+            guard,
+            is_incremental,
+        )
+    }
+}
+
 impl<C: NewCells> Fleet<C> {
-    ghost use Rattle.std.specs.Prelude.{ℕ, Bool, List, [], None, map, true};
+    ghost use Rattle.std.specs.Prelude.{ℕ, Bool, List, [], None, true};
     ghost use Rattle.cr_meaning.specs.View.{Ordered};
     ghost use Rattle.cr_tree.specs.declared.statement.Statement.{Statement};
     ghost use Rattle.cr_guard.specs.Policy.{Rules};
-    ghost use Rattle.cr_world.specs.declared.command.Command.TheVariants.{Open, Use, Define, Take, Rows, Pull, PullSince, Policy};
+    ghost use Rattle.cr_world.specs.declared.command.Command.TheVariants.{Open, Use, Define, Take, Rows, Policy};
     ghost use Rattle.cr_world.specs.Answers.{IsReady, AreAnswered};
     ghost use Rattle.cr_world.specs.Language.{Language};
     ghost use Rattle.cr_world.specs.World.{World, Closures};
-    ghost use Rattle.cr_session.specs.Sessions.{clean, is_own, reply_of, standing};
+    ghost use Rattle.cr_session.specs.Sessions.{is_own, reply_of};
     ghost use Rattle.cr_world.specs.Headline.{Converges, RowsConverge};
     ghost use Rattle.cr_world.specs.Run.{Run, world_after};
     ghost use Rattle.cr_fleet.specs.Hearing.{AreSteps, HearsRun, HearsStep};
-    ghost use Rattle.cr_fleet.specs.Fleets.{Steps, AreClean, IsUnharmed, Shows, IsOffered, is_free_name, rules_after};
+    ghost use Rattle.cr_fleet.specs.Fleets.{Steps, AreClean, IsUnharmed, Shows, is_free_name, rules_after};
+    ghost use Rattle.cr_fleet.specs.Pulls.{pull_of};
 
     /// A fleet without replicas.
     pub fn new(alloc: Global) -> Fleet<C>
@@ -204,90 +261,17 @@ impl<C: NewCells> Fleet<C> {
         named.session.step(alloc, functions, guard, command)
     }
 
-    fn pull<G: Guarding>(&mut self, alloc: Global, guard: &mut G, name: &Text) -> FleetReply
-        requires { G.is_faithful guard.old }
-        ensures steps { (l : Language Statement Ordered) → Steps l (⟦<G as Watching>⟧.closures guard.old) (clean C.is_clean) (standing C.holding) (G.rules guard.old) self.old (Pull name.now) result (G.rules guard.new) self.new
-            × HearsStep l (⟦<G as Watching>⟧.closures guard.old) (⟦<G as Watching>⟧.hears) (clean C.is_clean) (standing C.holding) guard.old (G.rules guard.old) self.old (Pull name.now) result self.new guard.new }
-        ensures rules { G.rules guard.new ≡ G.rules guard.old }
-        ensures closures { ⟦<G as Watching>⟧.closures guard.new ≡ ⟦<G as Watching>⟧.closures guard.old }
-        ensures noting { G.noting guard.new ≡ G.noting guard.old }
-        ensures faithful { G.is_faithful guard.new }
-    {
-        let Some(at) = self.in_use else {
-            return FleetReply::Refused(Refusal::NoReplica);
-        };
-        let Some(taker) = self.replicas.get(at) else {
-            return FleetReply::Refused(Refusal::NoReplica);
-        };
-        let Some(from) = place_of(&self.replicas, name.as_str()) else {
-            return FleetReply::Refused(Refusal::NoReplica);
-        };
-        let Some(peer) = self.replicas.get(from) else {
-            return FleetReply::Refused(Refusal::NoReplica);
-        };
-        if taker.session.in_transaction() {
-            return FleetReply::Refused(Refusal::TransactionState);
-        }
-        if same_bytes(&peer.session.site_id(), &taker.session.site_id()) {
-            return FleetReply::Refused(Refusal::SameSite);
-        }
-        let Some(peer) = self.replicas.get_mut(from) else {
-            return FleetReply::Refused(Refusal::NoReplica);
-        };
-        let changes = match peer.session.changes_above(alloc, 0) {
-            Ok(changes) => changes,
-            Err(error) => return FleetReply::Refused(Refusal::from(error)),
-        };
-        let Some(taker) = self.replicas.get_mut(at) else {
-            return FleetReply::Refused(Refusal::NoReplica);
-        };
-        reply_of(taker.session.take_all(alloc, guard, &changes, None))
-    }
-
-    // Takes what the replica at a place holds and has stamped above a version, and marks its version.
-    fn take_since<G: Guarding>(
+    // Pulls from the replica of that name into the one in use: all that it keeps, or what is stamped above the mark of its site.
+    fn pull<G: Guarding>(
         &mut self,
         alloc: Global,
         guard: &mut G,
-        at: usize,
-        from: usize,
-        seen: i64,
+        name: &Text,
+        is_incremental: bool,
     ) -> FleetReply
         requires { G.is_faithful guard.old }
-        ensures steps { (l : Language Statement Ordered) (name : List ℕ) → IsOffered (clean C.is_clean) (standing C.holding) self.old name at from seen
-            → Steps l (⟦<G as Watching>⟧.closures guard.old) (clean C.is_clean) (standing C.holding) (G.rules guard.old) self.old (PullSince name) result (G.rules guard.old) self.new
-            × HearsStep l (⟦<G as Watching>⟧.closures guard.old) (⟦<G as Watching>⟧.hears) (clean C.is_clean) (standing C.holding) guard.old (G.rules guard.old) self.old (PullSince name) result self.new guard.new }
-        ensures rules { G.rules guard.new ≡ G.rules guard.old }
-        ensures closures { ⟦<G as Watching>⟧.closures guard.new ≡ ⟦<G as Watching>⟧.closures guard.old }
-        ensures noting { G.noting guard.new ≡ G.noting guard.old }
-        ensures faithful { G.is_faithful guard.new }
-    {
-        let Some(peer) = self.replicas.get_mut(from) else {
-            return FleetReply::Refused(Refusal::NoReplica);
-        };
-        let changes = match peer.session.changes_above(alloc, seen) {
-            Ok(changes) => changes,
-            Err(error) => return FleetReply::Refused(Refusal::from(error)),
-        };
-        let site = peer.session.site_id();
-        let version = peer.session.db_version();
-        if version < 0 {
-            return FleetReply::Refused(Refusal::Store(StoreFault::Refused));
-        }
-        let Some(taker) = self.replicas.get_mut(at) else {
-            return FleetReply::Refused(Refusal::NoReplica);
-        };
-        reply_of(
-            taker
-                .session
-                .take_all(alloc, guard, &changes, Some((site, version))),
-        )
-    }
-
-    fn pull_since<G: Guarding>(&mut self, alloc: Global, guard: &mut G, name: &Text) -> FleetReply
-        requires { G.is_faithful guard.old }
-        ensures steps { (l : Language Statement Ordered) → Steps l (⟦<G as Watching>⟧.closures guard.old) (clean C.is_clean) (standing C.holding) (G.rules guard.old) self.old (PullSince name.now) result (G.rules guard.new) self.new
-            × HearsStep l (⟦<G as Watching>⟧.closures guard.old) (⟦<G as Watching>⟧.hears) (clean C.is_clean) (standing C.holding) guard.old (G.rules guard.old) self.old (PullSince name.now) result self.new guard.new }
+        ensures steps { (l : Language Statement Ordered) → Steps l (⟦<G as Watching>⟧.closures guard.old) (clean C.is_clean) (standing C.holding) (G.rules guard.old) self.old (pull_of is_incremental name.now) result (G.rules guard.new) self.new
+            × HearsStep l (⟦<G as Watching>⟧.closures guard.old) (⟦<G as Watching>⟧.hears) (clean C.is_clean) (standing C.holding) guard.old (G.rules guard.old) self.old (pull_of is_incremental name.now) result self.new guard.new }
         ensures rules { G.rules guard.new ≡ G.rules guard.old }
         ensures closures { ⟦<G as Watching>⟧.closures guard.new ≡ ⟦<G as Watching>⟧.closures guard.old }
         ensures noting { G.noting guard.new ≡ G.noting guard.old }
@@ -302,24 +286,14 @@ impl<C: NewCells> Fleet<C> {
         let Some(from) = place_of(&self.replicas, name.as_str()) else {
             return FleetReply::Refused(Refusal::NoReplica);
         };
-        let Some(peer) = self.replicas.get(from) else {
-            return FleetReply::Refused(Refusal::NoReplica);
-        };
-        if taker.session.in_transaction() {
-            return FleetReply::Refused(Refusal::TransactionState);
+        if at == from {
+            return FleetReply::Refused(if taker.session.in_transaction() {
+                Refusal::TransactionState
+            } else {
+                Refusal::SameSite
+            });
         }
-        let site = peer.session.site_id();
-        if same_bytes(&site, &taker.session.site_id()) {
-            return FleetReply::Refused(Refusal::SameSite);
-        }
-        let Some(taker) = self.replicas.get_mut(at) else {
-            return FleetReply::Refused(Refusal::NoReplica);
-        };
-        let seen = match taker.session.seen(alloc, site) {
-            Ok(seen) => seen,
-            Err(error) => return FleetReply::Refused(Refusal::from(error)),
-        };
-        self.take_since(alloc, guard, at, from, seen)
+        reply_of(pull_between(&mut self.replicas, at, from, alloc, guard, is_incremental))
     }
 
     /// Carries out one command.
@@ -346,13 +320,13 @@ impl<C: NewCells> Fleet<C> {
             Command::Open(name, site) => reply_of(self.open(alloc, name, *site)),
             Command::Use(name) => self.use_replica(name),
             Command::Policy(rule) => self.set_rule(alloc, guard, rule),
-            Command::Pull(name) => self.pull(alloc, guard, name),
+            Command::Pull(name) => self.pull(alloc, guard, name, false),
             Command::Define(_) => self.step_used(alloc, functions, guard, command),
             Command::Take(_) => self.step_used(alloc, functions, guard, command),
             Command::Rows(_) => self.step_used(alloc, functions, guard, command),
             Command::Changes(_) => self.step_used(alloc, functions, guard, command),
             Command::Sql(_) => self.step_used(alloc, functions, guard, command),
-            Command::PullSince(name) => self.pull_since(alloc, guard, name),
+            Command::PullSince(name) => self.pull(alloc, guard, name, true),
         }
     }
 

@@ -1,0 +1,11 @@
+use Rattle.std.proofs.Common.{Bool, sym, subst}
+use Rattle.cr_fleet.specs.Pulls.{PullsFrom}
+use Rattle.cr_fleet.proofs.fleet.pull_from.Goals as goal
+
+pub returns-then-is_incremental-clause-pulls : goal.returns-then-is_incremental-clause-pulls
+returns-then-is_incremental-clause-pulls g c = subst (λ (b : Bool). PullsFrom _ b _ _ _ _ _ _ _ _ _) (sym c.if-is_incremental.true)
+    (record { pulls = c.pull_since.ensures.pulls; told = c.pull_since.ensures.at_once; heard = c.pull_since.ensures.heard })
+
+pub returns-else-is_incremental-clause-pulls : goal.returns-else-is_incremental-clause-pulls
+returns-else-is_incremental-clause-pulls g c = subst (λ (b : Bool). PullsFrom _ b _ _ _ _ _ _ _ _ _) (sym c.if-is_incremental.false)
+    (record { pulls = c.pull.ensures.pulls; told = c.pull.ensures.at_once; heard = c.pull.ensures.heard })
