@@ -6,6 +6,7 @@ pub mod Stepping
 pub mod Hearing
 pub mod Opening
 pub mod Pulling
+pub mod Between
 pub mod Running
 pub mod Converging
 pub mod Using

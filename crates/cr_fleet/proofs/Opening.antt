@@ -23,7 +23,7 @@ use Rattle.cr_guard.specs.Policy.{Rules}
 use Rattle.cr_session.specs.Sessions.{SessionOf}
 use Rattle.cr_fleet.specs.Fleets.{FleetOf, AreClean, Shows, Steps, seen, name_and_state, place_in, is_free_name}
 use Rattle.cr_fleet.proofs.Marking.{marks_more}
-use Rattle.cr_fleet.proofs.Places.{pair, all_map, map_any, map_append, all_append, all_front, all_last}
+use Rattle.cr_fleet.proofs.Places.{one_more_there, pair, all_map, map_any, map_append, all_append, all_front, all_last}
 use Rattle.cr_fleet.proofs.Stepping.{place_same, refused_steps}
 
 bad : (a b : Bool) → (a && not b) ≡ false → (not a || b) ≡ true
@@ -130,9 +130,7 @@ module _ {S E C : Type 0} (l : Language S E) (k : Closures) (is_clean : SessionO
       → (is_clean n.session → stands n.session ≡ new_state (empty_holding site)) → is_clean n.session
       → Steps l k is_clean stands rules (map pair items, in_use) (Open name site) Done rules (map pair new, Some at)
   opened items new in_use at n name site pushed named place free room other made clean_new =
-      let there : map pair new ≡ map pair items ++ (name, n.session) ∷ [] = ap (map pair) pushed ∙ map_append pair items (n ∷ []) ∙ (λ i. map pair items ++ (named i, n.session) ∷ []) in
-      let last : at ≡ length (map pair items) = place ∙ sym (length-map items pair) in
-      subst (λ (f : FleetOf (SessionOf C)). Steps l k is_clean stands rules (map pair items, in_use) (Open name site) Done rules f) (sym (λ i. (there i, Some (last i))))
+      subst (λ (f : FleetOf (SessionOf C)). Steps l k is_clean stands rules (map pair items, in_use) (Open name site) Done rules f) (sym (one_more_there items new at n name pushed named place))
       (open_done l k is_clean stands rules (map pair items, in_use) name site n.session free room other made clean_new)
 
   pub not_opened : (items new : List (Named C)) (in_use : Option ℕ) (name site : List ℕ) (r : Refusal) → new ≡ items → IsWant r

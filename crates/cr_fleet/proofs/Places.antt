@@ -1,5 +1,5 @@
 -- The members of a world and the sessions of a fleet, place by place.
-use Rattle.std.proofs.Common.{◌≡◌, ℕ, zero, suc, ◌+◌, ◌<◌, arith, Bool, not, ◌||◌, cond, List, [], ◌∷◌, ◌++◌, Some, None, refl, sym, ap, subst, ◌∙◌, map, position, length, nat_lt, slice_get, slice_set, get_or}
+use Rattle.std.proofs.Common.{◌≡◌, ◌≤◌, ℕ, zero, suc, ◌+◌, ◌<◌, arith, Bool, not, ◌||◌, cond, List, [], ◌∷◌, ◌++◌, Some, None, refl, sym, ap, subst, ◌∙◌, map, position, length, nat_lt, slice_get, slice_set, get_or}
 use Rattle.std.specs.List.{AllByRecursion, list_any, position_or_len}
 use Rattle.std.proofs.lemmas.List.{length-map}
 use Rattle.std.proofs.lemmas.Option.{slice_get-get_or}
@@ -7,7 +7,7 @@ use Rattle.cr_fleet.specs.declared.fleet.Named.{Named}
 use Rattle.cr_world.specs.State.{State}
 use Rattle.cr_world.specs.World.{Member, Keeps, changed_at}
 use Rattle.cr_session.specs.Sessions.{SessionOf}
-use Rattle.cr_fleet.specs.Fleets.{seen, name_and_state}
+use Rattle.cr_fleet.specs.Fleets.{FleetOf, seen, name_and_state}
 
 -- ---- a list and what is made of it
 
@@ -89,6 +89,14 @@ position_map f p xs = (λ i. cond (nat_lt (prefix_map f p xs i) (length-map xs f
 pub found_there : {X : Type 0} (there items : List X) (i : ℕ) (x : X) → there ≡ items → i < length there → x ≡ get_or there i x → slice_get items i ≡ Some x
 found_there {X} there items i x e h g = subst (λ (xs : List X). slice_get xs i ≡ Some x) e (slice_get-get_or there i x h ∙ ap Some (sym g))
 
+none_past : {X : Type 0} (xs : List X) (i : ℕ) → length xs ≤ i → slice_get xs i ≡ None
+none_past [] i h = refl
+none_past (y ∷ ys) zero h = absurd (omega (arith, h))
+none_past (y ∷ ys) (suc i) h = none_past ys i (omega (arith, h))
+
+pub none_found : {X : Type 0} (there items : List X) (i : ℕ) → there ≡ items → length there ≤ i → slice_get items i ≡ None
+none_found {X} there items i e h = subst (λ (xs : List X). slice_get xs i ≡ None) e (none_past there i h)
+
 -- ---- members and sessions
 
 -- a named session
@@ -136,3 +144,11 @@ pub keeps_set : (f : Member → Member) (ms : List Member) (i : ℕ) (m : Member
 keeps_set f [] i m a g k = tt
 keeps_set f (n ∷ ms) zero m a g k = (subst (λ (x : Member). Keeps (f x)) (let q : m ≡ n = cc in q) k, a.1)
 keeps_set f (n ∷ ms) (suc i) m a g k = (a.0, keeps_set f ms i m a.1 g k)
+
+-- the sessions with one more, which is in use
+pub one_more_there : {C : Type 0} (items new : List (Named C)) (at : ℕ) (n : Named C) (name : List ℕ) → new ≡ items ++ n ∷ [] → n.name ≡ name → at ≡ length items
+    → ◌≡◌ {A = FleetOf (SessionOf C)} (map pair new, Some at) (map pair items ++ (name, n.session) ∷ [], Some (length (map pair items)))
+one_more_there {C} items new at n name pushed named place =
+    let there : map pair new ≡ map pair items ++ (name, n.session) ∷ [] = ap (map pair) pushed ∙ map_append pair items (n ∷ []) ∙ (λ i. map pair items ++ (named i, n.session) ∷ []) in
+    let last : at ≡ length (map pair items) = place ∙ sym (length-map items pair) in
+    (λ i. (there i, Some (last i)))

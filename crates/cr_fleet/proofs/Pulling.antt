@@ -1,5 +1,5 @@
 -- A pull of one replica from another, and what the fleet then is.
-use Rattle.std.proofs.Common.{◌≡◌, ◌⊎◌, inl, inr, ℕ, ℤ, pos, Bool, true, false, List, [], ◌∷◌, ◌++◌, Option, Some, None, Result, Ok, Err, refl, sym, ap, subst, ◌∙◌, map, slice_get, slice_set}
+use Rattle.std.proofs.Common.{◌≡◌, ◌⊎◌, ℕ, ℤ, pos, Bool, true, false, List, [], ◌∷◌, ◌++◌, Option, Some, None, Result, Ok, Err, refl, sym, ap, subst, ◌∙◌, map, slice_get, slice_set}
 use Rattle.std.specs.Prelude.{◌≢◌, ◌≤ℤ◌, if◌then◌else◌}
 use Rattle.std.specs.List.{AllByRecursion}
 use Rattle.cr_lattice.specs.declared.change.Change.{Change}
@@ -15,7 +15,6 @@ use Rattle.cr_cells.proofs.NewLemmas.{same_itself}
 use Rattle.cr_guard.specs.Policy.{Rules}
 use Rattle.cr_guard.specs.declared.event.Event.{Event}
 use Rattle.cr_tree.specs.declared.statement.Statement.{Statement}
-use Rattle.cr_world.specs.declared.command.Command.TheVariants.{Pull, PullSince}
 use Rattle.cr_world.specs.declared.command.FleetReply.{FleetReply}
 use Rattle.cr_world.specs.declared.command.FleetReply.TheVariants.{Done, Refused}
 use Rattle.cr_world.specs.declared.refusal.Refusal.{Refusal}
@@ -32,6 +31,7 @@ use Rattle.cr_world.proofs.Keeping.{incremental_pull_keeps}
 use Rattle.cr_script.specs.Speaking.{host_under}
 use Rattle.cr_session.specs.Hearing.{HearsTaking}
 use Rattle.cr_session.specs.Sessions.{IsToldAtOnce, TakenUnless, reply_of}
+use Rattle.cr_fleet.specs.Between.{of_itself}
 use Rattle.cr_fleet.specs.Fleets.{FleetOf, AreClean, AreMarked, Shows, Steps, seen, name_and_state, place_in}
 use Rattle.cr_fleet.specs.Hearing.{HearsCommand, HearsStep, HearsUsed}
 use Rattle.cr_fleet.specs.Pulls.{PullsFrom, cause_of, mark_of, offered, pull_of}
@@ -107,6 +107,11 @@ by_state : (b : Bool) (host : Host) (st : State) (peer : Member) (there : State)
     → PullsOf b host st (Some (record { name = []; state = there; held = [] })) reply → PullsOf b host st (Some peer) reply
 by_state true host st peer there reply e p = subst (λ (x : State). PullsSince host st (Some (record { name = []; state = x; held = [] })) reply) e p
 by_state false host st peer there reply e p = subst (λ (x : State). Pulls host st (Some (record { name = []; state = x; held = [] })) reply) e p
+
+-- a pull by what it was asked for
+pub asked_for : {C : Type 0} (host : Host) (is_honest is_clean : C → Type 0) (stands : C → State) (hears : List Event → Type 0) (taker peer : C) (result : Result (Unit {0}) Refusal) (taker_new peer_new : C) (b c : Bool) → b ≡ c
+    → PullsFrom host c is_honest is_clean stands hears taker peer result taker_new peer_new → PullsFrom host b is_honest is_clean stands hears taker peer result taker_new peer_new
+asked_for host is_honest is_clean stands hears taker peer result taker_new peer_new b c e p = subst (λ (x : Bool). PullsFrom host x is_honest is_clean stands hears taker peer result taker_new peer_new) (sym e) p
 
 -- ---- what becomes of the replica in use
 
@@ -233,11 +238,15 @@ module _ {E C : Type 0} (l : Language Statement E) (k : Closures) (is_clean : C 
           (subst (λ (st : State). PullsOf b (host_of k w) st (Some q.0) reply) (sym m.2) (by_state b (host_of k w) (stands r.1) q.0 (stands p.1) reply (sym q.2) a)))
 
       -- the peer is the replica in use
-      pub pull_inside : stands p.1 ≡ stands r.1 → in_transaction (stands r.1) ≡ true → Steps l k is_clean stands rules old (pull_of b name) (Refused TransactionState) rules old
+      pull_inside : stands p.1 ≡ stands r.1 → in_transaction (stands r.1) ≡ true → Steps l k is_clean stands rules old (pull_of b name) (Refused TransactionState) rules old
       pull_inside e inside = refused_steps l k is_clean stands rules old (pull_of b name) TransactionState (λ clean w s. answered w (Refused TransactionState) s (pulls_itself_inside b (host_of k w) (stands r.1) peer_now e inside))
 
-      pub pull_itself : stands p.1 ≡ stands r.1 → in_transaction (stands r.1) ≡ false → Steps l k is_clean stands rules old (pull_of b name) (Refused SameSite) rules old
+      pull_itself : stands p.1 ≡ stands r.1 → in_transaction (stands r.1) ≡ false → Steps l k is_clean stands rules old (pull_of b name) (Refused SameSite) rules old
       pull_itself e outside = refused_steps l k is_clean stands rules old (pull_of b name) SameSite (λ clean w s. answered w (Refused SameSite) s (pulls_itself_outside b (host_of k w) (stands r.1) peer_now e outside))
+
+      pub pull_own : (inside : Bool) → stands p.1 ≡ stands r.1 → in_transaction (stands r.1) ≡ inside → Steps l k is_clean stands rules old (pull_of b name) (Refused (of_itself inside)) rules old
+      pull_own true e t = pull_inside e t
+      pull_own false e t = pull_itself e t
 
       module _ (apart : i ≢ j) (is_honest : C → Type 0) (always : (c : C) → is_honest c) (hears : List Event → Type 0) (result : Result (Unit {0}) Refusal) (r' p' : C)
           (pulls : PullsFrom (host_under k rules) b is_honest is_clean stands hears r.1 p.1 result r' p') where

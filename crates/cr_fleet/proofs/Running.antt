@@ -1,8 +1,6 @@
 -- Runs of a fleet, command by command.
 use Rattle.std.proofs.Common.{◌≡◌, inl, inr, false, List, [], ◌∷◌, ◌++◌, refl, sym, subst}
-use Rattle.cr_guard.specs.declared.event.Event.{Event}
 use Rattle.cr_guard.specs.Policy.{Rules}
-use Rattle.cr_tree.specs.declared.statement.Statement.{Statement}
 use Rattle.cr_world.specs.declared.command.Command.{Command}
 use Rattle.cr_world.specs.declared.command.FleetReply.{FleetReply}
 use Rattle.cr_world.specs.Language.{Language}
@@ -10,8 +8,8 @@ use Rattle.cr_world.specs.State.{State}
 use Rattle.cr_world.specs.World.{World, AllKeep, Closures}
 use Rattle.cr_world.specs.Answers.{Answers, after, tells_want, AreAnswered}
 use Rattle.cr_world.specs.Run.{Run, world_after}
-use Rattle.cr_fleet.specs.Fleets.{FleetOf, AreClean, IsUnharmed, Shows, Steps, rules_after}
-use Rattle.cr_fleet.specs.Hearing.{AreSteps, HearsStep}
+use Rattle.cr_fleet.specs.Fleets.{FleetOf, AreClean, IsUnharmed, Shows, Steps}
+use Rattle.cr_fleet.specs.Running.{InTurn}
 use Rattle.cr_fleet.proofs.Places.{all_front, all_last}
 
 module _ {S E : Type 0} (l : Language S E) (k : Closures) where
@@ -53,26 +51,15 @@ pub clean_after_run : {C : Type 0} (is_clean : C → Type 0) (old new : FleetOf 
 clean_after_run is_clean old new rs lasts (inl clean) = clean
 clean_after_run is_clean old new rs lasts (inr both) = lasts both.0 both.1
 
--- ---- steps, one after another
+-- ---- one after another
 
-module _ {E G C : Type 0} (l : Language Statement E) (k : Closures) (hears : G → G → List Event → Type 0) (is_clean : C → Type 0) (stands : C → State) (rules : G → Rules) where
-  abbrev One : G → FleetOf C → Command → FleetReply → G → FleetOf C → Type 0
-  One g f c r h new = Steps l k is_clean stands (rules g) f c r (rules h) new × HearsStep l k hears is_clean stands g (rules g) f c r new h × (rules h ≡ rules_after c r (rules g))
+in_turn_more : {S : Type 0} (leads : S → Command → FleetReply → S → Type 0) (s mid t : S) (cs : List Command) (rs : List FleetReply) (c : Command) (r : FleetReply)
+    → InTurn leads s cs rs mid → leads mid c r t → InTurn leads s (cs ++ c ∷ []) (rs ++ r ∷ []) t
+in_turn_more {S} leads s mid t [] [] c r p one = (t, subst (λ (x : S). leads x c r t) p one, refl)
+in_turn_more leads s mid t [] (x ∷ xs) c r p one = absurd p
+in_turn_more leads s mid t (d ∷ ds) [] c r p one = absurd p
+in_turn_more leads s mid t (d ∷ ds) (x ∷ xs) c r p one = (p.0, p.1, in_turn_more leads p.0 mid t ds xs c r p.2 one)
 
-  step_more : (g : G) (f : FleetOf C) (cs : List Command) (rs : List FleetReply) (mid h : G) (on new : FleetOf C) (c : Command) (r : FleetReply)
-      → AreSteps l k hears is_clean stands rules g f cs rs mid on → One mid on c r h new → AreSteps l k hears is_clean stands rules g f (cs ++ c ∷ []) (rs ++ r ∷ []) h new
-  step_more g f [] [] mid h on new c r p one =
-      let here = subst (λ (x : G × FleetOf C). One x.0 x.1 c r h new) (λ i. (p.0 i, p.1 i)) one in
-      (h, new, here.0, here.1, here.2, (refl, refl))
-  step_more g f [] (x ∷ xs) mid h on new c r p one = absurd p
-  step_more g f (d ∷ ds) [] mid h on new c r p one = absurd p
-  step_more g f (d ∷ ds) (x ∷ xs) mid h on new c r p one = (p.0, p.1, p.2, p.3, p.4, step_more p.0 p.1 ds xs mid h on new c r p.5 one)
-
-  pub steps_on : (g : G) (f : FleetOf C) (cs cs' : List Command) (rs rs' : List FleetReply) (mid h : G) (on new : FleetOf C) (c : Command) (r : FleetReply)
-      → cs' ≡ cs ++ c ∷ [] → rs' ≡ rs ++ r ∷ []
-      → AreSteps l k hears is_clean stands rules g f cs rs mid on
-      → Steps l k is_clean stands (rules mid) on c r (rules h) new → HearsStep l k hears is_clean stands mid (rules mid) on c r new h → rules h ≡ rules_after c r (rules mid)
-      → AreSteps l k hears is_clean stands rules g f cs' rs' h new
-  steps_on g f cs cs' rs rs' mid h on new c r e t p step heard ruled =
-      subst (λ (x : List Command × List FleetReply). AreSteps l k hears is_clean stands rules g f x.0 x.1 h new) (λ i. (sym e i, sym t i))
-      (step_more g f cs rs mid h on new c r p (step, heard, ruled))
+pub turns_on : {S : Type 0} (leads : S → Command → FleetReply → S → Type 0) (s mid t : S) (cs cs' : List Command) (rs rs' : List FleetReply) (c : Command) (r : FleetReply)
+    → cs' ≡ cs ++ c ∷ [] → rs' ≡ rs ++ r ∷ [] → InTurn leads s cs rs mid → leads mid c r t → InTurn leads s cs' rs' t
+turns_on leads s mid t cs cs' rs rs' c r e f p one = subst (λ (x : List Command × List FleetReply). InTurn leads s x.0 x.1 t) (λ i. (sym e i, sym f i)) (in_turn_more leads s mid t cs rs c r p one)

@@ -1,9 +1,13 @@
 -- Two places of a list at once, through the two parts of a slice.
-use Rattle.std.proofs.Common.{◌≡◌, ◌<◌, ◌+◌, ℕ, zero, suc, List, [], ◌∷◌, ◌++◌, Some, refl, sym, ap, ◌∙◌, length, slice_get, slice_set, slice_index_or, take, drop, arith}
+use Rattle.std.proofs.Common.{◌≡◌, ◌<◌, ◌+◌, ℕ, zero, suc, List, [], ◌∷◌, ◌++◌, Some, refl, sym, ap, subst, ◌∙◌, length, map, slice_get, slice_set, slice_index_or, take, drop, arith}
 use Rattle.std.specs.Prelude.{◌≢◌}
 use Rattle.std.proofs.Math.Seq.{take-append_seam}
-use Rattle.std.proofs.lemmas.List.{length-append, length-set}
+use Rattle.std.proofs.lemmas.List.{length-append, length-map, length-set}
 use Rattle.std.proofs.lemmas.Option.{slice_get-get_or}
+use Rattle.cr_session.specs.Sessions.{SessionOf}
+use Rattle.cr_fleet.specs.declared.fleet.Named.{Named}
+use Rattle.cr_fleet.specs.Pulls.{PullsAt}
+use Rattle.cr_fleet.proofs.Places.{pair}
 
 set_in_front : {X : Type 0} (xs ys : List X) (i : ℕ) (x : X) → i < length xs → slice_set (xs ++ ys) i x ≡ slice_set xs i x ++ ys
 set_in_front [] ys i x h = absurd (omega (arith, h))
@@ -55,3 +59,14 @@ get_elsewhere (y ∷ ys) zero zero x apart = absurd (apart refl)
 get_elsewhere (y ∷ ys) zero (suc j) x apart = refl
 get_elsewhere (y ∷ ys) (suc i) zero x apart = refl
 get_elsewhere (y ∷ ys) (suc i) (suc j) x apart = get_elsewhere ys i j x (λ e. apart (ap suc e))
+
+-- ---- a pull between two places
+
+-- of the list that is lent, and so of the one that lends it
+pub whole_pull : {C : Type 0} (pulls : SessionOf C → SessionOf C → SessionOf C → SessionOf C → Type 0) (lent items new : List (Named C)) (at from : ℕ) → lent ≡ items → PullsAt pulls at from (map pair lent) (map pair new)
+    → PullsAt pulls at from (map pair items) (map pair new)
+whole_pull {C} pulls lent items new at from e p = subst (λ (xs : List (Named C)). PullsAt pulls at from (map pair xs) (map pair new)) e p
+
+pub same_length : {C : Type 0} (pulls : SessionOf C → SessionOf C → SessionOf C → SessionOf C → Type 0) (items new : List (Named C)) (at from : ℕ) → PullsAt pulls at from (map pair items) (map pair new) → length new ≡ length items
+same_length pulls items new at from p =
+    sym (length-map new pair) ∙ ap length p.left ∙ length-set (slice_set (map pair items) from (p.peer.0, p.peer_new)) at (p.taker.0, p.taker_new) ∙ length-set (map pair items) from (p.peer.0, p.peer_new) ∙ length-map items pair

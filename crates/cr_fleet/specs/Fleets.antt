@@ -1,5 +1,5 @@
 -- A fleet of stores as a world sees it. Source: this project's own.
-use Rattle.std.specs.Prelude.{◌≡◌, ◌⊎◌, ℕ, ℤ, pos, Bool, true, false, not, ◌&&◌, is_some, List, [], map, position, slice_get, Option, Some}
+use Rattle.std.specs.Prelude.{◌≡◌, ◌⊎◌, ℕ, pos, Bool, true, false, not, ◌&&◌, is_some, List, [], map, position, slice_get, Option, Some}
 use Rattle.std.specs.List.{AllByRecursion, list_any}
 use Rattle.cr_lattice.specs.Check.{same_bytes}
 use Rattle.cr_lattice.specs.Sync.{Knows}

@@ -13,7 +13,7 @@ use Rattle.cr_world.specs.Takings.{taking_row, pulling, pulling_since}
 use Rattle.cr_world.specs.World.{World, Member, Closures, host_of, named, used}
 use Rattle.cr_world.specs.Answers.{after}
 use Rattle.cr_session.specs.Hearing.{HearsScript, HearsTaking}
-use Rattle.cr_fleet.specs.Fleets.{FleetOf, AreClean, Shows, Steps, rules_after}
+use Rattle.cr_fleet.specs.Fleets.{FleetOf, AreClean, Shows}
 
 module _ {E G : Type 0} (l : Language Statement E) (k : Closures) (hears : G → G → List Event → Type 0) where
   -- what is heard of the replica in use; where none is, nothing
@@ -45,13 +45,3 @@ module _ {E G : Type 0} (l : Language Statement E) (k : Closures) (hears : G →
   -- the same of a step of a fleet, whatever its replicas ever held; it holds where each store is clean after it
   abbrev pub HearsStep : {C : Type 0} → (C → Type 0) → (C → State) → G → Rules → FleetOf C → Command → FleetReply → FleetOf C → G → Type 0
   HearsStep is_clean stands g rules old c reply new h = AreClean is_clean new → (w : World) → Shows stands w rules old → HearsCommand g w c reply h
-
-  -- Commands were carried out one after another, each as a step of the fleet and of what its listener hears, and the policy has the rules
-  -- that they added, whatever becomes of a store later.
-  abbrev pub AreSteps : {C : Type 0} → (C → Type 0) → (C → State) → (G → Rules) → G → FleetOf C → List Command → List FleetReply → G → FleetOf C → Type 0
-  AreSteps is_clean stands rules g f [] [] h new = (h ≡ g) × (new ≡ f)
-  AreSteps {C} is_clean stands rules g f (c ∷ cs) (r ∷ rs) h new =
-      (mid : G) × (on : FleetOf C) × Steps l k is_clean stands (rules g) f c r (rules mid) on × HearsStep is_clean stands g (rules g) f c r on mid
-      × (rules mid ≡ rules_after c r (rules g)) × AreSteps is_clean stands rules mid on cs rs h new
-  AreSteps is_clean stands rules g f [] (r ∷ rs) h new = ⊥
-  AreSteps is_clean stands rules g f (c ∷ cs) [] h new = ⊥

@@ -1,3 +1,5 @@
 pub mod Fleets
 pub mod Hearing
 pub mod Pulls
+pub mod Between
+pub mod Running

@@ -56,6 +56,7 @@ pub struct Fleet<C: Cells> {
 }
 
 impl<C: Cells> Model for Fleet<C> {
+    ghost use Rattle.std.specs.Prelude.{map};
     ghost use Rattle.cr_session.specs.Sessions.{SessionOf};
     ghost use Rattle.cr_fleet.specs.Fleets.{FleetOf};
 
@@ -140,19 +141,21 @@ fn pull_between<C: Cells, G: Guarding>(
 }
 
 impl<C: NewCells> Fleet<C> {
-    ghost use Rattle.std.specs.Prelude.{ℕ, Bool, List, [], None, true};
+    ghost use Rattle.std.specs.Prelude.{◌++◌, ◌∷◌, ℕ, Bool, List, [], Some, None, true};
     ghost use Rattle.cr_meaning.specs.View.{Ordered};
     ghost use Rattle.cr_tree.specs.declared.statement.Statement.{Statement};
     ghost use Rattle.cr_guard.specs.Policy.{Rules};
     ghost use Rattle.cr_world.specs.declared.command.Command.TheVariants.{Open, Use, Define, Take, Rows, Policy};
     ghost use Rattle.cr_world.specs.Answers.{IsReady, AreAnswered};
     ghost use Rattle.cr_world.specs.Language.{Language};
-    ghost use Rattle.cr_world.specs.World.{World, Closures};
-    ghost use Rattle.cr_session.specs.Sessions.{is_own, reply_of};
+    ghost use Rattle.cr_world.specs.World.{World, Closures, item_at};
+    ghost use Rattle.cr_session.specs.Sessions.{SessionOf, is_own, reply_of};
     ghost use Rattle.cr_world.specs.Headline.{Converges, RowsConverge};
     ghost use Rattle.cr_world.specs.Run.{Run, world_after};
-    ghost use Rattle.cr_fleet.specs.Hearing.{AreSteps, HearsRun, HearsStep};
-    ghost use Rattle.cr_fleet.specs.Fleets.{Steps, AreClean, IsUnharmed, Shows, is_free_name, rules_after};
+    ghost use Rattle.cr_fleet.specs.Hearing.{HearsRun, HearsStep};
+    ghost use Rattle.cr_fleet.specs.Running.{InTurn, IsStep};
+    ghost use Rattle.cr_fleet.specs.Between.{Between, ByPull, ByUsed};
+    ghost use Rattle.cr_fleet.specs.Fleets.{Steps, AreClean, IsUnharmed, Shows, is_free_name, place_in, rules_after};
     ghost use Rattle.cr_fleet.specs.Pulls.{pull_of};
 
     /// A fleet without replicas.
@@ -166,7 +169,8 @@ impl<C: NewCells> Fleet<C> {
     }
 
     fn use_replica(&mut self, name: &Text) -> FleetReply
-        ensures { (l : Language Statement Ordered) (k : Closures) (rules : Rules) → Steps l k (clean C.is_clean) (standing C.holding) rules self.old (Use name.now) result rules self.new }
+        ensures steps { (l : Language Statement Ordered) (k : Closures) (rules : Rules) → Steps l k (clean C.is_clean) (standing C.holding) rules self.old (Use name.now) result rules self.new }
+        ensures replicas { self.new.0 ≡ self.old.0 }
     {
         match place_of(&self.replicas, name.as_str()) {
             Some(at) => {
@@ -191,6 +195,7 @@ impl<C: NewCells> Fleet<C> {
     /// replicas; `SameSite` where a replica has the site; `Memory`, or `Store`. Then nothing is changed.
     pub fn open(&mut self, alloc: Global, name: &Text, site: Site) -> Result<(), Refusal>
         ensures steps { (l : Language Statement Ordered) (k : Closures) (rules : Rules) → Steps l k (clean C.is_clean) (standing C.holding) rules self.old (Open name.now site) (reply_of result) rules self.new }
+        ensures opened { IfOk result (λ u. (session : SessionOf C) × (self.new ≡ (self.old.0 ++ (name.now, session) ∷ [], Some (length self.old.0)))) }
         ensures refused { OnErr result (self.new ≡ self.old) }
     {
         if !self.is_free(name.as_str()) {
@@ -247,6 +252,8 @@ impl<C: NewCells> Fleet<C> {
         ensures steps { (has : List ℕ → Bool) → ⟦<F as Speaking>⟧.are_names functions.now has
             → Steps (⟦<F as Speaking>⟧.language functions.now has) (⟦<G as Watching>⟧.closures guard.old) (clean C.is_clean) (standing C.holding) (G.rules guard.old) self.old command.now result (G.rules guard.new) self.new
             × HearsStep (⟦<F as Speaking>⟧.language functions.now has) (⟦<G as Watching>⟧.closures guard.old) (⟦<G as Watching>⟧.hears) (clean C.is_clean) (standing C.holding) guard.old (G.rules guard.old) self.old command.now result self.new guard.new }
+        ensures between { (has : List ℕ → Bool) → ⟦<F as Speaking>⟧.are_names functions.now has
+            → ByUsed (⟦<G as Watching>⟧.closures guard.old) (⟦<G as Watching>⟧.hears) (honest C.is_honest) (clean C.is_clean) (standing C.holding) guard.old (G.rules guard.old) self.old result self.new guard.new (⟦<F as Speaking>⟧.language functions.now has) command.now (item_at self.old.1 self.old.0) }
         ensures rules { G.rules guard.new ≡ G.rules guard.old }
         ensures closures { ⟦<G as Watching>⟧.closures guard.new ≡ ⟦<G as Watching>⟧.closures guard.old }
         ensures noting { G.noting guard.new ≡ G.noting guard.old }
@@ -272,6 +279,7 @@ impl<C: NewCells> Fleet<C> {
         requires { G.is_faithful guard.old }
         ensures steps { (l : Language Statement Ordered) → Steps l (⟦<G as Watching>⟧.closures guard.old) (clean C.is_clean) (standing C.holding) (G.rules guard.old) self.old (pull_of is_incremental name.now) result (G.rules guard.new) self.new
             × HearsStep l (⟦<G as Watching>⟧.closures guard.old) (⟦<G as Watching>⟧.hears) (clean C.is_clean) (standing C.holding) guard.old (G.rules guard.old) self.old (pull_of is_incremental name.now) result self.new guard.new }
+        ensures between { ByPull (⟦<G as Watching>⟧.closures guard.old) (⟦<G as Watching>⟧.hears) (honest C.is_honest) (clean C.is_clean) (standing C.holding) guard.old (G.rules guard.old) self.old result self.new guard.new is_incremental (item_at self.old.1 self.old.0) (place_in self.old name.now) }
         ensures rules { G.rules guard.new ≡ G.rules guard.old }
         ensures closures { ⟦<G as Watching>⟧.closures guard.new ≡ ⟦<G as Watching>⟧.closures guard.old }
         ensures noting { G.noting guard.new ≡ G.noting guard.old }
@@ -311,6 +319,8 @@ impl<C: NewCells> Fleet<C> {
             → Steps (⟦<F as Speaking>⟧.language functions.now has) (⟦<G as Watching>⟧.closures guard.old) (clean C.is_clean) (standing C.holding) (G.rules guard.old) self.old command.now result (G.rules guard.new) self.new }
         ensures heard { (has : List ℕ → Bool) → ⟦<F as Speaking>⟧.are_names functions.now has
             → HearsStep (⟦<F as Speaking>⟧.language functions.now has) (⟦<G as Watching>⟧.closures guard.old) (⟦<G as Watching>⟧.hears) (clean C.is_clean) (standing C.holding) guard.old (G.rules guard.old) self.old command.now result self.new guard.new }
+        ensures between { (has : List ℕ → Bool) → ⟦<F as Speaking>⟧.are_names functions.now has
+            → Between (⟦<G as Watching>⟧.closures guard.old) (⟦<G as Watching>⟧.hears) (honest C.is_honest) (clean C.is_clean) (standing C.holding) guard.old (G.rules guard.old) self.old result self.new guard.new (⟦<F as Speaking>⟧.language functions.now has) command.now }
         ensures rules { G.rules guard.new ≡ rules_after command.now result (G.rules guard.old) }
         ensures closures { ⟦<G as Watching>⟧.closures guard.new ≡ ⟦<G as Watching>⟧.closures guard.old }
         ensures noting { G.noting guard.new ≡ G.noting guard.old }
@@ -360,7 +370,7 @@ impl<C: NewCells> Fleet<C> {
             → IsUnharmed (clean C.is_clean) self.old replies.items self.new → (w : World) → Shows (standing C.holding) w (G.rules guard.old) self.old
             → HearsRun (⟦<F as Speaking>⟧.language functions.now has) (⟦<G as Watching>⟧.closures guard.old) (⟦<G as Watching>⟧.hears) guard.old w commands.now replies.items guard.new) }
         ensures steps { IfOk result (λ replies. (has : List ℕ → Bool) → ⟦<F as Speaking>⟧.are_names functions.now has
-            → AreSteps (⟦<F as Speaking>⟧.language functions.now has) (⟦<G as Watching>⟧.closures guard.old) (⟦<G as Watching>⟧.hears) (clean C.is_clean) (standing C.holding) G.rules guard.old self.old commands.now replies.items guard.new self.new) }
+            → InTurn (IsStep (⟦<F as Speaking>⟧.language functions.now has) (⟦<G as Watching>⟧.closures guard.old) (⟦<G as Watching>⟧.hears) (honest C.is_honest) (clean C.is_clean) (standing C.holding) G.rules) (guard.old, self.old) commands.now replies.items (guard.new, self.new)) }
         ensures refused { OnErr result (self.new ≡ self.old) }
         ensures unasked { OnErr result (guard.new ≡ guard.old) }
         ensures closures { ⟦<G as Watching>⟧.closures guard.new ≡ ⟦<G as Watching>⟧.closures guard.old }

@@ -1,5 +1,5 @@
 -- What becomes of a fleet and its policy over commands, and what is heard of them. Source: this project's own.
-use Rattle.std.specs.Prelude.{◌≡◌, List, [], ◌∷◌, Option}
+use Rattle.std.specs.Prelude.{List, [], ◌∷◌, Option}
 use Rattle.cr_guard.specs.Policy.{Rules}
 use Rattle.cr_guard.specs.declared.event.Event.{Event}
 use Rattle.cr_tree.specs.declared.statement.Statement.{Statement}
@@ -14,6 +14,7 @@ use Rattle.cr_world.specs.Headline.{Converges, RowsConverge}
 use Rattle.cr_script.specs.Speaking.{HasHeard, Noting}
 use Rattle.cr_fleet.specs.Fleets.{FleetOf, AreClean, IsUnharmed, Shows}
 use Rattle.cr_fleet.specs.Hearing.{HearsRun}
+use Rattle.cr_fleet.specs.Running.{InTurn}
 
 -- what a guard is known by: its policy, what its listener has noted, where there is one, and how that one notes
 abbrev pub Watch : Type 0
@@ -43,7 +44,4 @@ pub record Ran {E C G : Type 0} (rules : G → Rules) (hears : G → G → List 
 
 -- One command after another ran so, with its reply.
 abbrev pub InSteps : {S : Type 0} → (S → S → List Command → List FleetReply → Type 0) → S → S → List Command → List FleetReply → Type 0
-InSteps ran s0 s1 [] [] = s1 ≡ s0
-InSteps {S} ran s0 s1 (c ∷ cs) (r ∷ rs) = (mid : S) × ran s0 mid (c ∷ []) (r ∷ []) × InSteps ran mid s1 cs rs
-InSteps ran s0 s1 [] (r ∷ rs) = ⊥
-InSteps ran s0 s1 (c ∷ cs) [] = ⊥
+InSteps ran s0 s1 cs rs = InTurn (λ s c r t. ran s t (c ∷ []) (r ∷ [])) s0 cs rs s1

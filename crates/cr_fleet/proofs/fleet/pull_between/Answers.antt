@@ -1,4 +1,4 @@
-use Rattle.std.proofs.Common.{rules, ◌≡◌, ◌<◌, arith, Some, ap, ◌∙◌, map, slice_set, slice_index_or}
+use Rattle.std.proofs.Common.{rules, ◌<◌, ap, ◌∙◌, map, slice_set, slice_index_or}
 use Rattle.cr_fleet.specs.declared.fleet.Named.{Named}
 use Rattle.cr_fleet.proofs.Places.{pair, map_set}
 use Rattle.cr_fleet.proofs.Stepping.{pair_at}

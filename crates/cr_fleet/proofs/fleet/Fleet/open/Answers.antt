@@ -8,6 +8,7 @@ use Rattle.cr_world.specs.declared.command.Command.TheVariants.{Open}
 use Rattle.cr_world.specs.declared.command.FleetReply.TheVariants.{Refused}
 use Rattle.cr_world.specs.declared.refusal.Refusal.TheVariants.{BadName, Memory}
 use Rattle.cr_fleet.specs.declared.fleet.Named.{Named}
+use Rattle.cr_fleet.proofs.Places.{one_more_there}
 use Rattle.cr_fleet.proofs.Opening.{open_name, open_full, open_site, open_nameless, opened, not_opened, site_paired, full_paired, room_paired}
 use Rattle.cr_world.specs.Refusals.{of_store}
 use Rattle.cr_world.specs.State.{new_state}
@@ -81,3 +82,12 @@ returns-clause-steps g c = λ l k policy.
     let at : c.len-at.result ≡ length replicas.items = (let l = c.len-at.ensures in let n = replicas.ok.0 in omega arith) in
     let free_site = site_paired (clean g.C.Cells.is_clean) (standing g.C.Cells.holding) replicas.items c.args.site false (λ clean. sym c.if-has_site.false ∙ rw c.deref.ensures.value at (c.has_site.ensures (subst (AllByRecursion (λ r. g.C.Cells.is_clean r.session.0)) (sym c.deref.ensures.value) clean))) c.self.inside.in_use in
     rw (← c.self.view_is) (opened l k (clean g.C.Cells.is_clean) (standing g.C.Cells.holding) policy replicas.items c.push.new.self.items c.self.inside.in_use c.len-at.result named c.args.name.now c.args.site pushed copied at (rw (← c.self.view_is) at free) (room_paired (clean g.C.Cells.is_clean) (standing g.C.Cells.holding) replicas.items c.args.site room) free_site (λ clean. ap new_state (c.in-Ok.ensures.made clean)) c.in-Ok.ensures.clean)
+
+pub returns-clause-opened : goal.returns-clause-opened
+returns-clause-opened g c =
+    let replicas = c.self.inside.replicas in
+    let named : Named g.row.C.Denot = record { name = c.in_ok-name.name; session = (c.in-Ok.cells, None) } in
+    let pushed : c.push.new.self.items ≡ replicas.items ++ named ∷ [] = search rules in
+    let copied : c.in_ok-name.name ≡ c.args.name.now = search rules in
+    let at : c.len-at.result ≡ length replicas.items = (let l = c.len-at.ensures in let n = replicas.ok.0 in omega arith) in
+    (named.session, rw (← c.self.view_is) (one_more_there replicas.items c.push.new.self.items c.len-at.result named c.args.name.now pushed copied at))

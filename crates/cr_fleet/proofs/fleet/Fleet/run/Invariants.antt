@@ -3,9 +3,10 @@ use Rattle.cr_world.specs.World.{World}
 use Rattle.cr_world.specs.Answers.{AreAnswered}
 use Rattle.cr_world.specs.Run.{Run, world_after}
 use Rattle.cr_fleet.specs.Fleets.{AreClean, Shows}
-use Rattle.cr_fleet.specs.Hearing.{AreSteps, HearsRun}
+use Rattle.cr_fleet.specs.Hearing.{HearsRun}
+use Rattle.cr_fleet.specs.Running.{InTurn, IsStep}
 use Rattle.cr_script.specs.Speaking.{closures, HasHeard}
-use Rattle.cr_session.specs.Sessions.{clean, standing}
+use Rattle.cr_session.specs.Sessions.{clean, honest, standing}
 use Rattle.cr_script.specs.Speaking.{spoken}
 use Rattle.cr_fleet.proofs.fleet.Fleet.run.Given as goal
 
@@ -20,8 +21,8 @@ invariant-loop-command g l = record {
   heard : (has : List ℕ → Bool) → has ≡ g.F.Functions.names_function l.functions → AreClean (clean g.C.Cells.is_clean) l.self → (w : World) → Shows (standing g.C.Cells.holding) w (g.G.Guarding.rules l.fn.guard) l.fn.self
       → HearsRun (spoken (g.F.Functions.function_of l.functions) (g.F.Functions.scalar l.functions) (g.F.Functions.step l.functions) (g.F.Functions.finish l.functions) (g.F.Functions.order_of l.functions) (g.F.Functions.orders_total l.functions) has) (closures (g.G.Guarding.allows l.fn.guard) (g.G.Guarding.refuses l.fn.guard)) (λ from to events. HasHeard g.G.Guarding.noted g.G.Guarding.noting from to events) l.fn.guard w (take l.command-index l.commands) l.replies.items l.guard;
   steps : (has : List ℕ → Bool) → has ≡ g.F.Functions.names_function l.functions
-      → AreSteps (spoken (g.F.Functions.function_of l.functions) (g.F.Functions.scalar l.functions) (g.F.Functions.step l.functions) (g.F.Functions.finish l.functions) (g.F.Functions.order_of l.functions) (g.F.Functions.orders_total l.functions) has) (closures (g.G.Guarding.allows l.fn.guard) (g.G.Guarding.refuses l.fn.guard)) (λ from to events. HasHeard g.G.Guarding.noted g.G.Guarding.noting from to events)
-      (clean g.C.Cells.is_clean) (standing g.C.Cells.holding) g.G.Guarding.rules l.fn.guard l.fn.self (take l.command-index l.commands) l.replies.items l.guard l.self;
+      → InTurn (IsStep (spoken (g.F.Functions.function_of l.functions) (g.F.Functions.scalar l.functions) (g.F.Functions.step l.functions) (g.F.Functions.finish l.functions) (g.F.Functions.order_of l.functions) (g.F.Functions.orders_total l.functions) has) (closures (g.G.Guarding.allows l.fn.guard) (g.G.Guarding.refuses l.fn.guard)) (λ from to events. HasHeard g.G.Guarding.noted g.G.Guarding.noting from to events)
+      (honest g.C.Cells.is_honest) (clean g.C.Cells.is_clean) (standing g.C.Cells.holding) g.G.Guarding.rules) (l.fn.guard, l.fn.self) (take l.command-index l.commands) l.replies.items (l.guard, l.self);
   closures : closures (g.G.Guarding.allows l.guard) (g.G.Guarding.refuses l.guard) ≡ closures (g.G.Guarding.allows l.fn.guard) (g.G.Guarding.refuses l.fn.guard);
   noting : g.G.Guarding.noting l.guard ≡ g.G.Guarding.noting l.fn.guard;
   faithful : g.G.Guarding.is_faithful l.guard;

@@ -1,4 +1,7 @@
-use Rattle.cr_script.specs.Speaking.{spoken}
+use Rattle.std.proofs.Common.{ap}
+use Rattle.cr_script.specs.Speaking.{closures, HasHeard, spoken}
+use Rattle.cr_session.specs.Sessions.{clean, honest, is_own, standing}
+use Rattle.cr_fleet.proofs.Between.{own_between}
 use Rattle.cr_fleet.proofs.fleet.Fleet.step.Goals as goal
 
 pub returns-in-Policy-clause-heard : goal.returns-in-Policy-clause-heard
@@ -23,4 +26,24 @@ returns-in-Changes-clause-heard g c = λ has names. (c.step_used-in-Changes.ensu
 pub returns-in-PullSince-clause-heard : goal.returns-in-PullSince-clause-heard
 returns-in-PullSince-clause-heard g c = λ has names.
     let l = spoken (g.F.Functions.function_of c.args.functions.now) (g.F.Functions.scalar c.args.functions.now) (g.F.Functions.step c.args.functions.now) (g.F.Functions.finish c.args.functions.now) (g.F.Functions.order_of c.args.functions.now) (g.F.Functions.orders_total c.args.functions.now) has in
-    rw c.in-PullSince.is (c.pull_since.ensures.steps l).1
+    rw c.in-PullSince.is (c.pull-in-PullSince.ensures.steps l).1
+
+pub returns-in-Define-clause-between : goal.returns-in-Define-clause-between
+returns-in-Define-clause-between g c = λ has names.
+    own_between (closures (g.G.Guarding.allows c.args.guard.now) (g.G.Guarding.refuses c.args.guard.now)) (λ from to events. HasHeard g.G.Guarding.noted g.G.Guarding.noting from to events) (honest g.C.Cells.is_honest) (clean g.C.Cells.is_clean) (standing g.C.Cells.holding) _ _ _ _ _ (spoken (g.F.Functions.function_of c.args.functions.now) (g.F.Functions.scalar c.args.functions.now) (g.F.Functions.step c.args.functions.now) (g.F.Functions.finish c.args.functions.now) (g.F.Functions.order_of c.args.functions.now) (g.F.Functions.orders_total c.args.functions.now) has) c.args.command.now _ (ap is_own c.in-Define.is) (c.step_used.ensures.between has names)
+
+pub returns-in-Take-clause-between : goal.returns-in-Take-clause-between
+returns-in-Take-clause-between g c = λ has names.
+    own_between (closures (g.G.Guarding.allows c.args.guard.now) (g.G.Guarding.refuses c.args.guard.now)) (λ from to events. HasHeard g.G.Guarding.noted g.G.Guarding.noting from to events) (honest g.C.Cells.is_honest) (clean g.C.Cells.is_clean) (standing g.C.Cells.holding) _ _ _ _ _ (spoken (g.F.Functions.function_of c.args.functions.now) (g.F.Functions.scalar c.args.functions.now) (g.F.Functions.step c.args.functions.now) (g.F.Functions.finish c.args.functions.now) (g.F.Functions.order_of c.args.functions.now) (g.F.Functions.orders_total c.args.functions.now) has) c.args.command.now _ (ap is_own c.in-Take.is) (c.step_used-in-Take.ensures.between has names)
+
+pub returns-in-Rows-clause-between : goal.returns-in-Rows-clause-between
+returns-in-Rows-clause-between g c = λ has names.
+    own_between (closures (g.G.Guarding.allows c.args.guard.now) (g.G.Guarding.refuses c.args.guard.now)) (λ from to events. HasHeard g.G.Guarding.noted g.G.Guarding.noting from to events) (honest g.C.Cells.is_honest) (clean g.C.Cells.is_clean) (standing g.C.Cells.holding) _ _ _ _ _ (spoken (g.F.Functions.function_of c.args.functions.now) (g.F.Functions.scalar c.args.functions.now) (g.F.Functions.step c.args.functions.now) (g.F.Functions.finish c.args.functions.now) (g.F.Functions.order_of c.args.functions.now) (g.F.Functions.orders_total c.args.functions.now) has) c.args.command.now _ (ap is_own c.in-Rows.is) (c.step_used-in-Rows.ensures.between has names)
+
+pub returns-in-Changes-clause-between : goal.returns-in-Changes-clause-between
+returns-in-Changes-clause-between g c = λ has names.
+    own_between (closures (g.G.Guarding.allows c.args.guard.now) (g.G.Guarding.refuses c.args.guard.now)) (λ from to events. HasHeard g.G.Guarding.noted g.G.Guarding.noting from to events) (honest g.C.Cells.is_honest) (clean g.C.Cells.is_clean) (standing g.C.Cells.holding) _ _ _ _ _ (spoken (g.F.Functions.function_of c.args.functions.now) (g.F.Functions.scalar c.args.functions.now) (g.F.Functions.step c.args.functions.now) (g.F.Functions.finish c.args.functions.now) (g.F.Functions.order_of c.args.functions.now) (g.F.Functions.orders_total c.args.functions.now) has) c.args.command.now _ (ap is_own c.in-Changes.is) (c.step_used-in-Changes.ensures.between has names)
+
+pub returns-in-Sql-clause-between : goal.returns-in-Sql-clause-between
+returns-in-Sql-clause-between g c = λ has names.
+    own_between (closures (g.G.Guarding.allows c.args.guard.now) (g.G.Guarding.refuses c.args.guard.now)) (λ from to events. HasHeard g.G.Guarding.noted g.G.Guarding.noting from to events) (honest g.C.Cells.is_honest) (clean g.C.Cells.is_clean) (standing g.C.Cells.holding) _ _ _ _ _ (spoken (g.F.Functions.function_of c.args.functions.now) (g.F.Functions.scalar c.args.functions.now) (g.F.Functions.step c.args.functions.now) (g.F.Functions.finish c.args.functions.now) (g.F.Functions.order_of c.args.functions.now) (g.F.Functions.orders_total c.args.functions.now) has) c.args.command.now _ (ap is_own c.in-Sql.is) (c.step_used-in-Sql.ensures.between has names)
