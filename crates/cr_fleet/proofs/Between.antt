@@ -1,6 +1,6 @@
 -- What a command makes of the replicas that it looks at, by what is found of them.
-use Rattle.std.proofs.Common.{◌≡◌, inl, inr, ℕ, Bool, true, false, List, [], Option, Some, None, Result, Ok, Err, sym, ap, subst, refl, ◌∙◌}
-use Rattle.std.specs.Prelude.{◌≢◌, IfOk, OnErr, ◌++◌, ◌∷◌, length}
+use Rattle.std.proofs.Common.{◌≡◌, inl, inr, ℕ, Bool, true, false, List, [], Option, Some, None, Result, sym, ap, subst, refl, ◌∙◌}
+use Rattle.std.specs.Prelude.{◌≢◌}
 use Rattle.cr_guard.specs.declared.event.Event.{Event}
 use Rattle.cr_guard.specs.Policy.{Rules}
 use Rattle.cr_script.specs.Speaking.{host_under}
@@ -10,20 +10,21 @@ use Rattle.cr_tree.specs.declared.statement.Statement.{Statement}
 use Rattle.cr_world.specs.declared.command.Command.{Command}
 use Rattle.cr_world.specs.declared.command.Command.TheVariants.{Open, Use, Define, Take, Rows, Changes, Pull, PullSince, Policy, Sql}
 use Rattle.cr_world.specs.declared.command.FleetReply.{FleetReply}
-use Rattle.cr_world.specs.declared.command.FleetReply.TheVariants.{Refused}
+use Rattle.cr_world.specs.declared.command.FleetReply.TheVariants.{Done, Refused}
 use Rattle.cr_world.specs.declared.refusal.Refusal.{Refusal}
 use Rattle.cr_world.specs.declared.refusal.Refusal.TheVariants.{NoReplica}
 use Rattle.cr_world.specs.Language.{Language}
 use Rattle.cr_world.specs.State.{State, in_transaction}
 use Rattle.cr_world.specs.World.{Closures, item_at}
-use Rattle.cr_fleet.specs.Between.{Between, ByPull, ByUsed, IsRefused, Opens, of_itself, with_session}
+use Rattle.cr_fleet.specs.Between.{Between, ByPull, ByUsed, IsRefused, Uses, of_itself, with_session}
 use Rattle.cr_fleet.specs.Fleets.{FleetOf}
 use Rattle.cr_fleet.specs.Pulls.{PullsAt, PullsFrom}
 
-pub opens_by : {C : Type 0} (name : List ℕ) (result : Result (Unit {0}) Refusal) (old new : FleetOf C) → IfOk result (λ u. (s : C) × (new ≡ (old.0 ++ (name, s) ∷ [], Some (length old.0)))) → OnErr result (new ≡ old)
-    → Opens name (reply_of result) old new
-opens_by name (Ok u) old new opened refused = opened
-opens_by name (Err r) old new opened refused = refused
+pub uses_there : {C : Type 0} (old : FleetOf C) (place : Option ℕ) (at : ℕ) → place ≡ Some at → Uses old (old.0, Some at) place Done
+uses_there old place at e = subst (λ (o : Option ℕ). Uses old (old.0, Some at) o Done) (sym e) (refl, refl)
+
+pub uses_nobody : {C : Type 0} (old : FleetOf C) (place : Option ℕ) → place ≡ None → Uses old old place (Refused NoReplica)
+uses_nobody old place e = subst (λ (o : Option ℕ). Uses old old o (Refused NoReplica)) (sym e) (refl, refl)
 
 module _ {C G : Type 0} (k : Closures) (hears : G → G → List Event → Type 0) (is_honest is_clean : C → Type 0) (stands : C → State) (g : G) (rules : Rules) (old : FleetOf C) (h : G) (quiet : hears g h []) where
   refused : (r : Refusal) → IsRefused k hears is_honest is_clean stands g rules old (Refused r) old h r

@@ -1,14 +1,10 @@
 -- The device of a store in memory is always honest.
-use Rattle.std.proofs.Common.{List, Option, Result}
-use Rattle.cr_lattice.specs.declared.change.Change.{Change}
-use Rattle.cr_cells.specs.Marks.{Mark}
 use Rattle.cr_world.specs.declared.command.Command.{Command}
 use Rattle.cr_world.specs.declared.command.FleetReply.{FleetReply}
-use Rattle.cr_world.specs.declared.refusal.Refusal.{Refusal}
 use Rattle.cr_world.specs.Language.{Language}
 use Rattle.cr_world.specs.State.{State}
 use Rattle.cr_world.specs.Statement.{Host}
-use Rattle.cr_session.specs.Sessions.{Does, TakesAll}
+use Rattle.cr_session.specs.Sessions.{Does}
 
 abbrev pub always : {C : Type 0} → C → Type 0
 always c = Unit {0}
@@ -21,10 +17,4 @@ module _ {C : Type 0} (is_honest is_clean : C → Type 0) (stands : C → State)
     stays_clean = λ u clean told. d.stays_clean is clean told;
     answers = d.answers;
     leaves = d.leaves;
-  }
-
-  pub takes_always : (host : Host) (more : List Change) (mark : Option Mark) (result : Result (Unit {0}) Refusal) → TakesAll host is_honest is_clean stands old more mark result new → TakesAll host always is_clean stands old more mark result new
-  takes_always host more mark result t = record {
-    device = record { was_honest = λ u. tt; was_clean = t.device.was_clean; stays_clean = λ u clean. t.device.stays_clean is clean };
-    takes = t.takes;
   }

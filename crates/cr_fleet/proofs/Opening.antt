@@ -1,6 +1,6 @@
 -- Opening a new replica.
 use Rattle.std.proofs.Common.{◌≡◌, inl, inr, ℕ, List, [], ◌∷◌, ◌++◌, Bool, true, false, not, ◌&&◌, ◌||◌, cond, nat_le, ◌≤◌, ◌<◌, arith, Option, Some, None, refl, sym, ap, subst, ◌∙◌, map, length}
-use Rattle.std.specs.Prelude.{is_some}
+use Rattle.std.specs.Prelude.{is_some, if◌then◌else◌}
 use Rattle.std.specs.List.{AllByRecursion, list_any}
 use Rattle.std.proofs.lemmas.List.{length-map}
 use Rattle.std.proofs.lemmas.Bool.{le-leb}
@@ -21,6 +21,7 @@ use Rattle.cr_world.specs.Language.{Language}
 use Rattle.cr_world.specs.State.{State, new_state}
 use Rattle.cr_guard.specs.Policy.{Rules}
 use Rattle.cr_session.specs.Sessions.{SessionOf}
+use Rattle.cr_fleet.specs.Between.{Opens, RefusesOpening, early_refusal}
 use Rattle.cr_fleet.specs.Fleets.{FleetOf, AreClean, Shows, Steps, seen, name_and_state, place_in, is_free_name}
 use Rattle.cr_fleet.proofs.Marking.{marks_more}
 use Rattle.cr_fleet.proofs.Places.{one_more_there, pair, all_map, map_any, map_append, all_append, all_front, all_last}
@@ -108,7 +109,37 @@ module _ {S E C : Type 0} (l : Language S E) (k : Closures) (is_clean : C → Ty
         ));
   }
 
--- the sessions of a fleet, by their names
+-- ---- whatever becomes of the stores of the others
+
+module _ {C : Type 0} (is_clean : C → Type 0) (stands : C → State) (old : FleetOf C) (name site : List ℕ) where
+  early_is : (a b : Bool) → is_free_name name old ≡ a → nat_le 64 (length old.0) ≡ b → early_refusal old name ≡ (if not a then Some (BadName name) else if b then Some (Limit limit.Replicas) else None)
+  early_is a b e f = λ i. if not (e i) then Some (BadName name) else if f i then Some (Limit limit.Replicas) else None
+
+  told_early : (a b : Bool) (r : Refusal) → is_free_name name old ≡ a → nat_le 64 (length old.0) ≡ b → RefusesOpening (if not a then Some (BadName name) else if b then Some (Limit limit.Replicas) else None) r
+      → Opens is_clean stands old old name site (Refused r)
+  told_early a b r e f p = (subst (λ (o : Option Refusal). RefusesOpening o r) (sym (early_is a b e f)) p, refl)
+
+  pub name_opens : is_free_name name old ≡ false → Opens is_clean stands old old name site (Refused (BadName name))
+  name_opens e = told_early false _ (BadName name) e refl (inr refl)
+
+  pub nameless_opens : is_free_name name old ≡ false → Opens is_clean stands old old name site (Refused Memory)
+  nameless_opens e = told_early false _ Memory e refl (inl (refl, refl))
+
+  pub full_opens : is_free_name name old ≡ true → nat_le 64 (length old.0) ≡ true → Opens is_clean stands old old name site (Refused (Limit limit.Replicas))
+  full_opens e f = told_early true true (Limit limit.Replicas) e f (inr refl)
+
+  pub site_opens : is_free_name name old ≡ true → nat_le 64 (length old.0) ≡ false → Opens is_clean stands old old name site (Refused SameSite)
+  site_opens e f = told_early true false SameSite e f (inl refl)
+
+  pub want_opens : (r : Refusal) → IsWant r → is_free_name name old ≡ true → nat_le 64 (length old.0) ≡ false → Opens is_clean stands old old name site (Refused r)
+  want_opens r is e f = told_early true false r e f (inr is)
+
+  pub done_opens : (c : C) → is_free_name name old ≡ true → nat_le 64 (length old.0) ≡ false → is_clean c → stands c ≡ new_state (empty_holding site)
+      → Opens is_clean stands old (old.0 ++ (name, c) ∷ [], Some (length old.0)) name site Done
+  done_opens c e f clean made = (early_is true false e f, c, clean, made, refl)
+
+-- ---- the sessions of a fleet, by their names
+
 module _ {C : Type 0} (is_clean : SessionOf C → Type 0) (stands : SessionOf C → State) (items : List (Named C)) (site : List ℕ) where
   pub site_paired : (b : Bool) → (AllByRecursion (λ (n : Named C). is_clean n.session) items → b ≡ list_any (λ (n : Named C). same_bytes (stands n.session).holding.site site) items)
       → (in_use : Option ℕ) → AreClean is_clean (map pair items, in_use) → list_any (λ (r : List ℕ × SessionOf C). same_bytes (stands r.1).holding.site site) (map pair items) ≡ b
@@ -140,3 +171,16 @@ module _ {S E C : Type 0} (l : Language S E) (k : Closures) (is_clean : SessionO
   not_opened items new in_use name site r same is free room other =
       subst (λ (rs : List (Named C)). Steps l k is_clean stands rules (map pair items, in_use) (Open name site) (Refused r) rules (map pair rs, in_use)) (sym same)
       (open_want l k is_clean stands rules (map pair items, in_use) name site r is free room other)
+
+module _ {C : Type 0} (is_clean : SessionOf C → Type 0) (stands : SessionOf C → State) (items new : List (Named C)) (in_use : Option ℕ) (name site : List ℕ)
+    (free : is_free_name name (map pair items, in_use) ≡ true) (room : nat_le 64 (length (map pair items)) ≡ false) where
+  pub one_opens : (at : ℕ) (n : Named C) → new ≡ items ++ n ∷ [] → n.name ≡ name → at ≡ length items → is_clean n.session → stands n.session ≡ new_state (empty_holding site)
+      → Opens is_clean stands (map pair items, in_use) (map pair new, Some at) name site Done
+  one_opens at n pushed named place clean made =
+      subst (λ (f : FleetOf (SessionOf C)). Opens is_clean stands (map pair items, in_use) f name site Done) (sym (one_more_there items new at n name pushed named place))
+      (done_opens is_clean stands (map pair items, in_use) name site n.session free room clean made)
+
+  pub none_opens : (r : Refusal) → new ≡ items → IsWant r → Opens is_clean stands (map pair items, in_use) (map pair new, in_use) name site (Refused r)
+  none_opens r same is =
+      subst (λ (rs : List (Named C)). Opens is_clean stands (map pair items, in_use) (map pair rs, in_use) name site (Refused r)) (sym same)
+      (want_opens is_clean stands (map pair items, in_use) name site r is free room)

@@ -1,11 +1,12 @@
 -- Two places of a list at once, through the two parts of a slice.
-use Rattle.std.proofs.Common.{◌≡◌, ◌<◌, ◌+◌, ℕ, zero, suc, List, [], ◌∷◌, ◌++◌, Some, refl, sym, ap, subst, ◌∙◌, length, map, slice_get, slice_set, slice_index_or, take, drop, arith}
+use Rattle.std.proofs.Common.{◌≡◌, ◌<◌, ◌+◌, ℕ, zero, suc, List, [], ◌∷◌, ◌++◌, Option, Some, refl, sym, ap, subst, ◌∙◌, length, map, slice_get, slice_set, slice_index_or, take, drop, arith}
 use Rattle.std.specs.Prelude.{◌≢◌}
 use Rattle.std.proofs.Math.Seq.{take-append_seam}
 use Rattle.std.proofs.lemmas.List.{length-append, length-map, length-set}
 use Rattle.std.proofs.lemmas.Option.{slice_get-get_or}
 use Rattle.cr_session.specs.Sessions.{SessionOf}
 use Rattle.cr_fleet.specs.declared.fleet.Named.{Named}
+use Rattle.cr_fleet.specs.Fleets.{FleetOf}
 use Rattle.cr_fleet.specs.Pulls.{PullsAt}
 use Rattle.cr_fleet.proofs.Places.{pair}
 
@@ -49,7 +50,7 @@ module _ {X : Type 0} (items front back : List X) (i j : ℕ) (whole : items ≡
       ∙ (λ n. slice_set ((sym (set_in_front front back i x (omega (arith, cut, before))) ∙ ap (λ (xs : List X). slice_set xs i x) (sym whole)) n) ((length-set front i x ∙ cut) n) y)
 
 -- a list of the same length in the place of another, through a reference
-pub put_back : {X : Type 0} (items new : List X) (n : ℕ) → n ≡ length new → take n (new ++ drop (length new) items) ≡ new
+put_back : {X : Type 0} (items new : List X) (n : ℕ) → n ≡ length new → take n (new ++ drop (length new) items) ≡ new
 put_back items new n e = ap (λ k. take k (new ++ drop (length new) items)) e ∙ take-append_seam new (drop (length new) items)
 
 -- what stands at another place stays
@@ -67,6 +68,13 @@ pub whole_pull : {C : Type 0} (pulls : SessionOf C → SessionOf C → SessionOf
     → PullsAt pulls at from (map pair items) (map pair new)
 whole_pull {C} pulls lent items new at from e p = subst (λ (xs : List (Named C)). PullsAt pulls at from (map pair xs) (map pair new)) e p
 
-pub same_length : {C : Type 0} (pulls : SessionOf C → SessionOf C → SessionOf C → SessionOf C → Type 0) (items new : List (Named C)) (at from : ℕ) → PullsAt pulls at from (map pair items) (map pair new) → length new ≡ length items
+same_length : {C : Type 0} (pulls : SessionOf C → SessionOf C → SessionOf C → SessionOf C → Type 0) (items new : List (Named C)) (at from : ℕ) → PullsAt pulls at from (map pair items) (map pair new) → length new ≡ length items
 same_length pulls items new at from p =
     sym (length-map new pair) ∙ ap length p.left ∙ length-set (slice_set (map pair items) from (p.peer.0, p.peer_new)) at (p.taker.0, p.taker_new) ∙ length-set (map pair items) from (p.peer.0, p.peer_new) ∙ length-map items pair
+
+-- the fleet that is left, by what stands at the two places
+pub left_behind : {C : Type 0} (pulls : SessionOf C → SessionOf C → SessionOf C → SessionOf C → Type 0) (items new : List (Named C)) (n at from : ℕ) (in_use : Option ℕ) → n ≡ length items → (p : PullsAt pulls at from (map pair items) (map pair new))
+    → ◌≡◌ {A = FleetOf (SessionOf C)} (map pair (take n (new ++ drop (length new) items)), in_use) (slice_set (slice_set (map pair items) from (p.peer.0, p.peer_new)) at (p.taker.0, p.taker_new), in_use)
+left_behind pulls items new n at from in_use e p =
+    let back = put_back items new n (e ∙ sym (same_length pulls items new at from p)) in
+    (λ i. ((ap (map pair) back ∙ p.left) i, in_use))

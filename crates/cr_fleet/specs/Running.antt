@@ -22,8 +22,8 @@ InTurn leads s (c ∷ cs) [] t = ⊥
 -- A command is carried out as a step of the fleet, of what its listener hears, and of the replicas that it looks at; and the policy has
 -- the rule that it adds, whatever becomes of a store later.
 pub record IsStep {E C G : Type 0} (l : Language Statement E) (k : Closures) (hears : G → G → List Event → Type 0) (is_honest is_clean : C → Type 0) (stands : C → State) (rules : G → Rules)
-    (before : G × FleetOf C) (command : Command) (reply : FleetReply) (behind : G × FleetOf C) : Type 0 where
-  pub steps : Steps l k is_clean stands (rules before.0) before.1 command reply (rules behind.0) behind.1
-  pub heard : HearsStep l k hears is_clean stands before.0 (rules before.0) before.1 command reply behind.1 behind.0
-  pub between : Between k hears is_honest is_clean stands before.0 (rules before.0) before.1 reply behind.1 behind.0 l command
-  pub policy : rules behind.0 ≡ rules_after command reply (rules before.0)
+    (before : FleetOf C × G) (command : Command) (reply : FleetReply) (behind : FleetOf C × G) : Type 0 where
+  pub steps : Steps l k is_clean stands (rules before.1) before.0 command reply (rules behind.1) behind.0
+  pub heard : HearsStep l k hears is_clean stands before.1 (rules before.1) before.0 command reply behind.0 behind.1
+  pub between : Between k hears is_honest is_clean stands before.1 (rules before.1) before.0 reply behind.0 behind.1 l command
+  pub policy : rules behind.1 ≡ rules_after command reply (rules before.1)

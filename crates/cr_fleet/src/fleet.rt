@@ -141,20 +141,21 @@ fn pull_between<C: Cells, G: Guarding>(
 }
 
 impl<C: NewCells> Fleet<C> {
-    ghost use Rattle.std.specs.Prelude.{◌++◌, ◌∷◌, ℕ, Bool, List, [], Some, None, true};
+    ghost use Rattle.std.specs.Prelude.{ℕ, Bool, List, [], None, true};
     ghost use Rattle.cr_meaning.specs.View.{Ordered};
     ghost use Rattle.cr_tree.specs.declared.statement.Statement.{Statement};
-    ghost use Rattle.cr_guard.specs.Policy.{Rules};
+    ghost use Rattle.cr_guard.specs.Policy.{Rules, wants_memory};
+    ghost use Rattle.cr_world.specs.Answers as answers;
     ghost use Rattle.cr_world.specs.declared.command.Command.TheVariants.{Open, Use, Define, Take, Rows, Policy};
     ghost use Rattle.cr_world.specs.Answers.{IsReady, AreAnswered};
     ghost use Rattle.cr_world.specs.Language.{Language};
     ghost use Rattle.cr_world.specs.World.{World, Closures, item_at};
-    ghost use Rattle.cr_session.specs.Sessions.{SessionOf, is_own, reply_of};
+    ghost use Rattle.cr_session.specs.Sessions.{is_own, reply_of};
     ghost use Rattle.cr_world.specs.Headline.{Converges, RowsConverge};
     ghost use Rattle.cr_world.specs.Run.{Run, world_after};
     ghost use Rattle.cr_fleet.specs.Hearing.{HearsRun, HearsStep};
     ghost use Rattle.cr_fleet.specs.Running.{InTurn, IsStep};
-    ghost use Rattle.cr_fleet.specs.Between.{Between, ByPull, ByUsed};
+    ghost use Rattle.cr_fleet.specs.Between.{Between, ByPull, ByUsed, Opens, Uses};
     ghost use Rattle.cr_fleet.specs.Fleets.{Steps, AreClean, IsUnharmed, Shows, is_free_name, place_in, rules_after};
     ghost use Rattle.cr_fleet.specs.Pulls.{pull_of};
 
@@ -170,7 +171,7 @@ impl<C: NewCells> Fleet<C> {
 
     fn use_replica(&mut self, name: &Text) -> FleetReply
         ensures steps { (l : Language Statement Ordered) (k : Closures) (rules : Rules) → Steps l k (clean C.is_clean) (standing C.holding) rules self.old (Use name.now) result rules self.new }
-        ensures replicas { self.new.0 ≡ self.old.0 }
+        ensures uses { Uses self.old self.new (place_in self.old name.now) result }
     {
         match place_of(&self.replicas, name.as_str()) {
             Some(at) => {
@@ -195,8 +196,7 @@ impl<C: NewCells> Fleet<C> {
     /// replicas; `SameSite` where a replica has the site; `Memory`, or `Store`. Then nothing is changed.
     pub fn open(&mut self, alloc: Global, name: &Text, site: Site) -> Result<(), Refusal>
         ensures steps { (l : Language Statement Ordered) (k : Closures) (rules : Rules) → Steps l k (clean C.is_clean) (standing C.holding) rules self.old (Open name.now site) (reply_of result) rules self.new }
-        ensures opened { IfOk result (λ u. (session : SessionOf C) × (self.new ≡ (self.old.0 ++ (name.now, session) ∷ [], Some (length self.old.0)))) }
-        ensures refused { OnErr result (self.new ≡ self.old) }
+        ensures opens { Opens (clean C.is_clean) (standing C.holding) self.old self.new name.now site (reply_of result) }
     {
         if !self.is_free(name.as_str()) {
             return Err(Refusal::BadName(name.copy(alloc)?));
@@ -226,6 +226,8 @@ impl<C: NewCells> Fleet<C> {
         requires { G.is_faithful guard.old }
         ensures steps { (l : Language Statement Ordered) → Steps l (⟦<G as Watching>⟧.closures guard.old) (clean C.is_clean) (standing C.holding) (G.rules guard.old) self.now (Policy rule.now) result (G.rules guard.new) self.now }
         ensures heard { (l : Language Statement Ordered) → HearsStep l (⟦<G as Watching>⟧.closures guard.old) (⟦<G as Watching>⟧.hears) (clean C.is_clean) (standing C.holding) guard.old (G.rules guard.old) self.now (Policy rule.now) result self.now guard.new }
+        ensures kept { answers.Rules (wants_memory rule.now) result }
+        ensures quiet { ⟦<G as Watching>⟧.hears guard.old guard.new [] }
         ensures rules { G.rules guard.new ≡ rules_after (Policy rule.now) result (G.rules guard.old) }
         ensures closures { ⟦<G as Watching>⟧.closures guard.new ≡ ⟦<G as Watching>⟧.closures guard.old }
         ensures noting { G.noting guard.new ≡ G.noting guard.old }
@@ -370,7 +372,7 @@ impl<C: NewCells> Fleet<C> {
             → IsUnharmed (clean C.is_clean) self.old replies.items self.new → (w : World) → Shows (standing C.holding) w (G.rules guard.old) self.old
             → HearsRun (⟦<F as Speaking>⟧.language functions.now has) (⟦<G as Watching>⟧.closures guard.old) (⟦<G as Watching>⟧.hears) guard.old w commands.now replies.items guard.new) }
         ensures steps { IfOk result (λ replies. (has : List ℕ → Bool) → ⟦<F as Speaking>⟧.are_names functions.now has
-            → InTurn (IsStep (⟦<F as Speaking>⟧.language functions.now has) (⟦<G as Watching>⟧.closures guard.old) (⟦<G as Watching>⟧.hears) (honest C.is_honest) (clean C.is_clean) (standing C.holding) G.rules) (guard.old, self.old) commands.now replies.items (guard.new, self.new)) }
+            → InTurn (IsStep (⟦<F as Speaking>⟧.language functions.now has) (⟦<G as Watching>⟧.closures guard.old) (⟦<G as Watching>⟧.hears) (honest C.is_honest) (clean C.is_clean) (standing C.holding) G.rules) (self.old, guard.old) commands.now replies.items (self.new, guard.new)) }
         ensures refused { OnErr result (self.new ≡ self.old) }
         ensures unasked { OnErr result (guard.new ≡ guard.old) }
         ensures closures { ⟦<G as Watching>⟧.closures guard.new ≡ ⟦<G as Watching>⟧.closures guard.old }

@@ -12,18 +12,31 @@ use Rattle.cr_world.specs.World.{World, Closures}
 use Rattle.cr_world.specs.Answers.{after, tells_want, AreAnswered}
 use Rattle.cr_world.specs.Run.{Run, world_after}
 use Rattle.cr_world.proofs.Running.{rows_converge, run_converges}
-use Rattle.cr_fleet.specs.Fleets.{FleetOf, AreClean, Shows, Steps}
-use Rattle.cr_fleet.specs.Hearing.{HearsRun, HearsStep}
+use Rattle.cr_fleet.specs.Fleets.{FleetOf, AreClean, Shows}
+use Rattle.cr_fleet.specs.Hearing.{HearsRun}
+use Rattle.cr_fleet.specs.Running.{InTurn, IsStep}
 use Rattle.cr_fleet.proofs.Running.{clean_after_run}
 use Rattle.cr_served.specs.Running.{InSteps, Ran}
 
--- one list of steps after another
+-- one list after another
+pub turns_more : {S : Type 0} (leads : S → Command → FleetReply → S → Type 0) (s0 s1 s2 : S) (cs ds : List Command) (rs ss : List FleetReply)
+    → InTurn leads s0 cs rs s1 → InTurn leads s1 ds ss s2 → InTurn leads s0 (cs ++ ds) (rs ++ ss) s2
+turns_more {S} leads s0 s1 s2 [] ds [] ss p q = subst (λ (s : S). InTurn leads s ds ss s2) p q
+turns_more leads s0 s1 s2 [] ds (r ∷ rs) ss p q = absurd p
+turns_more leads s0 s1 s2 (c ∷ cs) ds [] ss p q = absurd p
+turns_more leads s0 s1 s2 (c ∷ cs) ds (r ∷ rs) ss p q = (p.0, p.1, turns_more leads p.0 s1 s2 cs ds rs ss p.2 q)
+
 pub steps_more : {S : Type 0} (ran : S → S → List Command → List FleetReply → Type 0) (s0 s1 s2 : S) (cs ds : List Command) (rs ss : List FleetReply)
     → InSteps ran s0 s1 cs rs → InSteps ran s1 s2 ds ss → InSteps ran s0 s2 (cs ++ ds) (rs ++ ss)
-steps_more {S} ran s0 s1 s2 [] ds [] ss p q = subst (λ (s : S). InSteps ran s s2 ds ss) p q
-steps_more ran s0 s1 s2 [] ds (r ∷ rs) ss p q = absurd p
-steps_more ran s0 s1 s2 (c ∷ cs) ds [] ss p q = absurd p
-steps_more ran s0 s1 s2 (c ∷ cs) ds (r ∷ rs) ss p q = (p.0, p.1, steps_more ran p.0 s1 s2 cs ds rs ss p.2 q)
+steps_more {S} ran s0 s1 s2 cs ds rs ss p q = turns_more (λ (s : S) (c : Command) (r : FleetReply) (t : S). ran s t (c ∷ []) (r ∷ [])) s0 s1 s2 cs ds rs ss p q
+
+-- what leads on so leads on in another way, too
+turns_as : {S : Type 0} (leads also : S → Command → FleetReply → S → Type 0) → ((s : S) (c : Command) (r : FleetReply) (t : S) → leads s c r t → also s c r t)
+    → (s t : S) (cs : List Command) (rs : List FleetReply) → InTurn leads s cs rs t → InTurn also s cs rs t
+turns_as leads also so s t [] [] p = p
+turns_as leads also so s t [] (r ∷ rs) p = absurd p
+turns_as leads also so s t (c ∷ cs) [] p = absurd p
+turns_as leads also so s t (c ∷ cs) (r ∷ rs) p = (p.0, so s c r p.0 p.1, turns_as leads also so p.0 t cs rs p.2)
 
 -- steps are what ran, where none may run, and one list after another
 pub steps_ran : {S : Type 0} (ran : S → S → List Command → List FleetReply → Type 0) → ((s : S) → ran s s [] [])
@@ -76,11 +89,6 @@ module _ {E C G : Type 0} (rules : G → Rules) (hears : G → G → List Event 
   pub fleet_ran_none : (s : FleetOf C × G) → Becomes s s [] []
   fleet_ran_none s = ran_where s s [] [] (λ clean. clean) (λ clean answered. clean) (λ clean w h. (h.keep, h, refl))
 
-  pub fleet_ran_one : (f0 f1 : FleetOf C) (g h : G) (c : Command) (r : FleetReply) → Steps l k is_clean stands (rules g) f0 c r (rules h) f1 → HearsStep l k hears is_clean stands g (rules g) f0 c r f1 h
-      → Becomes (f0, g) (f1, h) (c ∷ []) (r ∷ [])
-  fleet_ran_one f0 f1 g h c r s heard = ran_where (f0, g) (f1, h) (c ∷ []) (r ∷ []) s.was_clean (λ clean answered. s.stays_clean clean answered.0)
-      (λ clean w shows. let t = s.steps clean w shows in ((shows.keep, t.0, t.1.keep), t.1, (h, heard clean w shows, refl)))
-
   pub fleet_ran_more : (s0 s1 s2 : FleetOf C × G) (cs ds : List Command) (rs ss : List FleetReply) → Becomes s0 s1 cs rs → Becomes s1 s2 ds ss → Becomes s0 s2 (cs ++ ds) (rs ++ ss)
   fleet_ran_more s0 s1 s2 cs ds rs ss p q = ran_where s0 s2 (cs ++ ds) (rs ++ ss) (λ clean. p.was_clean (q.was_clean clean))
       (λ clean answered. let both = all_both (λ r. tells_want r ≡ false) rs ss answered in q.stays_clean (p.stays_clean clean both.0) both.1)
@@ -93,6 +101,12 @@ module _ {E C G : Type 0} (rules : G → Rules) (hears : G → G → List Event 
         hears_both l k hears s0.1 s1.1 s2.1 w cs rs ds ss (p.heard (inl (q.was_clean clean)) w s) (q.heard (inl clean) (world_after l k w cs rs) a.1),
       ))
 
-  -- what ran one command after another ran as a list
-  pub fleet_ran_steps : (s0 s1 : FleetOf C × G) (cs : List Command) (rs : List FleetReply) → InSteps Becomes s0 s1 cs rs → Becomes s0 s1 cs rs
-  fleet_ran_steps s0 s1 cs rs p = steps_ran Becomes fleet_ran_none fleet_ran_more s0 s1 cs rs p
+  module _ (is_honest : C → Type 0) where
+    fleet_ran_one : (s0 s1 : FleetOf C × G) (c : Command) (r : FleetReply) → IsStep l k hears is_honest is_clean stands rules s0 c r s1 → Becomes s0 s1 (c ∷ []) (r ∷ [])
+    fleet_ran_one s0 s1 c r step = ran_where s0 s1 (c ∷ []) (r ∷ []) step.steps.was_clean (λ clean answered. step.steps.stays_clean clean answered.0)
+        (λ clean w shows. let t = step.steps.steps clean w shows in ((shows.keep, t.0, t.1.keep), t.1, (s1.1, step.heard clean w shows, refl)))
+
+    -- what was carried out one command after another ran as a list
+    pub fleet_ran_steps : (s0 s1 : FleetOf C × G) (cs : List Command) (rs : List FleetReply) → InTurn (IsStep l k hears is_honest is_clean stands rules) s0 cs rs s1 → Becomes s0 s1 cs rs
+    fleet_ran_steps s0 s1 cs rs p = steps_ran Becomes fleet_ran_none fleet_ran_more s0 s1 cs rs
+        (turns_as (IsStep l k hears is_honest is_clean stands rules) (λ (s : FleetOf C × G) (c : Command) (r : FleetReply) (t : FleetOf C × G). Becomes s t (c ∷ []) (r ∷ [])) (λ s c r t step. fleet_ran_one s t c r step) s0 s1 cs rs p)

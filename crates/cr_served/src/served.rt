@@ -56,12 +56,13 @@ pub trait Served {
 }
 
 impl<C: NewCells> Served for Fleet<C> {
-    ghost use Rattle.cr_session.specs.Sessions.{clean, standing};
+    ghost use Rattle.cr_session.specs.Sessions.{clean, honest, standing};
+    ghost use Rattle.cr_fleet.specs.Running.{InTurn, IsStep};
     ghost use Rattle.std.proofs.Common.{refl};
-    ghost use Rattle.cr_served.specs.Running.{InSteps, Ran, policy_of, hears};
-    ghost use Rattle.cr_served.specs.RunningLaws.{steps_more};
+    ghost use Rattle.cr_served.specs.Running.{policy_of, hears};
+    ghost use Rattle.cr_served.specs.RunningLaws.{turns_more};
 
-    ghost ran = { λ l k s0 s1 cs rs. InSteps (Ran policy_of hears l k (clean C.is_clean) (standing C.holding)) s0 s1 cs rs };
+    ghost ran = { λ l k s0 s1 cs rs. InTurn (IsStep l k hears (honest C.is_honest) (clean C.is_clean) (standing C.holding) policy_of) s0 cs rs s1 };
 
     fn carry_out<F: Functions, G: Guarding>(
         &mut self,
@@ -75,7 +76,7 @@ impl<C: NewCells> Served for Fleet<C> {
 
     ghost ran_none = { λ l k s. refl };
 
-    ghost ran_more = { λ l k s0 s1 s2 cs ds rs ss p q. steps_more (Ran policy_of hears l k (clean C.is_clean) (standing C.holding)) s0 s1 s2 cs ds rs ss p q };
+    ghost ran_more = { λ l k s0 s1 s2 cs ds rs ss p q. turns_more (IsStep l k hears (honest C.is_honest) (clean C.is_clean) (standing C.holding) policy_of) s0 s1 s2 cs ds rs ss p q };
 }
 
 impl<C: Cells> Served for Session<C> {

@@ -1,4 +1,4 @@
-use Rattle.std.proofs.Common.{rules, ◌≡◌, ◌++◌, take, drop, ℕ, true, false, Option, Some, None, sym, ap, subst, ◌∙◌, refl, length, map, position, slice_get, slice_set, arith}
+use Rattle.std.proofs.Common.{rules, ◌≡◌, ℕ, Option, Some, None, sym, ap, subst, ◌∙◌, refl, map, position, slice_get, arith}
 use Rattle.cr_lattice.specs.Check.{same_bytes}
 use Rattle.cr_world.specs.World.{item_at}
 use Rattle.cr_world.specs.declared.refusal.Refusal.TheVariants.{NoReplica}
@@ -11,7 +11,7 @@ use Rattle.cr_fleet.specs.Hearing.{HearsStep}
 use Rattle.cr_fleet.specs.Pulls.{pull_of}
 use Rattle.cr_fleet.proofs.Places.{pair, found_there, none_found}
 use Rattle.cr_fleet.proofs.Stepping.{pair_at, place_paired, none_paired}
-use Rattle.cr_fleet.proofs.TwoPlaces.{put_back, same_length, whole_pull}
+use Rattle.cr_fleet.proofs.TwoPlaces.{left_behind, whole_pull}
 use Rattle.cr_fleet.proofs.Pulling.{pull_unused, pull_unknown, pull_own, pull_told, quiet}
 use Rattle.cr_fleet.proofs.Between.{pull_by_none, pull_by_nobody, pull_by_itself, pull_by_both}
 use Rattle.cr_fleet.proofs.fleet.Fleet.pull.Goals.{then-in_transaction, else-in_transaction}
@@ -87,10 +87,7 @@ returns-clause-steps g c = λ l.
     let place : c.self.inside.in_use ≡ Some c.in-Some.at = search rules in
     let from = place_paired items c.self.inside.in_use c.args.name.now (Some c.in-Some-place_of.from) (sym c.in-Some-place_of.is ∙ c.place_of.ensures ∙ (λ i. position (λ n. same_bytes n.name (c.as_str.ensures.value i)) (c.deref-2.ensures.value i))) in
     let s = whole_pull _ c.deref_mut.result.now items c.pull_between.new.replicas c.in-Some.at c.in-Some-place_of.from c.deref_mut.ensures.value c.pull_between.ensures.pulls in
-    let long : length c.pull_between.new.replicas ≡ length items = same_length _ items c.pull_between.new.replicas c.in-Some.at c.in-Some-place_of.from s in
-    let back = put_back items c.pull_between.new.replicas c.self.inside.replicas.len (let n = c.self.inside.replicas.ok.0 in omega (arith, n, long)) in
-    let view : ◌≡◌ {A = FleetOf (SessionOf g.row.C.Denot)} (map pair (take c.self.inside.replicas.len (c.pull_between.new.replicas ++ drop (length c.pull_between.new.replicas) items)), c.self.inside.in_use)
-    (slice_set (slice_set (map pair items) c.in-Some-place_of.from (s.peer.0, s.peer_new)) c.in-Some.at (s.taker.0, s.taker_new), c.self.inside.in_use) = (λ i. ((ap (map pair) back ∙ s.left) i, c.self.inside.in_use)) in
+    let view = left_behind _ items c.pull_between.new.replicas c.self.inside.replicas.len c.in-Some.at c.in-Some-place_of.from c.self.inside.in_use (let n = c.self.inside.replicas.ok.0 in omega (arith, n)) s in
     rw (c.reply_of.ensures, c.pull_between.ensures.guard.same_rules) (rw (← c.self.view_is) (
     subst (λ (f : FleetOf (SessionOf g.row.C.Denot)). Steps l (closures (g.G.Guarding.allows c.args.guard.now) (g.G.Guarding.refuses c.args.guard.now)) (clean g.C.Cells.is_clean) (standing g.C.Cells.holding) (g.G.Guarding.rules c.args.guard.now) (map pair items, c.self.inside.in_use) (pull_of c.args.is_incremental c.args.name.now) (reply_of c.pull_between.result) (g.G.Guarding.rules c.args.guard.now) f
     × HearsStep l (closures (g.G.Guarding.allows c.args.guard.now) (g.G.Guarding.refuses c.args.guard.now)) (λ from to events. HasHeard g.G.Guarding.noted g.G.Guarding.noting from to events) (clean g.C.Cells.is_clean) (standing g.C.Cells.holding) c.args.guard.now (g.G.Guarding.rules c.args.guard.now) (map pair items, c.self.inside.in_use) (pull_of c.args.is_incremental c.args.name.now) (reply_of c.pull_between.result) f c.pull_between.new.guard) (sym view)
@@ -103,10 +100,7 @@ returns-clause-between g c =
     let place : c.self.inside.in_use ≡ Some c.in-Some.at = search rules in
     let from = place_paired items c.self.inside.in_use c.args.name.now (Some c.in-Some-place_of.from) (sym c.in-Some-place_of.is ∙ c.place_of.ensures ∙ (λ i. position (λ n. same_bytes n.name (c.as_str.ensures.value i)) (c.deref-2.ensures.value i))) in
     let s = whole_pull _ c.deref_mut.result.now items c.pull_between.new.replicas c.in-Some.at c.in-Some-place_of.from c.deref_mut.ensures.value c.pull_between.ensures.pulls in
-    let long : length c.pull_between.new.replicas ≡ length items = same_length _ items c.pull_between.new.replicas c.in-Some.at c.in-Some-place_of.from s in
-    let back = put_back items c.pull_between.new.replicas c.self.inside.replicas.len (let n = c.self.inside.replicas.ok.0 in omega (arith, n, long)) in
-    let view : ◌≡◌ {A = FleetOf (SessionOf g.row.C.Denot)} (map pair (take c.self.inside.replicas.len (c.pull_between.new.replicas ++ drop (length c.pull_between.new.replicas) items)), c.self.inside.in_use)
-    (slice_set (slice_set (map pair items) c.in-Some-place_of.from (s.peer.0, s.peer_new)) c.in-Some.at (s.taker.0, s.taker_new), c.self.inside.in_use) = (λ i. ((ap (map pair) back ∙ s.left) i, c.self.inside.in_use)) in
+    let view = left_behind _ items c.pull_between.new.replicas c.self.inside.replicas.len c.in-Some.at c.in-Some-place_of.from c.self.inside.in_use (let n = c.self.inside.replicas.ok.0 in omega (arith, n)) s in
     let used : item_at c.self.inside.in_use (map pair items) ≡ Some s.taker = ap (λ (o : Option ℕ). item_at o (map pair items)) place ∙ s.taker_at in
     rw c.reply_of.ensures (rw (← c.self.view_is) (
     subst (λ (f : FleetOf (SessionOf g.row.C.Denot)). ByPull (closures (g.G.Guarding.allows c.args.guard.now) (g.G.Guarding.refuses c.args.guard.now)) (λ from to events. HasHeard g.G.Guarding.noted g.G.Guarding.noting from to events) (honest g.C.Cells.is_honest) (clean g.C.Cells.is_clean) (standing g.C.Cells.holding) c.args.guard.now (g.G.Guarding.rules c.args.guard.now) (map pair items, c.self.inside.in_use) (reply_of c.pull_between.result) f c.pull_between.new.guard c.args.is_incremental (item_at c.self.inside.in_use (map pair items)) (place_in (map pair items, c.self.inside.in_use) c.args.name.now)) (sym view)

@@ -43,7 +43,7 @@ loop-command-preserved g c =
           (subst (λ (x : Closures). HearsStep l x (λ from to events. HasHeard g.G.Guarding.noted g.G.Guarding.noting from to events) (clean g.C.Cells.is_clean) (standing g.C.Cells.holding) c.loop-command.guard (g.G.Guarding.rules c.loop-command.guard) c.loop-command.self c.command-item.result c.step-reply.result c.step-reply.new.self c.step-reply.new.guard) i.closures (s.heard has names));
       steps = λ has names.
           let l : Language Statement Ordered = spoken (g.F.Functions.function_of c.args.functions.now) (g.F.Functions.scalar c.args.functions.now) (g.F.Functions.step c.args.functions.now) (g.F.Functions.finish c.args.functions.now) (g.F.Functions.order_of c.args.functions.now) (g.F.Functions.orders_total c.args.functions.now) has in
-          turns_on (IsStep l k (λ from to events. HasHeard g.G.Guarding.noted g.G.Guarding.noting from to events) (honest g.C.Cells.is_honest) (clean g.C.Cells.is_clean) (standing g.C.Cells.holding) g.G.Guarding.rules) _ (c.loop-command.guard, c.loop-command.self) (c.step-reply.new.guard, c.step-reply.new.self) _ _ _ _ c.command-item.result c.step-reply.result
+          turns_on (IsStep l k (λ from to events. HasHeard g.G.Guarding.noted g.G.Guarding.noting from to events) (honest g.C.Cells.is_honest) (clean g.C.Cells.is_clean) (standing g.C.Cells.holding) g.G.Guarding.rules) _ (c.loop-command.self, c.loop-command.guard) (c.step-reply.new.self, c.step-reply.new.guard) _ _ _ _ c.command-item.result c.step-reply.result
           (take_more c.args.commands.now c.loop-command.command-index c.command-item.result c.loop-command-test.true ∙ ap (λ (x : Command). take c.loop-command.command-index c.args.commands.now ++ x ∷ []) item) told (i.steps has names) (record {
             steps = subst (λ (x : Closures). Steps l x (clean g.C.Cells.is_clean) (standing g.C.Cells.holding) (g.G.Guarding.rules c.loop-command.guard) c.loop-command.self c.command-item.result c.step-reply.result (g.G.Guarding.rules c.step-reply.new.guard) c.step-reply.new.self) i.closures (s.steps has names);
             heard = subst (λ (x : Closures). HearsStep l x (λ from to events. HasHeard g.G.Guarding.noted g.G.Guarding.noting from to events) (clean g.C.Cells.is_clean) (standing g.C.Cells.holding) c.loop-command.guard (g.G.Guarding.rules c.loop-command.guard) c.loop-command.self c.command-item.result c.step-reply.result c.step-reply.new.self c.step-reply.new.guard) i.closures (s.heard has names);
@@ -96,5 +96,5 @@ returns-clause-steps g c = λ has names.
     let l : Language Statement Ordered = spoken (g.F.Functions.function_of c.args.functions.now) (g.F.Functions.scalar c.args.functions.now) (g.F.Functions.step c.args.functions.now) (g.F.Functions.finish c.args.functions.now) (g.F.Functions.order_of c.args.functions.now) (g.F.Functions.orders_total c.args.functions.now) has in
     let k : Closures = closures (g.G.Guarding.allows c.args.guard.now) (g.G.Guarding.refuses c.args.guard.now) in
     let all : take c.loop-command.command-index c.args.commands.now ≡ c.args.commands.now = take_all _ _ (omega arith) in
-    subst (λ (x : List Command). InTurn (IsStep l k (λ from to events. HasHeard g.G.Guarding.noted g.G.Guarding.noting from to events) (honest g.C.Cells.is_honest) (clean g.C.Cells.is_clean) (standing g.C.Cells.holding) g.G.Guarding.rules) (c.args.guard.now, c.args.self.now) x c.loop-command.replies.items (c.loop-command.guard, c.loop-command.self)) all
+    subst (λ (x : List Command). InTurn (IsStep l k (λ from to events. HasHeard g.G.Guarding.noted g.G.Guarding.noting from to events) (honest g.C.Cells.is_honest) (clean g.C.Cells.is_clean) (standing g.C.Cells.holding) g.G.Guarding.rules) (c.args.self.now, c.args.guard.now) x c.loop-command.replies.items (c.loop-command.self, c.loop-command.guard)) all
     (c.loop-command.invariant.steps has names)

@@ -22,7 +22,7 @@ invariant-loop-command g l = record {
       → HearsRun (spoken (g.F.Functions.function_of l.functions) (g.F.Functions.scalar l.functions) (g.F.Functions.step l.functions) (g.F.Functions.finish l.functions) (g.F.Functions.order_of l.functions) (g.F.Functions.orders_total l.functions) has) (closures (g.G.Guarding.allows l.fn.guard) (g.G.Guarding.refuses l.fn.guard)) (λ from to events. HasHeard g.G.Guarding.noted g.G.Guarding.noting from to events) l.fn.guard w (take l.command-index l.commands) l.replies.items l.guard;
   steps : (has : List ℕ → Bool) → has ≡ g.F.Functions.names_function l.functions
       → InTurn (IsStep (spoken (g.F.Functions.function_of l.functions) (g.F.Functions.scalar l.functions) (g.F.Functions.step l.functions) (g.F.Functions.finish l.functions) (g.F.Functions.order_of l.functions) (g.F.Functions.orders_total l.functions) has) (closures (g.G.Guarding.allows l.fn.guard) (g.G.Guarding.refuses l.fn.guard)) (λ from to events. HasHeard g.G.Guarding.noted g.G.Guarding.noting from to events)
-      (honest g.C.Cells.is_honest) (clean g.C.Cells.is_clean) (standing g.C.Cells.holding) g.G.Guarding.rules) (l.fn.guard, l.fn.self) (take l.command-index l.commands) l.replies.items (l.guard, l.self);
+      (honest g.C.Cells.is_honest) (clean g.C.Cells.is_clean) (standing g.C.Cells.holding) g.G.Guarding.rules) (l.fn.self, l.fn.guard) (take l.command-index l.commands) l.replies.items (l.self, l.guard);
   closures : closures (g.G.Guarding.allows l.guard) (g.G.Guarding.refuses l.guard) ≡ closures (g.G.Guarding.allows l.fn.guard) (g.G.Guarding.refuses l.fn.guard);
   noting : g.G.Guarding.noting l.guard ≡ g.G.Guarding.noting l.fn.guard;
   faithful : g.G.Guarding.is_faithful l.guard;

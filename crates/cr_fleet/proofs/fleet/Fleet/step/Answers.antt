@@ -1,4 +1,4 @@
-use Rattle.std.proofs.Common.{ap}
+use Rattle.std.proofs.Common.{ap, refl}
 use Rattle.cr_script.specs.Speaking.{closures, HasHeard, spoken}
 use Rattle.cr_session.specs.Sessions.{clean, honest, is_own, standing}
 use Rattle.cr_fleet.proofs.Between.{own_between}
@@ -27,6 +27,15 @@ pub returns-in-PullSince-clause-heard : goal.returns-in-PullSince-clause-heard
 returns-in-PullSince-clause-heard g c = λ has names.
     let l = spoken (g.F.Functions.function_of c.args.functions.now) (g.F.Functions.scalar c.args.functions.now) (g.F.Functions.step c.args.functions.now) (g.F.Functions.finish c.args.functions.now) (g.F.Functions.order_of c.args.functions.now) (g.F.Functions.orders_total c.args.functions.now) has in
     rw c.in-PullSince.is (c.pull-in-PullSince.ensures.steps l).1
+
+pub returns-in-Open-clause-between : goal.returns-in-Open-clause-between
+returns-in-Open-clause-between g c = λ has names. rw (c.in-Open.is, c.reply_of.ensures) (c.open.ensures.opens, (refl, refl))
+
+pub returns-in-Use-clause-between : goal.returns-in-Use-clause-between
+returns-in-Use-clause-between g c = λ has names. rw c.in-Use.is (c.use_replica.ensures.uses, (refl, refl))
+
+pub returns-in-Policy-clause-between : goal.returns-in-Policy-clause-between
+returns-in-Policy-clause-between g c = λ has names. rw c.in-Policy.is (c.set_rule.ensures.kept, refl, c.set_rule.ensures.quiet)
 
 pub returns-in-Define-clause-between : goal.returns-in-Define-clause-between
 returns-in-Define-clause-between g c = λ has names.
