@@ -25,6 +25,7 @@ use cr_store::store::{Store, has_tables};
 use sqlite::{Connection, File, FileStore};
 use std::alloc::Global;
 use std::fs;
+use std::io::ErrorKind;
 use thiserror::Error;
 
 /// A store over a database in a file.
@@ -133,11 +134,11 @@ impl Cells for FileCells {
     }
 }
 
-// Whether a path leads to no file, or to one without a byte.
+// Whether a path leads to no file, or to one without a byte. Of what can't be looked at that isn't known: to open it tells why.
 fn is_blank(rt: &HostRuntime, path: &str) -> bool {
     match fs::metadata(rt, path) {
         Ok(found) => found.len() == 0,
-        Err(_) => true,
+        Err(error) => error.kind() == ErrorKind::NotFound,
     }
 }
 
@@ -195,7 +196,7 @@ impl FileCells {
         }
     }
 
-    /// The store that a database holds, or, where it has none of a store's tables, a new one of the site.
+    /// The store that a database holds, whatever site is given, or, where it has none of a store's tables, a new one of the site.
     ///
     /// # Errors
     /// `NoSite` where a store is to be made and there is no site; else `Cells` with what `open` or `create` tells.
