@@ -15,8 +15,11 @@ use thiserror::Error;
 /// The types that a value may be cast to.
 #[derive(Clone, Copy, Debug, PartialEq, Eq)]
 pub enum CastTo {
+    /// INTEGER: a text becomes the integer that it begins with.
     Integer,
+    /// TEXT: an integer becomes the text that writes it, a blob the text that its bytes are.
     Text,
+    /// BLOB: a text becomes its bytes, an integer those of the text that writes it.
     Blob,
 }
 
