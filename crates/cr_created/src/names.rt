@@ -3,12 +3,12 @@
 ghost use Rattle.std.specs.Prelude.{◌≡◌, [], map, IfOk};
 ghost use Rattle.std.specs.List.{list_any};
 ghost use Rattle.std.specs.Str.{bytes_eq};
-ghost use Rattle.cr_lattice.specs.Profile.{is_reserved};
 ghost use Rattle.cr_resolve.specs.Known.{collations};
 ghost use Rattle.cr_resolve.specs.Creates.{missing, or_none, repeats};
 ghost use Rattle.cr_resolve.specs.Told.{Passes};
 ghost use Rattle.cr_created.specs.Drafts.{against_columns, against_table};
 
+use cr_lattice::profile::is_reserved;
 use cr_lattice::table::ColumnDef;
 use cr_resolve::known::check_collation;
 use cr_resolve::naming::Naming;
@@ -17,12 +17,6 @@ use cr_tree::statement::{Column, Create};
 use cr_value::text::Text;
 use sqlite_items::Items;
 use std::alloc::{AllocError, Global};
-
-fn is_reserved(name: &[u8]) -> bool
-    ensures { result ≡ is_reserved name.now }
-{
-    name.is_empty() || name.starts_with(b"sqlite_") || name.starts_with(b"crsql_")
-}
 
 /// Tests that a new table may have its name, which is taken or not.
 ///

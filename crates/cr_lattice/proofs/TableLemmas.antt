@@ -56,7 +56,7 @@ alive_keys_of_table table ks ls same =
     ap (λ cs. keys_in_order (map (λ c. c.pk) cs))
     (sym (filter-filter odd (of_table table) ks) ∙ ap (filter odd) same ∙ filter-filter odd (of_table table) ls)
 
-rows_of_table : (def : TableDef) (ks ls : List Change) → filter (of_table def.name) ks ≡ filter (of_table def.name) ls → rows ks def ≡ rows ls def
+pub rows_of_table : (def : TableDef) (ks ls : List Change) → filter (of_table def.name) ks ≡ filter (of_table def.name) ls → rows ks def ≡ rows ls def
 unfolding rows
 rows_of_table def ks ls same =
     ap (map (row ks def)) (alive_keys_of_table def.name ks ls same)

@@ -29,27 +29,3 @@ pub fn copy_tables(alloc: Global, tables: &[Table]) -> Result<Items<Table>, Allo
     }
     Ok(Items::new(copies))
 }
-
-fn copy_definitions(alloc: Global, definitions: &[TableDef]) -> Result<Items<TableDef>, AllocError>
-    ensures { IfOk result (λ ds. ds ≡ definitions.now) }
-{
-    let mut copies = Vec::new(alloc);
-    for definition in definitions {
-        copies.push(definition.copy(alloc)?)?;
-    }
-    Ok(Items::new(copies))
-}
-
-impl Catalog {
-    /// The same catalog in memory of its own.
-    pub fn copy(&self, alloc: Global) -> Result<Catalog, AllocError>
-        ensures { IfOk result (λ c. c ≡ self.now) }
-    {
-        Ok(Catalog {
-            tables: copy_tables(alloc, self.tables.as_slice())?,
-            modules: copy_definitions(alloc, self.modules.as_slice())?,
-            site: self.site,
-            db_version: self.db_version,
-        })
-    }
-}

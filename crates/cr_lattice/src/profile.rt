@@ -138,7 +138,9 @@ pub fn has_default_too_long(columns: &[ColumnDef]) -> bool
     columns.iter().any(|column| is_default_too_long(column))
 }
 
-fn is_reserved(name: &[u8]) -> bool
+/// Whether no table and no module may have a name: the empty one, and those that begin with `sqlite_` or `crsql_`. The name is folded.
+/// Takes no memory.
+pub fn is_reserved(name: &[u8]) -> bool
     ensures { result ≡ is_reserved name.now }
 {
     name.is_empty() || name.starts_with(b"sqlite_") || name.starts_with(b"crsql_")

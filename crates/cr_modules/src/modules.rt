@@ -4,7 +4,6 @@ ghost use Rattle.std.specs.Prelude.{◌≡◌, ◌⊎◌, [], true, map, IfErr, 
 ghost use Rattle.std.specs.Option.{ForSome};
 ghost use Rattle.std.specs.Str.{str_to_ascii_lowercase};
 ghost use Rattle.cr_lattice.specs.Check.{same_bytes};
-ghost use Rattle.cr_lattice.specs.Profile.{is_reserved};
 ghost use Rattle.cr_module.specs.Lawful.{AreWide};
 ghost use Rattle.cr_world.specs.State.{ModuleState};
 ghost use Rattle.cr_world.specs.Causes.{Free, Tells};
@@ -13,6 +12,7 @@ ghost use Rattle.cr_modules.specs.States.{AreListed, IsPlace, Registers, Updates
 
 use crate::registered::{Registered, Stands};
 use cr_cells::tables::table_named;
+use cr_lattice::profile::is_reserved;
 use cr_lattice::table::{Items, Row, Table};
 use cr_module::module::Module;
 use cr_replica::snapshot::Listing;
@@ -61,12 +61,6 @@ fn place_of<M: Module>(list: &[Registered<M>], name: &str) -> Option<usize>
         }
     }
     None
-}
-
-fn is_reserved(name: &[u8]) -> bool
-    ensures { result ≡ is_reserved name.now }
-{
-    name.is_empty() || name.starts_with(b"sqlite_") || name.starts_with(b"crsql_")
 }
 
 impl<M: Module> Modules<M> {

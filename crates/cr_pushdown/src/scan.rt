@@ -18,12 +18,13 @@ use cr_expr::given::Hosted;
 use cr_host::functions::Functions;
 use cr_lattice::change::Change;
 use cr_lattice::merge::{keep, merge};
+use cr_lattice::rows::changes_of_table;
 use cr_lattice::table::{Items, Row, TableDef};
 use cr_module::rows::rows_of_table;
 use cr_replica::replica::Replica;
 use cr_tables::kept::Kept;
 use cr_term::expr::Expr;
-use cr_value::order::{cmp_bytes, same_bytes};
+use cr_value::order::cmp_bytes;
 use cr_value::text::Bytes;
 use cr_value::value::Value;
 use std::alloc::{AllocError, Global};
@@ -73,28 +74,6 @@ fn split<'a>(changes: &'a [Change], bound: &Option<Bytes>) -> (&'a [Change], &'a
     }
 }
 
-fn is_of(def: &TableDef, change: &Change) -> bool
-    ensures { result ≡ is_of def.now change.now }
-{
-    same_bytes(
-        change.table.as_str().as_bytes(),
-        def.name.as_str().as_bytes(),
-    )
-}
-
-// Copies of those changes that are of a table.
-fn of_table(alloc: Global, def: &TableDef, changes: &[Change]) -> Result<Vec<Change>, AllocError>
-    ensures { IfOk result (λ v. v.items ≡ filter (is_of def.now) changes.now) }
-{
-    let mut out = Vec::new(alloc);
-    for change in changes {
-        if is_of(def, change) {
-            out.push(change.copy(alloc)?)?;
-        }
-    }
-    Ok(out)
-}
-
 // What is kept, and with it further changes.
 fn joined(alloc: Global, kept: Vec<Change>, more: &[Change]) -> Result<Vec<Change>, AllocError>
     ensures { keep kept.items ≡ kept.items → IfOk result (λ v. v.items ≡ join kept.items more.now) }
@@ -115,7 +94,7 @@ pub fn own_changes(
     ensures sorted { IfOk result (λ v. IsSortedBy has_lesser_key v.items) }
     ensures of { IfOk result (λ v. filter (is_of def.now) v.items ≡ v.items) }
 {
-    let own = of_table(alloc, def, changes)?;
+    let own = changes_of_table(alloc, changes, def.name.as_str())?;
     let kept = keep(own)?;
     Ok(kept)
 }

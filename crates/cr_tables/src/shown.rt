@@ -1,16 +1,15 @@
 //! The rows that kept changes show, one key after another.
 
-ghost use Rattle.std.specs.Prelude.{◌≡◌, ◌-◌, false, length, slice_index_or, IfOk, OnErr, OnOk, IsTrue};
+ghost use Rattle.std.specs.Prelude.{◌≡◌, false, length, IfOk, OnErr, OnOk};
 ghost use Rattle.std.specs.List.Sorted.{IsSortedBy};
-ghost use Rattle.cr_value.specs.declared.value.Value.TheVariants.{Null};
 ghost use Rattle.cr_lattice.specs.Rows.{cell, has_lesser_key, rows};
 ghost use Rattle.cr_module.specs.Lawful.{first_row, head_value, is_at_end, rest_of};
 ghost use Rattle.cr_tables.specs.Shown.{first_group, first_key, is_shown, key_values};
 
 use cr_lattice::change::Change;
-use cr_lattice::rows::{column_value, is_present};
+use cr_lattice::rows::{column_value, is_present, key_value};
 use cr_lattice::table::{ColumnDef, TableDef};
-use cr_value::order::{cmp_bytes, same_bytes};
+use cr_value::order::same_bytes;
 use cr_value::packing::unpack;
 use cr_value::value::Value;
 use std::alloc::{AllocError, Global};
@@ -36,16 +35,6 @@ impl<'a> Model for Shown<'a> {
     ghost view = { λ s. rows (s.group.now ++ s.later.now) s.def.now };
 
     ghost invariant = { λ s. Stands s.def.now.name s.group.now s.later.now s.key.items };
-}
-
-// Whether changes stand by their keys.
-pub(crate) fn are_by_key(changes: &[Change]) -> bool
-    ensures { IsTrue result → IsSortedBy has_lesser_key changes.now }
-{
-    changes.is_sorted_by(|change, next| !cmp_bytes(
-        next.pk.as_slice(),
-        change.pk.as_slice(),
-    ).is_lt())
 }
 
 /// How many changes at the front are of the first key.
@@ -114,16 +103,6 @@ pub fn read_shown<'a>(
         later: &[],
         key: Vec::new(alloc),
     })
-}
-
-// A part of the key.
-fn key_value(alloc: Global, key: &[Value], place: u8) -> Result<Value, AllocError>
-    ensures { IfOk result (λ v. v ≡ slice_index_or key.now (place - 1) Null) }
-{
-    match key.get(place.saturating_sub(1) as usize) {
-        Some(value) => value.copy(alloc),
-        None => Ok(Value::Null),
-    }
 }
 
 // What the row of some changes of one key shows in a column.

@@ -6,9 +6,9 @@ ghost use Rattle.cr_module.specs.Lawful.{first_row, head_value, is_at_end, rest_
 ghost use Rattle.cr_tables.specs.Views.{rows_before};
 
 use crate::changes::{WIDTH, change_value};
-use crate::shown::{Shown, are_by_key, read_shown};
+use crate::shown::{Shown, read_shown};
 use cr_lattice::change::Change;
-use cr_lattice::rows::rows;
+use cr_lattice::rows::{are_by_key, rows};
 use cr_lattice::stamped::Stamped;
 use cr_lattice::table::{Row, TableDef};
 use cr_value::value::Value;
