@@ -79,12 +79,15 @@ pub(crate) fn old_key<'a>(tables: &[Table], change: &'a Change, version: i64) ->
     ]
 }
 
+// A store writes no floats.
 fn read_value(value: ValueRef<'_>, alloc: Global) -> Result<Value, Error>
-    ensures { IfOk result (λ v. v ≡ value_in (owned value.entry)) }
+    ensures is { IfOk result (λ v. v ≡ value_in (owned value.entry)) }
+    ensures kept { IfOk result (λ v. value_of v ≡ owned value.entry) }
 {
     match value {
-        ValueRef::Null | ValueRef::Real(_) => Ok(Value::Null),
+        ValueRef::Null => Ok(Value::Null),
         ValueRef::Int(n) => Ok(Value::Int(n)),
+        ValueRef::Real(_) => Err(Error::InvalidQuery),
         ValueRef::Text(text) => match std::str::from_utf8(text) {
             Ok(text) => match Text::from_str(alloc, text) {
                 Ok(text) => Ok(Value::Text(text)),
