@@ -10,7 +10,7 @@ use cr_guard::event::Event;
 use cr_guard::heard::{are_by_key, heard};
 use cr_lattice::change::Change;
 use cr_lattice::merge::merge;
-use cr_lattice::rows::rows;
+use cr_lattice::rows::{changes_of_table, rows};
 use cr_lattice::table::{Row, TableDef};
 use cr_wanted::values::read_rows;
 use std::alloc::{AllocError, Global};
@@ -49,7 +49,8 @@ pub fn heard_of_keys(
     let Some(before) = shown_by_key(alloc, definition, kept)? else {
         return Ok(None);
     };
-    let joined = merge(alloc, kept, changes)?;
+    let own = changes_of_table(alloc, changes, definition.name.as_str())?;
+    let joined = merge(alloc, kept, &own)?;
     let Some(after) = shown_by_key(alloc, definition, &joined)? else {
         return Ok(None);
     };
