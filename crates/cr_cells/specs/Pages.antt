@@ -1,5 +1,5 @@
 -- Pages: the cells of the first keys of a table above a key. Source: this project's own.
-use Rattle.std.specs.Prelude.{◌≡◌, ◌≤◌, ℕ, Bool, true, ◌&&◌, List, length, map, filter, Option, Some, None, MatchOption}
+use Rattle.std.specs.Prelude.{◌≡◌, ◌≤◌, ℕ, Bool, true, ◌&&◌, List, length, map, filter, Option, Some, None}
 use Rattle.std.specs.Ordering.{is_lt, is_le}
 use Rattle.std.specs.List.{list_any}
 use Rattle.std.specs.Option.{ForSome}
@@ -31,17 +31,18 @@ is_at table passes s = same_bytes s.change.table table && passes s.change.pk
 abbrev pub keys_of : List Stamped → List (List ℕ)
 keys_of cells = keys_in_order (map (λ s. s.change.pk) cells)
 
--- as many keys as are asked for; fewer only where the page has no end
+-- at least as many keys as are asked for, unless the page has no end
 abbrev pub HasKeys : Option (List ℕ) → ℕ → List Stamped → Type 0
-HasKeys bound limit cells = MatchOption bound (length (keys_of cells) ≤ limit) (λ b. length (keys_of cells) ≡ limit)
+HasKeys bound limit cells = ForSome bound (λ b. limit ≤ length (keys_of cells))
 
--- The page after a key: the table's cells from above that key up to the page's end, those of as many keys as are asked for.
--- Without an end it is the last page, with all cells that are left.
+-- The page after a key: the table's cells from above that key up to the page's end, those of at least as many keys as are asked
+-- for. Without an end it is the last page, with all cells that are left.
 pub record IsPage (cells : List Stamped) (table : List ℕ) (after : Option (List ℕ)) (limit : ℕ) (page : Page) : Type 0 where
   pub cells_are : page.cells.items ≡ filter (is_at table (between after page.bound)) cells
   pub keys : HasKeys page.bound limit page.cells.items
 
--- the first of these cells, as many keys of them as are asked for, up to a key that one of them has
+-- the first of these cells, those of at least as many keys as are asked for, up to a key that one of them has; all where there is
+-- no such end
 pub record IsCut (cells : List Stamped) (limit : ℕ) (page : Page) : Type 0 where
   pub cells_are : page.cells.items ≡ filter (λ s. up_to page.bound s.change.pk) cells
   pub keys : HasKeys page.bound limit page.cells.items

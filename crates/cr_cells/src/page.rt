@@ -113,8 +113,11 @@ fn copied_keys(alloc: Global, cells: &[Stamped]) -> Result<Vec<Bytes>, AllocErro
     Ok(keys)
 }
 
-// The keys of the cells, by their bytes, each once.
-fn keys_of(alloc: Global, cells: &[Stamped]) -> Result<Vec<Bytes>, AllocError>
+/// The keys of the cells, by their bytes, each once.
+///
+/// # Errors
+/// Want of memory.
+pub fn keys_of(alloc: Global, cells: &[Stamped]) -> Result<Vec<Bytes>, AllocError>
     ensures { IfOk result (λ keys. keys.items ≡ keys_of cells.now) }
 {
     let mut keys = copied_keys(alloc, cells)?;

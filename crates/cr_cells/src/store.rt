@@ -168,8 +168,8 @@ pub trait Cells: Drop {
         ensures reads { is_clean self.new → Reads (holding self.old) (holding self.new) result
             (λ cells. cells.items ≡ cells_of_table (holding self.old).cells table.now) };
 
-    /// The cells of the first keys of a table above a key, or of its first ones of all, as many keys as are asked for, which
-    /// is one at least: by key, then as those of a row.
+    /// The cells of the first keys of a table above a key, or of its first ones of all, at least as many keys as are asked
+    /// for, which is one at least, or of all keys that are left: by key, then as those of a row.
     ///
     /// # Errors
     /// `Memory`, or `Store(Refused)`.

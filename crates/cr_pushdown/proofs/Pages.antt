@@ -1,6 +1,6 @@
 -- The rows that pass of a table are those of its pages, one behind another.
 use Rattle.std.proofs.Common.{◌≡◌, ◌∙◌, ℕ, ◌<◌, ◌≤◌, arith, Bool, true, false, ◌&&◌, cond, List, [], ◌∷◌, ◌++◌, append-nil, length, map, Option, Some, None, refl, sym, ap, subst}
-use Rattle.std.specs.Prelude.{filter, MatchOption}
+use Rattle.std.specs.Prelude.{filter}
 use Rattle.std.specs.Option.{ForSome, is_none}
 use Rattle.std.proofs.lemmas.List.{map-append}
 use Rattle.std.proofs.lemmas.List.Kept.{IsStrictlySortedBy-filter}
@@ -123,13 +123,13 @@ module _ (def : TableDef) (after bound : Option (List ℕ)) where
 
 -- a page of some keys ends above the key before it
 pub ends_above : (def : TableDef) (after bound : Option (List ℕ)) (limit : ℕ) (kept page : List Change) → 0 < limit → page ≡ filter (is_between def.name after bound) kept
-    → MatchOption bound (length (keys_of page) ≤ limit) (λ b. length (keys_of page) ≡ limit) → ForSome bound (λ b. above after b ≡ true)
+    → ForSome bound (λ b. limit ≤ length (keys_of page)) → ForSome bound (λ b. above after b ≡ true)
 ends_above def after None limit kept page some is keys = λ b e. absurd cc
 ends_above def after (Some b) limit kept page some is keys =
     λ x e. subst (λ (k : List ℕ). above after k ≡ true) (some_is b x e)
-    (by page (subst (All (λ c. is_between def.name after (Some b) c ≡ true)) (sym is) (passes_all (is_between def.name after (Some b)) kept)) keys)
+    (by page (subst (All (λ c. is_between def.name after (Some b) c ≡ true)) (sym is) (passes_all (is_between def.name after (Some b)) kept)) (keys b refl))
   where
-    by : (page : List Change) → All (λ c. is_between def.name after (Some b) c ≡ true) page → length (keys_of page) ≡ limit → above after b ≡ true
+    by : (page : List Change) → All (λ c. is_between def.name after (Some b) c ≡ true) page → limit ≤ length (keys_of page) → above after b ≡ true
     by [] all none = let zero : length (keys_of []) ≡ 0 = refl in absurd (omega (arith, some, none, zero))
     by (c ∷ cs) all n =
         let within = and_true (above after c.pk) (is_le (bytes_cmp c.pk b)) (and_true (same_bytes c.table def.name) (between after (Some b) c.pk) all.0).1 in

@@ -1,6 +1,6 @@
 -- What a replica holds at a moment. Source: this project's own.
-use Rattle.std.specs.Prelude.{◌≡◌, ◌≤◌, ℕ, pos, Bool, true, ◌&&◌, List, [], length, map, filter, Option, MatchOption}
-use Rattle.std.specs.Option.{is_none}
+use Rattle.std.specs.Prelude.{◌≡◌, ◌≤◌, ℕ, pos, Bool, true, ◌&&◌, List, [], length, map, filter, Option}
+use Rattle.std.specs.Option.{ForSome, is_none}
 use Rattle.std.specs.List.{list_all, flat_map}
 use Rattle.cr_lattice.specs.declared.change.Change.{Change}
 use Rattle.cr_lattice.specs.declared.table.Table.{Table}
@@ -62,11 +62,11 @@ is_between table after bound c = same_bytes c.table table && between after bound
 abbrev pub keys_of : List Change → List (List ℕ)
 keys_of cs = keys_in_order (map (λ c. c.pk) cs)
 
--- What is kept of the first keys of a table above a key, as many as are asked for, and the key up to which that is; without such a
--- key it is all that is left.
+-- What is kept of the first keys of a table above a key, at least as many as are asked for, and a key up to which that is; without
+-- such a key it is all that is left.
 pub record IsKeptPage (h : Holding) (table : List ℕ) (after : Option (List ℕ)) (limit : ℕ) (page : KeptPage) : Type 0 where
   pub kept : page.kept.items ≡ filter (is_between table after page.bound) (kept_of h)
-  pub keys : MatchOption page.bound (length (keys_of page.kept.items) ≤ limit) (λ bound. length (keys_of page.kept.items) ≡ limit)
+  pub keys : ForSome page.bound (λ bound. limit ≤ length (keys_of page.kept.items))
 
 -- ---- whatever a store gave
 

@@ -365,13 +365,12 @@ impl<C: Cells> Replica<C> {
         if !table.is_replicated {
             return Ok(Items::new(Vec::new(alloc)));
         }
-        let cells = match self.cells.since(alloc, 0) {
+        let cells = match self.cells.cells_of_table(alloc, name) {
             Ok(cells) => cells,
             Err(error) => return Err(RowsError::from(error)),
         };
         let changes = changes_of(alloc, cells)?;
-        let kept = keep(changes)?;
-        let rows = in_order(rows(alloc, &kept, &table.definition)?)?;
+        let rows = in_order(rows(alloc, &changes, &table.definition)?)?;
         Ok(Items::new(rows))
     }
 
@@ -476,8 +475,8 @@ impl<C: Cells> Replica<C> {
         Ok(keep(changes)?)
     }
 
-    /// What is kept of the first keys of a table above a key, or of its first ones of all, as many keys as are asked for, which is
-    /// one at least. Reads the cells of these keys, and of others not many more.
+    /// What is kept of the first keys of a table above a key, or of its first ones of all, at least as many keys as are asked for,
+    /// which is one at least, or of all keys that are left.
     ///
     /// # Errors
     /// `Memory`, or `Store(Refused)`.

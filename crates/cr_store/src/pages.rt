@@ -1,6 +1,6 @@
 //! Pages: the cells of the first keys of a table above a key.
 
-ghost use Rattle.std.specs.Prelude.{◌≡◌, ◌<◌, None, false, true, List, filter, IfOk, IfErr, OnOk, IsTrue, MatchResult};
+ghost use Rattle.std.specs.Prelude.{◌≡◌, false, true, List, filter, IfOk, IfErr, OnOk, IsTrue, MatchResult};
 ghost use Rattle.std.specs.Option.{ForSome, option_copied};
 ghost use Rattle.std.specs.List.Sorted.{IsStrictlySortedBy};
 ghost use Rattle.sqlite.specs.Held.{state};
@@ -11,7 +11,7 @@ ghost use Rattle.sqlite_value.specs.Value.{owned};
 ghost use Rattle.cr_lattice.specs.declared.stamped.Stamped.{Stamped};
 ghost use Rattle.cr_cells.specs.Calls.{IsRefusal, is_want};
 ghost use Rattle.cr_cells.specs.Holding.{cell_cmp};
-ghost use Rattle.cr_cells.specs.Pages.{between, is_at, IsPage};
+ghost use Rattle.cr_cells.specs.Pages.{between, is_at, HasKeys, IsPage};
 ghost use Rattle.cr_store.specs.Pages.{below};
 ghost use Rattle.cr_store.specs.Schema.{store_schema};
 ghost use Rattle.cr_store.specs.Shows.{HasCells};
@@ -20,15 +20,16 @@ ghost use Rattle.cr_store.specs.Words.{SameCells};
 use crate::ordinals::ordinal;
 use crate::reads::{ask_cells, by_change};
 use crate::rows::refusal;
-use cr_cells::page::{Page, cut};
+use cr_cells::page::{Page, keys_of};
 use cr_cells::store::CellsError;
 use cr_cells::tables::table_named;
 use cr_lattice::stamped::Stamped;
 use cr_lattice::table::Table;
 use cr_rows::{ask, blob_at};
+use cr_value::text::Bytes;
 use sqlite::types::ValueRef;
 use sqlite::{Alter, Connection, Error};
-use std::alloc::Global;
+use std::alloc::{AllocError, Global};
 
 const PART: &str =
     "SELECT tab, pk, cid, cl, ver, val, site, dbv, seq FROM cr_cell2 WHERE tab = ?1 AND pk > ?2 AND pk <= ?3";
@@ -90,7 +91,7 @@ fn key_behind<'a, S: Alter>(
     table: &'a str,
     after: Option<&'a [u8]>,
     skipped: i64,
-) -> Result<Option<Vec<u8>>, Error>
+) -> Result<Option<Bytes>, Error>
     ensures opened { HasCleanDisk (state S.Store conn.new) → OnOk result (IsTrue (state S.Store conn.new).is_open) }
     ensures same { HasCleanDisk (state S.Store conn.new) → (state S.Store conn.old).now.schema ≡ store_schema → (state S.Store conn.old).now ≡ (state S.Store conn.old).committed
         → IsTrue (state S.Store conn.new).is_open → (state S.Store conn.new).now ≡ (state S.Store conn.old).now }
@@ -101,25 +102,31 @@ fn key_behind<'a, S: Alter>(
     let tab = ValueRef::Int(ordinal(tables, table));
     let rows = ask(conn, KEY, &[tab, below(after), ValueRef::Int(skipped)])?;
     match rows.first() {
-        Some(row) => Ok(Some(blob_at(row, 0)?)),
+        Some(row) => Ok(Some(Bytes::new(blob_at(row, 0)?))),
         None => Ok(None),
     }
 }
 
-// The page of the cells from above a key up to another. Where all of them are left, and there is such an end, the page may
-// lack keys.
+fn lent(key: &Option<Bytes>) -> Option<&[u8]>
+    ensures { option_copied result ≡ key.now }
+{
+    match key {
+        Some(key) => Some(key.as_slice()),
+        None => None,
+    }
+}
+
+// The cells from above a key up to another, as a page that ends there. Where there is such an end, it may lack keys.
 fn page_of<'a, S: Alter>(
     conn: &mut Connection<S>,
     tables: &[Table],
     table: &'a str,
     after: Option<&'a [u8]>,
-    range: Option<&'a [u8]>,
-    limit: usize,
+    range: Option<Bytes>,
     alloc: Global,
 ) -> Result<Page, CellsError>
-    requires { 0 < limit }
     ensures found { HasCleanDisk (state S.Store conn.new) → (a b o d : List Row) → (ss : List Stamped) → HasCells (state S.Store conn.old).now tables.now a b o d ss → IsStrictlySortedBy cell_cmp ss
-        → MatchResult result (λ page. (page.bound ≡ None → option_copied range.entry ≡ None) → IsPage ss table.now (option_copied after.entry) limit page) IsRefusal }
+        → MatchResult result (λ page. (page.cells.items ≡ filter (is_at table.now (between (option_copied after.entry) page.bound)) ss) × (page.bound ≡ range)) IsRefusal }
     ensures opened { HasCleanDisk (state S.Store conn.new) → OnOk result (IsTrue (state S.Store conn.new).is_open) }
     ensures wants { IfErr result (λ e. is_want e ≡ true) }
     ensures same { HasCleanDisk (state S.Store conn.new) → (state S.Store conn.old).now.schema ≡ store_schema → (state S.Store conn.old).now ≡ (state S.Store conn.old).committed
@@ -128,20 +135,23 @@ fn page_of<'a, S: Alter>(
     ensures mode { conn.old.in_transaction ≡ false → conn.new.in_transaction ≡ false }
     ensures clean { HasCleanDisk (state S.Store conn.new) → HasCleanDisk (state S.Store conn.old) }
 {
-    match cells_between(conn, tables, table, after, range, alloc) {
-        Ok(cells) => Ok(cut(alloc, by_change(cells)?, limit)?),
+    match cells_between(conn, tables, table, after, lent(&range), alloc) {
+        Ok(cells) => Ok(Page {
+            cells: by_change(cells)?,
+            bound: range,
+        }),
         Err(error) => Err(refusal(error)),
     }
 }
 
-// Whether a page of the cells up to a key is a page of all cells: it ends before that key, or there is no such key.
-fn lacks_nothing(page: &Page, range: Option<&[u8]>) -> bool
-    ensures { result ≡ true → page.now.bound ≡ None → option_copied range.entry ≡ None }
+// Whether a page has so many keys, or no end.
+fn lacks_nothing(page: &Page, limit: usize, alloc: Global) -> Result<bool, AllocError>
+    ensures { IfOk result (λ whole. whole ≡ true → HasKeys page.now.bound limit page.now.cells.items) }
 {
-    page.bound.is_some() || range.is_none()
+    Ok(page.bound.is_none() || limit <= keys_of(alloc, &page.cells)?.len())
 }
 
-// The page after a key, if it ends before the cell behind so many.
+// The page after a key that ends at the key of the cell behind so many, if it has keys enough.
 fn page_within<'a, S: Alter>(
     conn: &mut Connection<S>,
     tables: &[Table],
@@ -152,7 +162,6 @@ fn page_within<'a, S: Alter>(
     alloc: Global,
 ) -> Result<Option<Page>, CellsError>
     requires mode { conn.old.in_transaction ≡ false }
-    requires limit { 0 < limit }
     ensures found { HasCleanDisk (state S.Store conn.new) → IsTrue (state S.Store conn.new).is_open → (a b o d : List Row) → (ss : List Stamped) → HasCells (state S.Store conn.old).now tables.now a b o d ss → IsStrictlySortedBy cell_cmp ss
         → MatchResult result (λ page. ForSome page (IsPage ss table.now (option_copied after.entry) limit)) IsRefusal }
     ensures opened { HasCleanDisk (state S.Store conn.new) → OnOk result (IsTrue (state S.Store conn.new).is_open) }
@@ -169,12 +178,8 @@ fn page_within<'a, S: Alter>(
         Err(error) => return Err(refusal(error)),
     };
     let _ = conn.is_autocommit();
-    let end = match &range {
-        Some(range) => Some(range.as_slice()),
-        None => None,
-    };
-    let page = page_of(conn, tables, table, after, end, limit, alloc)?;
-    if lacks_nothing(&page, end) {
+    let page = page_of(conn, tables, table, after, range, alloc)?;
+    if lacks_nothing(&page, limit, alloc)? {
         Ok(Some(page))
     } else {
         Ok(None)
@@ -197,8 +202,8 @@ fn cells_of_keys(tables: &[Table], table: &str, limit: usize) -> i64 {
     i64::try_from(limit.saturating_mul(columns.saturating_add(1))).unwrap_or(i64::MAX)
 }
 
-/// The cells of the first keys of a table above a key, as many keys as are asked for, in the order of changes. Reads the cells
-/// of these keys and few others, where keys have about as many cells as the table has columns.
+/// The cells of the first keys of a table above a key, at least as many keys as are asked for, or of all keys that are left, in the
+/// order of changes. Reads no others where no key has more cells than one of the row itself and one for each column outside the key.
 ///
 /// # Errors
 /// `Memory`, or `Store(Refused)`.
@@ -211,7 +216,6 @@ pub(crate) fn page<'a, S: Alter>(
     alloc: Global,
 ) -> Result<Page, CellsError>
     requires mode { conn.old.in_transaction ≡ false }
-    requires limit { 0 < limit }
     ensures found { HasCleanDisk (state S.Store conn.new) → IsTrue (state S.Store conn.new).is_open → (a b o d : List Row) → (ss : List Stamped) → HasCells (state S.Store conn.old).now tables.now a b o d ss → IsStrictlySortedBy cell_cmp ss
         → MatchResult result (IsPage ss table.now (option_copied after.entry) limit) IsRefusal }
     ensures opened { HasCleanDisk (state S.Store conn.new) → OnOk result (IsTrue (state S.Store conn.new).is_open) }
@@ -230,5 +234,5 @@ pub(crate) fn page<'a, S: Alter>(
         skipped = skipped.saturating_mul(4);
     }
     let _ = conn.is_autocommit();
-    page_of(conn, tables, table, after, None, limit, alloc)
+    page_of(conn, tables, table, after, None, alloc)
 }

@@ -122,7 +122,7 @@ pub(crate) fn has_deletion<C: Cells>(alloc: Global, cells: &mut C) -> Result<boo
     )
 }
 
-/// The cells of a table page by page, of so many keys each.
+/// The cells of a table page by page, of at least so many keys each.
 pub(crate) fn by_pages<C: Cells>(
     alloc: Global,
     cells: &mut C,

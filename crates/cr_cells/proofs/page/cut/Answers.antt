@@ -1,4 +1,4 @@
-use Rattle.std.proofs.Common.{◌≡◌, ◌∙◌, ℕ, suc, ◌-◌, ◌<◌, ◌≤◌, length, map, true, List, Option, Some, ap, rules, subst}
+use Rattle.std.proofs.Common.{◌≡◌, ◌∙◌, ℕ, suc, ◌-◌, ◌<◌, length, map, true, List, Option, Some, ap, arith, rules, subst}
 use Rattle.std.specs.Prelude.{filter, unwrap_or}
 use Rattle.std.specs.List.{list_any}
 use Rattle.std.proofs.lemmas.Fn.{filter_same}
@@ -13,10 +13,7 @@ use Rattle.cr_cells.proofs.page.cut.Goals as goal
 pub returns-then-len-limit : goal.returns-then-len-limit
 returns-then-len-limit c = record {
   cells_are = without_end c.args.cells.items;
-  keys = (
-      let keys = c.in_ok-keys.ensures ∙ ap keys_of c.deref.ensures.value in
-      let few : length c.in_ok-keys.keys.items ≤ c.args.limit = search rules in
-      subst (λ ks. length ks ≤ c.args.limit) keys few);
+  keys = λ b e. absurd cc;
   bound = λ b e. absurd cc;
 }
 
@@ -33,9 +30,11 @@ returns c =
     filter_same _ (λ (s : Stamped). up_to (Some b) s.change.pk) _ (λ x r f called. search rules) _ _ c.retain.ensures.filtered in
     record {
       cells_are = left;
-      keys =
+      keys = λ k e.
+          let keys =
           ap (λ l. length (keys_of l)) left ∙ ap length (keys_of_part (up_to (Some b)) c.args.cells.items)
-          ∙ first_keys (keys_of c.args.cells.items) n b (IsStrictlySortedBy-set_of bytes_total bytes_exact (map (λ (s : Stamped). s.change.pk) c.args.cells.items)) more at ∙ whole;
+          ∙ first_keys (keys_of c.args.cells.items) n b (IsStrictlySortedBy-set_of bytes_total bytes_exact (map (λ (s : Stamped). s.change.pk) c.args.cells.items)) more at ∙ whole in
+          omega (keys, arith);
       bound = λ k e.
           subst (λ x. list_any (λ (s : Stamped). same_bytes x s.change.pk) c.args.cells.items ≡ true) (ap (λ (o : Option (List ℕ)). unwrap_or o b) e) (key_of_some c.args.cells.items n b more at);
     }
