@@ -1,5 +1,5 @@
--- What is stamped above a version suffices for a query of the table of changes whose WHERE tells that version.
-use Rattle.std.proofs.Common.{◌≡◌, ℕ, ℤ, pos, ◌≤ℤ◌, arith, Bool, true, false, cond, List, [], ◌∷◌, map, refl, sym, ap, subst, ◌∙◌, find, Equal}
+-- What is stamped above a version suffices for a query of the table of changes whose WHERE tells that version, and above 0 for any.
+use Rattle.std.proofs.Common.{◌≡◌, ◌⊎◌, inl, inr, ℕ, ℤ, pos, ◌≤ℤ◌, arith, Bool, true, false, cond, List, [], ◌∷◌, Option, Some, map, refl, sym, ap, subst, ◌∙◌, find, Equal}
 use Rattle.std.proofs.lemmas.Int.{ints}
 use Rattle.std.specs.Prelude.{filter, int_lt, not, if◌then◌else◌}
 use Rattle.cr_value.specs.declared.value.Value.{Value}
@@ -17,7 +17,7 @@ use Rattle.cr_term.specs.declared.query.Query.{Query}
 use Rattle.cr_scalar.specs.Host.{Host as Means}
 use Rattle.cr_query.specs.Query.{answer}
 use Rattle.cr_meaning.specs.View.{query}
-use Rattle.cr_meaning.specs.Meaning.{regarded}
+use Rattle.cr_meaning.specs.Meaning.{Regard, regarded}
 use Rattle.cr_replica.specs.declared.snapshot.Snapshot.{Snapshot}
 use Rattle.cr_snapshot.specs.Seen.{name_of, rows_listed, rows_seen}
 use Rattle.cr_touched.proofs.Sets.{filter_set}
@@ -84,14 +84,23 @@ module _ (means : Means) (params : List Value) (st : State) (name : List ℕ) (t
   above_rows : filter (is_above version_place version) (map row_of (since st.holding.cells (pos 0))) ≡ map row_of (since st.holding.cells version)
   above_rows = filter_map version_place version (since st.holding.cells (pos 0)) refl ∙ ap (map row_of) (above st.holding.cells version is.from_0)
 
+  -- over all changes a query answers as over those above the version
+  same_answer : (q : Query) (j : Joined) (regard : Regard) → q.joined ≡ j ∷ [] → j.is_left ≡ false → q.filter ≡ terms
+      → (version ≡ pos 0) ⊎ (lower_bound params terms version_place ≡ Some version)
+      → answer (regarded regard means params) (query q) (map row_of (since st.holding.cells (pos 0)) ∷ [])
+      ≡ answer (regarded regard means params) (query q) (map row_of (since st.holding.cells version) ∷ [])
+  same_answer q j regard one inner same (inl all) = ap (λ n. answer (regarded regard means params) (query q) (map row_of (since st.holding.cells n) ∷ [])) (sym all)
+  same_answer q j regard one inner same (inr told) =
+      answers_above means params regard q j (map row_of (since st.holding.cells (pos 0))) version_place version one inner (ap (λ ts. lower_bound params ts version_place) same ∙ told)
+      ∙ ap (λ rows. answer (regarded regard means params) (query q) (rows ∷ [])) above_rows
+
   pub query_above : (q : Query) (j : Joined) → q.joined ≡ j ∷ [] → j.is_left ≡ false → name_of j ≡ name → q.filter ≡ terms → ShowsQuery means params q st snap
   query_above q j one inner named same = λ regard limit.
       let m = regarded regard means params in
       (λ i. answer m (query q) (tables_named st (map name_of (one i))))
       ∙ (λ i. answer m (query q) (rows_named st (named i) ∷ []))
       ∙ (λ i. answer m (query q) (rows_there i ∷ []))
-      ∙ answers_above means params regard q j (map row_of (since st.holding.cells (pos 0))) version_place version one inner (ap (λ ts. lower_bound params ts version_place) same ∙ is.told)
-      ∙ (λ i. answer m (query q) (above_rows i ∷ []))
+      ∙ same_answer q j regard one inner same is.told
       ∙ (λ i. answer m (query q) (sym rows_here i ∷ []))
       ∙ (λ i. answer m (query q) (rows_seen snap (sym named i) ∷ []))
       ∙ (λ i. answer m (query q) (map (λ j. rows_seen snap (name_of j)) (sym one i)))

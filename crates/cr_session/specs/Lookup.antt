@@ -97,13 +97,13 @@ IsLook means params st name terms s =
 abbrev pub version_place : ℕ
 version_place = 5
 
--- The terms of a query of the table of changes tell the version above which all changes are stamped on which they can be true;
--- no table has that name.
+-- All changes on which the terms of a query of the table of changes can be true are stamped above the version: the terms tell it, or
+-- it is 0, as all are. No table has that name.
 pub record IsNewest (params : List Value) (tables : List Table) (name : List ℕ) (terms : List Expr) (version : ℤ) : Type 0 where
   pub changes : name ≡ changes_name
   pub no_table : find (is_named name) tables ≡ None
   pub from_0 : pos 0 ≤ℤ version
-  pub told : lower_bound params terms version_place ≡ Some version
+  pub told : (version ≡ pos 0) ⊎ (lower_bound params terms version_place ≡ Some version)
 
 -- The snapshot has the names of a session that stands there, and of the last commit what is stamped above a version.
 pub record IsSeenAbove (st : State) (version : ℤ) (s : Snapshot) : Type 0 where

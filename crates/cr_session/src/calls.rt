@@ -100,7 +100,9 @@ impl<C: Cells> Session<C> {
     /// Takes changes, all in one commit or none. Those that lose change nothing.
     ///
     /// # Errors
-    /// `TransactionState` inside a transaction; then as of `take_all`. Then nothing is changed.
+    /// `TransactionState` inside a transaction; then `BadChange` where a change is not well formed; `VersionLimit` where a kept change
+    /// would change at the greatest version; `Veto` where policy or commit hook refuse what would come in; `Memory`, or `Store`. Then
+    /// nothing is changed.
     pub fn take<G: Guarding>(
         &mut self,
         alloc: Global,
@@ -124,7 +126,7 @@ impl<C: Cells> Session<C> {
     /// which its changes were taken. The mark is kept where no change wins, too.
     ///
     /// # Errors
-    /// `TransactionState` inside a transaction; then `SameSite` where the site is this replica's own; then as of `take_all`.
+    /// `TransactionState` inside a transaction; then `SameSite` where the site is this replica's own; then as of `take`.
     pub fn take_from<G: Guarding>(
         &mut self,
         alloc: Global,
@@ -152,7 +154,7 @@ impl<C: Cells> Session<C> {
     ///
     /// # Errors
     /// `TransactionState` inside a transaction; then `SameSite` where the peer has this replica's site; `Memory` or `Store` of the
-    /// peer; then as of `take_all`. Then nothing is changed.
+    /// peer; then as of `take`. Then nothing is changed.
     pub fn pull<D: Cells, G: Guarding>(
         &mut self,
         alloc: Global,

@@ -1,5 +1,5 @@
 //! What a statement of one table sees: what is kept of some keys, where its WHERE tells the keys of the only rows that it can be
-//! about, and else what is kept of the table. A query of the table of changes that wants those above a version sees these.
+//! about, and else what is kept of the table. A query of the table of changes sees those above the version that it tells, if any.
 
 use crate::filtering::Seen;
 use crate::session::Session;
@@ -176,8 +176,8 @@ impl<C: Cells> Session<C> {
         }
     }
 
-    // The version above which the terms of a query of the table of a name want changes to be stamped, where it is the table of
-    // changes and they tell one.
+    // The version above which all changes are stamped on which the terms of a query of the table of a name can be true, where it is
+    // the table of changes: that which they tell, or 0.
     fn newest(
         &self,
         alloc: Global,
@@ -192,8 +192,8 @@ impl<C: Cells> Session<C> {
             return Ok(None);
         }
         match lower_bound(alloc, terms, params, DB_VERSION)? {
-            Some(version) if version >= 0 => Ok(Some(version)),
-            _ => Ok(None),
+            Some(version) if version > 0 => Ok(Some(version)),
+            _ => Ok(Some(0)),
         }
     }
 
@@ -217,8 +217,8 @@ impl<C: Cells> Session<C> {
         Ok(snapshot)
     }
 
-    /// What a query sees: of one table whose WHERE tells the keys of its rows, what is kept of these; of the table of changes alone,
-    /// whose WHERE tells a version, what is stamped above it; of another replicated table alone the rows that its WHERE may keep, or the
+    /// What a query sees: of one table whose WHERE tells the keys of its rows, what is kept of these; of the table of changes alone
+    /// what is stamped above the version that its WHERE tells, or above 0; of another replicated table alone the rows that its WHERE may keep, or the
     /// answer; else what is kept of the tables that it names.
     pub(crate) fn look_for_query<F: Functions>(
         &mut self,

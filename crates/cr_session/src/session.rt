@@ -266,7 +266,7 @@ impl<C: Cells> Session<C> {
     /// # Errors
     /// `BadChange` where a change is not well formed; `VersionLimit` where a kept change would change at the greatest
     /// version; `Veto` where policy or commit hook refuse what would come in; `Memory`, or `Store`. Then nothing is changed.
-    pub fn take_all<G: Guarding>(
+    pub(crate) fn take_all<G: Guarding>(
         &mut self,
         alloc: Global,
         guard: &mut G,
@@ -402,7 +402,8 @@ impl<C: Cells> Session<C> {
         FleetReply::Script(self.run(alloc, functions, guard, source.as_str()))
     }
 
-    /// Carries out a command that looks at no other replica.
+    /// Carries out a command that looks at no other replica, and replies what the call gives that it stands for, `define`, `take` of one
+    /// change, `rows_of`, `changes_since` or `run`, with its refusals. Any other command is for a fleet, and may not be given.
     pub fn step<F: Functions, G: Guarding>(
         &mut self,
         alloc: Global,
