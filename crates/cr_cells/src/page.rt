@@ -126,7 +126,7 @@ pub fn keys_of(alloc: Global, cells: &[Stamped]) -> Result<Vec<Bytes>, AllocErro
     Ok(keys)
 }
 
-/// The cells of the first keys, at least as many keys as are asked for, or all cells.
+/// The cells of the first keys, as many keys as are asked for; all cells where they have no more.
 ///
 /// # Errors
 /// Want of memory.

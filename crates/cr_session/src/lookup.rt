@@ -218,8 +218,8 @@ impl<C: Cells> Session<C> {
     }
 
     /// What a query sees: of one table whose WHERE tells the keys of its rows, what is kept of these; of the table of changes alone
-    /// what is stamped above the version that its WHERE tells, or above 0; of another replicated table alone the rows that its WHERE
-    /// may keep, or the answer; else what is kept of the tables that it names.
+    /// what is stamped above the version that its WHERE tells, or above 0; of another replicated table alone the rows that its WHERE may keep, or the
+    /// answer; else what is kept of the tables that it names.
     pub(crate) fn look_for_query<F: Functions>(
         &mut self,
         alloc: Global,
